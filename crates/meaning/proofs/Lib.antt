@@ -1,0 +1,17 @@
+-- Laws that pin the definitions, with nothing computed: a reader of the meaning needs none of them.
+-- plain mathematics: tests, finite sums and lists
+pub mod Tests
+pub mod Finite
+pub mod Lists
+-- trees, facts, the settled set as the least one, and why every rule of settling is sound
+pub mod Trees
+pub mod Facts
+pub mod Rules
+pub mod Least
+pub mod Holds
+pub mod Constraints
+-- joins: the first is one, and one of its alternatives holds; how many alternatives a search enters
+pub mod Joins
+pub mod Choices
+-- how many nodes are read off
+pub mod Nodes
