@@ -1,0 +1,38 @@
+-- What follows from tables, and labels that stay.
+-- Assumes nothing.
+use mathlib.Core.Path.{_≡_, refl, sym, ap, _∙_, subst}
+use mathlib.Core.Logic.{_≢_, _⊎_, inl, inr, ⊎-elim}
+use mathlib.Core.Bool.{Bool, true, false, false≢true}
+use mathlib.Core.List.{List}
+use Prim.Native.Nat.{ℕ, zero, suc, _+_, _<_, _≤_}
+use native.Mathlib.Nat.{le-refl, le-trans}
+use native.Mathlib.Omega.{arith}
+use lib.ListN.{length}
+use lib.Dec.{eqb}
+use Rattle.meaning.specs.Facts.{Fact, label, Settled}
+use Rattle.meaning.specs.Finite.{Yes, _and_, neg}
+use Rattle.meaning.proofs.Small.{clash, and-left, and-right, and-both, no-neg, is-eq, self-eq, eq-yes}
+use Rattle.settle.specs.Rows.{row}
+use Rattle.settle.specs.Tables.{has, Sound}
+use Rattle.settle.specs.declared.Facts.{Facts}
+
+-- a fact follows from the tables: it is settled in every set that they hold nothing but settled facts of
+abbrev pub D : ℕ → Facts → Fact → Type 0
+D n g φ = (S : List Fact) → Sound n S g → Settled n S φ
+
+pub have : (n : ℕ) (g : Facts) (φ : Fact) → Yes (has g φ) → D n g φ
+have n g φ u S s = s φ u
+
+-- a label that is there stays
+pub record LUp (a b : ℕ) : Type 0 where
+  pub most : a ≤ b
+  pub kept : a ≢ 0 → b ≡ a
+
+pub lup-self : (a : ℕ) → LUp a a
+lup-self a = record { most = le-refl _; kept = λ _. refl }
+
+pub lup-trans : {a b c : ℕ} → LUp a b → LUp b c → LUp a c
+lup-trans {a} {b} {c} p q = record {
+  most = le-trans (p .most) (q .most);
+  kept = λ z. q .kept (λ e. z (let m = p .most in omega arith)) ∙ p .kept z;
+}
