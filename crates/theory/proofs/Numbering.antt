@@ -1,0 +1,140 @@
+-- Every tree of source 004, definition 2.1 (without the order of siblings) has its nodes numbered as document 01 wants, with the same parents
+-- and labels, and every tree of document 01 is such a tree. So 'none' also means that no tree in the paper's own sense meets the constraints.
+use mathlib.Core.Path.{_≡_, refl, sym, ap, _∙_, subst}
+use mathlib.Core.Logic.{_≢_, _↔_, _⊎_, inl, inr, ⊎-elim}
+use mathlib.Core.List.{List, [], _∷_, List·Memᴰ, List·Memᴰ·head, List·Memᴰ·tail, List·Memᴰ·cases-cons, List·Memᴰ·not-nil}
+use Prim.Native.Nat.{ℕ, zero, suc, _+_, _*_, _%_, _≤_, _<_, max, suc-le-suc}
+use native.Mathlib.Nat.{le-refl, zero-lt-suc, not-suc-le-zero, suc-mul, mul-add-mod-self-right, mod-eq-of-lt}
+use native.Mathlib.Decide.{decLt, ℕ-discrete}
+use native.Mathlib.Omega.{arith}
+use lib.ListN.{length, getD}
+use Rattle.meaning.specs.Tree.{Var, Node, Label, Assignment, Tree, IsTree, Parent, Above, self, up}
+use Rattle.meaning.specs.Constraint.{Constraint, is-child, is-below, is-strictly-below, is-same, is-differ, is-root, is-leaf, is-label, Meets, MeetsAll, ByteLabels}
+use Rattle.meaning.specs.AnyTree.{Reaches, here, down, AnyTree, ByteLabelled, MeetsAny, MeetsAllAny, Numbering}
+use Rattle.meaning.specs.FixedSearch.{in-none}
+use Rattle.meaning.specs.Demand.{FixedSearch}
+use Rattle.theory.proofs.Rank.{rank, rank-smaller, rank-onto}
+
+-- ---- the place of a member of a list
+
+module _ {A : Type 0} where
+  place : {v : A} {xs : List A} → List·Memᴰ v xs → ℕ
+  place (List·Memᴰ·head e) = 0
+  place (List·Memᴰ·tail m) = suc (place m)
+
+  place-inside : {v : A} {xs : List A} (m : List·Memᴰ v xs) → place m < length xs
+  unfolding place
+  place-inside (List·Memᴰ·head e) = zero-lt-suc _
+  place-inside (List·Memᴰ·tail m) = suc-le-suc (place-inside m)
+
+  place-at : {v : A} {xs : List A} (m : List·Memᴰ v xs) (d : A) → getD xs (place m) d ≡ v
+  unfolding place
+  place-at (List·Memᴰ·head e) d = sym e
+  place-at (List·Memᴰ·tail m) d = place-at m d
+
+remainders-same : (n a b p q : ℕ) → p < n → q < n → a * n + p ≡ b * n + q → p ≡ q
+remainders-same n a b p q l k e = sym (rest a p l) ∙ ap (λ (i : ℕ). i % n) e ∙ rest b q k
+  where
+    rest : (c r : ℕ) → r < n → (c * n + r) % n ≡ r
+    rest c r h = mul-add-mod-self-right c n r ∙ mod-eq-of-lt h
+
+-- ---- depth
+
+steps : {N : Type 0} {R : N → N → Type 0} {u v : N} → Reaches R u v → ℕ
+steps here = 0
+steps (down p h) = suc (steps h)
+
+module _ {N : Type 0} (T : AnyTree N) where
+  -- one way leads from the root to a node
+  steps-same : {v w : N} (h : Reaches (T .IsParent) (T .root) v) (k : Reaches (T .IsParent) (T .root) w) → v ≡ w → steps h ≡ steps k
+  unfolding steps
+  steps-same here here e = refl
+  steps-same here (down {w = x} q k) e = absurd (T .no-parent x (subst (T .IsParent x) (sym e) q))
+  steps-same (down {w = u} p h) here e = absurd (T .no-parent u (subst (T .IsParent u) e p))
+  steps-same (down {w = u} p h) (down q k) e = ap suc (steps-same h k (T .one-parent (subst (T .IsParent u) e p) q))
+
+  depth : N → ℕ
+  depth v = steps (T .reached v)
+
+  depth-parent : {u v : N} → T .IsParent u v → depth v ≡ suc (depth u)
+  unfolding depth steps
+  depth-parent {u} {v} p = steps-same (T .reached v) (down p (T .reached u)) refl
+
+  -- every node but the root has a parent
+  root-or-child : {v : N} → Reaches (T .IsParent) (T .root) v → (v ≡ T .root) ⊎ ((u : N) × T .IsParent u v)
+  root-or-child here = inl refl
+  root-or-child (down {w = u} p h) = inr (u, p)
+
+  -- ---- the key of a node: its depth, then its place in the list
+
+  key : N → ℕ
+  key v = depth v * length (T .nodes) + place (T .listed v)
+
+  key-parent : {u v : N} → T .IsParent u v → key u < key v
+  unfolding key
+  key-parent {u} {v} p =
+      let a = place-inside (T .listed u) in
+      let b : depth v * length (T .nodes) ≡ depth u * length (T .nodes) + length (T .nodes) = ap (λ (d : ℕ). d * length (T .nodes)) (depth-parent p) ∙ suc-mul _ _ in
+      omega arith
+
+  key-one-to-one : (u v : N) → key u ≡ key v → u ≡ v
+  unfolding key
+  key-one-to-one u v e =
+      let q = remainders-same (length (T .nodes)) _ _ _ _ (place-inside (T .listed u)) (place-inside (T .listed v)) e in
+      sym (place-at (T .listed u) (T .root)) ∙ ap (λ (i : ℕ). getD (T .nodes) i (T .root)) q ∙ place-at (T .listed v) (T .root)
+
+  IsKey : ℕ → Type 0
+  IsKey k = (v : N) × (key v ≡ k)
+
+  key-look : (k : ℕ) (xs : List N) → IsKey k ⊎ ((v : N) → List·Memᴰ v xs → key v ≢ k)
+  unfolding IsKey
+  key-look k [] = inr (λ v m. absurd (List·Memᴰ·not-nil m))
+  key-look k (x ∷ xs) = go (ℕ-discrete (key x) k) (key-look k xs)
+    where
+      go : Dec (key x ≡ k) → IsKey k ⊎ ((v : N) → List·Memᴰ v xs → key v ≢ k) → IsKey k ⊎ ((v : N) → List·Memᴰ v (x ∷ xs) → key v ≢ k)
+      go (yes e) r = inl (x, e)
+      go (no h) (inl w) = inl w
+      go (no h) (inr r) = inr (λ v m. ⊎-elim (λ e q. h (ap key (sym e) ∙ q)) (r v) (List·Memᴰ·cases-cons m))
+
+  key-decided : (k : ℕ) → Dec (IsKey k)
+  unfolding IsKey
+  key-decided k = ⊎-elim yes (λ r. no (λ w. r (w .0) (T .listed (w .0)) (w .1))) (key-look k (T .nodes))
+
+  -- larger than the key of every member
+  top : List N → ℕ
+  top [] = 0
+  top (x ∷ xs) = max (suc (key x)) (top xs)
+
+  key-below : (v : N) (xs : List N) → List·Memᴰ v xs → key v < top xs
+  unfolding top
+  key-below v [] m = absurd (List·Memᴰ·not-nil m)
+  key-below v (x ∷ xs) m =
+      ⊎-elim (λ e. let z : key v ≡ key x = ap key e in omega arith) (λ k. let z = key-below v xs k in omega arith) (List·Memᴰ·cases-cons m)
+
+  -- ---- the number of a node: the rank of its key
+
+  size-of : ℕ
+  size-of = rank IsKey key-decided (top (T .nodes))
+
+  number-of : N → Node
+  number-of v = rank IsKey key-decided (key v)
+
+  number-inside : (v : N) → number-of v < size-of
+  unfolding size-of number-of IsKey
+  number-inside v = rank-smaller IsKey key-decided (key v) (top (T .nodes)) (v, refl) (key-below v (T .nodes) (T .listed v))
+
+  number-smaller : (u v : N) → key u < key v → number-of u < number-of v
+  unfolding number-of IsKey
+  number-smaller u v l = rank-smaller IsKey key-decided (key u) (key v) (u, refl) l
+
+  number-one-to-one : (u v : N) → number-of u ≡ number-of v → u ≡ v
+  number-one-to-one u v e = go (decLt (key u) (key v)) (decLt (key v) (key u))
+    where
+      go : Dec (key u < key v) → Dec (key v < key u) → u ≡ v
+      go (yes l) _ = absurd (let z = number-smaller u v l in omega arith)
+      go (no l) (yes k) = absurd (let z = number-smaller v u k in omega arith)
+      go (no l) (no k) = key-one-to-one u v (omega arith)
+
+  number-onto : (i : Node) → i < size-of → (v : N) × (number-of v ≡ i)
+  unfolding size-of number-of IsKey
+  number-onto i l = let w = rank-onto IsKey key-decided (top (T .nodes)) i l in (w .1 .0, ap (rank IsKey key-decided) (w .1 .1) ∙ w .2)
