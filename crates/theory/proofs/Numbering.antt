@@ -138,3 +138,130 @@ module _ {N : Type 0} (T : AnyTree N) where
   number-onto : (i : Node) → i < size-of → (v : N) × (number-of v ≡ i)
   unfolding size-of number-of IsKey
   number-onto i l = let w = rank-onto IsKey key-decided (top (T .nodes)) i l in (w .1 .0, ap (rank IsKey key-decided) (w .1 .1) ∙ w .2)
+
+  -- ---- the numbered tree
+
+  parent-of : N → N
+  parent-of v = ⊎-elim (λ e. T .root) (λ w. w .0) (root-or-child (T .reached v))
+
+  parent-is : {u v : N} → T .IsParent u v → parent-of v ≡ u
+  unfolding parent-of
+  parent-is {u} {v} p = go (root-or-child (T .reached v))
+    where
+      go : (d : (v ≡ T .root) ⊎ ((u : N) × T .IsParent u v)) → ⊎-elim (λ e. T .root) (λ w. w .0) d ≡ u
+      go (inl e) = absurd (T .no-parent u (subst (T .IsParent u) e p))
+      go (inr w) = T .one-parent (w .1) p
+
+  parent-there : (v : N) → v ≢ T .root → T .IsParent (parent-of v) v
+  parent-there v d = ⊎-elim (λ e. absurd (d e)) (λ w. subst (λ (u : N). T .IsParent u v) (sym (parent-is (w .1))) (w .1)) (root-or-child (T .reached v))
+
+  node-in : (i : Node) → Dec (i < size-of) → N
+  node-in i (yes l) = number-onto i l .0
+  node-in i (no l) = T .root
+
+  node-of : Node → N
+  node-of i = node-in i (decLt i size-of)
+
+  node-number : (i : Node) → i < size-of → number-of (node-of i) ≡ i
+  unfolding node-of node-in
+  node-number i l = go (decLt i size-of)
+    where
+      go : (d : Dec (i < size-of)) → number-of (node-in i d) ≡ i
+      go (yes k) = number-onto i k .1
+      go (no k) = absurd (k l)
+
+  number-node : (v : N) → node-of (number-of v) ≡ v
+  number-node v = number-one-to-one _ v (node-number (number-of v) (number-inside v))
+
+  -- the root has the number 0: a node with number 0 that is not the root has a parent with a smaller number
+  number-root : number-of (T .root) ≡ 0
+  number-root = go (decLt 0 (number-of (T .root)))
+    where
+      go : Dec (0 < number-of (T .root)) → number-of (T .root) ≡ 0
+      go (no l) = omega arith
+      go (yes l) =
+          let z : 0 < size-of = let k = number-inside (T .root) in omega arith in
+          let e : number-of (node-of 0) ≡ 0 = node-number 0 z in
+          let p : T .IsParent (parent-of (node-of 0)) (node-of 0) = parent-there (node-of 0) (λ q. let r : number-of (node-of 0) ≡ number-of (T .root) = ap number-of q in omega arith) in
+          let s : number-of (parent-of (node-of 0)) < number-of (node-of 0) = number-smaller _ _ (key-parent p) in
+          absurd (omega arith)
+
+  not-root : (v : N) → 0 < number-of v → v ≢ T .root
+  not-root v l e = let z : number-of v ≡ number-of (T .root) = ap number-of e in let r = number-root in omega arith
+
+  abbrev numbered-tree : Tree
+  numbered-tree = record { size = size-of; parent = λ i. number-of (parent-of (node-of i)); label = λ i. T .label (node-of i) }
+
+  numbered-is-tree : ByteLabelled T → IsTree numbered-tree
+  numbered-is-tree b = record {
+    some-node = let l = number-inside (T .root) in omega arith;
+    smaller = λ i z l.
+        let e : number-of (node-of i) ≡ i = node-number i l in
+        let s : number-of (parent-of (node-of i)) < number-of (node-of i) = number-smaller _ _ (key-parent (parent-there (node-of i) (not-root (node-of i) (omega arith)))) in
+        omega arith;
+    small-label = λ i l. b (node-of i);
+  }
+
+  numbered-same : Numbering T numbered-tree
+  numbered-same = record {
+    number = number-of;
+    inside = number-inside;
+    one-to-one = number-one-to-one;
+    onto = number-onto;
+    same-parents = λ u v. (
+      λ p. record { not-first = let s = number-smaller u v (key-parent p) in omega arith; inside = number-inside v; is = ap number-of (ap parent-of (number-node v) ∙ parent-is p) },
+      λ p. subst (λ (w : N). T .IsParent w v) (number-one-to-one _ u (ap number-of (ap parent-of (sym (number-node v))) ∙ p .is)) (parent-there v (not-root v (p .not-first))),
+    );
+    same-labels = λ v. ap (T .label) (number-node v);
+  }
+
+  -- every finite tree whose labels are bytes has a numbering
+  pub numbered : ByteLabelled T → (t : Tree) × IsTree t × Numbering T t
+  numbered b = (numbered-tree, numbered-is-tree b, numbered-same)
+
+-- ---- one tree, numbered or not, meets the same constraints
+
+module _ {N : Type 0} (T : AnyTree N) (t : Tree) (s : Numbering T t) where
+  number-reaches : {u v : N} → Reaches (T .IsParent) u v → Above t (s .number u) (s .number v)
+  number-reaches here = self
+  number-reaches (down p h) = up (s .same-parents _ _ .0 p) (number-reaches h)
+
+module _ {N : Type 0} (T : AnyTree N) (t : Tree) (i : IsTree t) (s : Numbering T t) where
+  -- the parent of a node is one
+  parent-numbered : {i : Node} {v : N} → Parent t i (s .number v) → (u : N) × T .IsParent u v
+  parent-numbered {i = k} {v = v} p =
+      let l : t .parent (s .number v) < s .number v = i .smaller (s .number v) (p .not-first) (p .inside) in
+      let e : t .parent (s .number v) ≡ k = p .is in
+      let w = s .onto k (let q = p .inside in omega arith) in
+      (w .0, s .same-parents (w .0) v .1 (subst (λ (j : Node). Parent t j (s .number v)) (sym (w .1)) p))
+
+  child-numbered : {u : N} {j : Node} → Parent t (s .number u) j → (v : N) × T .IsParent u v
+  child-numbered {u} p = let w = s .onto _ (p .inside) in (w .0, s .same-parents u (w .0) .1 (subst (λ (j : Node). Parent t (s .number u) j) (sym (w .1)) p))
+
+  -- ancestors of a node are nodes, and reach it
+  above-numbered : {k j : Node} → Above t k j → (v : N) → s .number v ≡ j → (u : N) → s .number u ≡ k → Reaches (T .IsParent) u v
+  above-numbered self v e u f = subst (λ (w : N). Reaches (T .IsParent) u w) (s .one-to-one u v (f ∙ sym e)) here
+  above-numbered (up {v = j} {w = m} p h) v e u f =
+      let w = parent-numbered {v = v} (subst (λ (x : Node). Parent t m x) (sym e) p) in
+      let q : t .parent (s .number v) ≡ s .number (w .0) = s .same-parents (w .0) v .0 (w .1) .is in
+      let r : t .parent (s .number v) ≡ m = ap (t .parent) e ∙ p .is in
+      down (w .1) (above-numbered h (w .0) (sym q ∙ r) u f)
+
+  pub numbering-meets : (a : Var → N) (c : Constraint) → MeetsAny T a c ↔ Meets t (λ x. s .number (a x)) c
+  numbering-meets a (is-child x y) = s .same-parents (a x) (a y)
+  numbering-meets a (is-below x y) = (number-reaches T t s, λ h. above-numbered h (a y) refl (a x) refl)
+  numbering-meets a (is-strictly-below x y) = (
+    λ h. (number-reaches T t s (h .0), λ e. h .1 (s .one-to-one _ _ e)),
+    λ h. (above-numbered (h .0) (a y) refl (a x) refl, λ e. h .1 (ap (s .number) e)),
+  )
+  numbering-meets a (is-same x y) = (ap (s .number), s .one-to-one _ _)
+  numbering-meets a (is-differ x y) = (λ h e. h (s .one-to-one _ _ e), λ h e. h (ap (s .number) e))
+  numbering-meets a (is-root x) = (λ h k p. let w = parent-numbered p in h (w .0) (w .1), λ h u p. h (s .number u) (s .same-parents u (a x) .0 p))
+  numbering-meets a (is-leaf x) = (λ h k p. let w = child-numbered p in h (w .0) (w .1), λ h v p. h (s .number v) (s .same-parents (a x) v .0 p))
+  numbering-meets a (is-label x l) = (λ e. s .same-labels (a x) ∙ e, λ e. sym (s .same-labels (a x)) ∙ e)
+
+  pub numbering-meets-all : (n : ℕ) (a : Var → N) (cs : List Constraint) → MeetsAllAny T a cs ↔ MeetsAll n t (λ x. s .number (a x)) cs
+  numbering-meets-all n a cs = (
+    λ h. record { placed = λ x l. s .inside (a x); every = λ c m. numbering-meets a c .0 (h c m) },
+    λ h c m. numbering-meets a c .1 (h .every c m),
+  )
