@@ -46,6 +46,10 @@ MeetsAny T a (is-label x l) = T .label (a x) ≡ l
 abbrev pub MeetsAllAny : {N : Type 0} → AnyTree N → (Var → N) → List Constraint → Type 0
 MeetsAllAny T a cs = (c : Constraint) → List·Memᴰ c cs → MeetsAny T a c
 
+-- no such tree, of any nodes, meets the constraints under any assignment
+abbrev pub NoAnyTree : List Constraint → Type 1
+NoAnyTree cs = (N : Type 0) (T : AnyTree N) (a : Var → N) → ¬ MeetsAllAny T a cs
+
 -- t is T with its nodes numbered 0 .. size - 1, one to one
 pub record Numbering {N : Type 0} (T : AnyTree N) (t : Tree) : Type 0 where
   pub number : N → Node

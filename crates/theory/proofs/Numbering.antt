@@ -1,18 +1,15 @@
--- Every tree of source 004, definition 2.1 (without the order of siblings) has its nodes numbered as document 01 wants, with the same parents
--- and labels, and every tree of document 01 is such a tree. So 'none' also means that no tree in the paper's own sense meets the constraints.
+-- Every finite tree whose nodes bear no numbers has a numbering as document 01 wants, with the same parents and labels. A node's key is its
+-- depth, then its place in the list of nodes; its number is how many keys are smaller. A parent is less deep, so its number is smaller.
 use mathlib.Core.Path.{_≡_, refl, sym, ap, _∙_, subst}
-use mathlib.Core.Logic.{_≢_, _↔_, _⊎_, inl, inr, ⊎-elim}
+use mathlib.Core.Logic.{_≢_, _⊎_, inl, inr, ⊎-elim}
 use mathlib.Core.List.{List, [], _∷_, List·Memᴰ, List·Memᴰ·head, List·Memᴰ·tail, List·Memᴰ·cases-cons, List·Memᴰ·not-nil}
-use Prim.Native.Nat.{ℕ, zero, suc, _+_, _*_, _%_, _≤_, _<_, max, suc-le-suc}
-use native.Mathlib.Nat.{le-refl, zero-lt-suc, not-suc-le-zero, suc-mul, mul-add-mod-self-right, mod-eq-of-lt}
+use Prim.Native.Nat.{ℕ, suc, _+_, _*_, _%_, _<_, max, suc-le-suc}
+use native.Mathlib.Nat.{zero-lt-suc, suc-mul, mul-add-mod-self-right, mod-eq-of-lt}
 use native.Mathlib.Decide.{decLt, ℕ-discrete}
 use native.Mathlib.Omega.{arith}
 use lib.ListN.{length, getD}
-use Rattle.meaning.specs.Tree.{Var, Node, Label, Assignment, Tree, IsTree, Parent, Above, self, up}
-use Rattle.meaning.specs.Constraint.{Constraint, is-child, is-below, is-strictly-below, is-same, is-differ, is-root, is-leaf, is-label, Meets, MeetsAll, ByteLabels}
-use Rattle.meaning.specs.AnyTree.{Reaches, here, down, AnyTree, ByteLabelled, MeetsAny, MeetsAllAny, Numbering}
-use Rattle.meaning.specs.FixedSearch.{in-none}
-use Rattle.meaning.specs.Demand.{FixedSearch}
+use Rattle.meaning.specs.Tree.{Node, Tree, IsTree}
+use Rattle.meaning.specs.AnyTree.{Reaches, here, down, AnyTree, ByteLabelled, Numbering}
 use Rattle.theory.proofs.Rank.{rank, rank-smaller, rank-onto}
 
 -- ---- the place of a member of a list
@@ -218,50 +215,3 @@ module _ {N : Type 0} (T : AnyTree N) where
   -- every finite tree whose labels are bytes has a numbering
   pub numbered : ByteLabelled T → (t : Tree) × IsTree t × Numbering T t
   numbered b = (numbered-tree, numbered-is-tree b, numbered-same)
-
--- ---- one tree, numbered or not, meets the same constraints
-
-module _ {N : Type 0} (T : AnyTree N) (t : Tree) (s : Numbering T t) where
-  number-reaches : {u v : N} → Reaches (T .IsParent) u v → Above t (s .number u) (s .number v)
-  number-reaches here = self
-  number-reaches (down p h) = up (s .same-parents _ _ .0 p) (number-reaches h)
-
-module _ {N : Type 0} (T : AnyTree N) (t : Tree) (i : IsTree t) (s : Numbering T t) where
-  -- the parent of a node is one
-  parent-numbered : {i : Node} {v : N} → Parent t i (s .number v) → (u : N) × T .IsParent u v
-  parent-numbered {i = k} {v = v} p =
-      let l : t .parent (s .number v) < s .number v = i .smaller (s .number v) (p .not-first) (p .inside) in
-      let e : t .parent (s .number v) ≡ k = p .is in
-      let w = s .onto k (let q = p .inside in omega arith) in
-      (w .0, s .same-parents (w .0) v .1 (subst (λ (j : Node). Parent t j (s .number v)) (sym (w .1)) p))
-
-  child-numbered : {u : N} {j : Node} → Parent t (s .number u) j → (v : N) × T .IsParent u v
-  child-numbered {u} p = let w = s .onto _ (p .inside) in (w .0, s .same-parents u (w .0) .1 (subst (λ (j : Node). Parent t (s .number u) j) (sym (w .1)) p))
-
-  -- ancestors of a node are nodes, and reach it
-  above-numbered : {k j : Node} → Above t k j → (v : N) → s .number v ≡ j → (u : N) → s .number u ≡ k → Reaches (T .IsParent) u v
-  above-numbered self v e u f = subst (λ (w : N). Reaches (T .IsParent) u w) (s .one-to-one u v (f ∙ sym e)) here
-  above-numbered (up {v = j} {w = m} p h) v e u f =
-      let w = parent-numbered {v = v} (subst (λ (x : Node). Parent t m x) (sym e) p) in
-      let q : t .parent (s .number v) ≡ s .number (w .0) = s .same-parents (w .0) v .0 (w .1) .is in
-      let r : t .parent (s .number v) ≡ m = ap (t .parent) e ∙ p .is in
-      down (w .1) (above-numbered h (w .0) (sym q ∙ r) u f)
-
-  pub numbering-meets : (a : Var → N) (c : Constraint) → MeetsAny T a c ↔ Meets t (λ x. s .number (a x)) c
-  numbering-meets a (is-child x y) = s .same-parents (a x) (a y)
-  numbering-meets a (is-below x y) = (number-reaches T t s, λ h. above-numbered h (a y) refl (a x) refl)
-  numbering-meets a (is-strictly-below x y) = (
-    λ h. (number-reaches T t s (h .0), λ e. h .1 (s .one-to-one _ _ e)),
-    λ h. (above-numbered (h .0) (a y) refl (a x) refl, λ e. h .1 (ap (s .number) e)),
-  )
-  numbering-meets a (is-same x y) = (ap (s .number), s .one-to-one _ _)
-  numbering-meets a (is-differ x y) = (λ h e. h (s .one-to-one _ _ e), λ h e. h (ap (s .number) e))
-  numbering-meets a (is-root x) = (λ h k p. let w = parent-numbered p in h (w .0) (w .1), λ h u p. h (s .number u) (s .same-parents u (a x) .0 p))
-  numbering-meets a (is-leaf x) = (λ h k p. let w = child-numbered p in h (w .0) (w .1), λ h v p. h (s .number v) (s .same-parents (a x) v .0 p))
-  numbering-meets a (is-label x l) = (λ e. s .same-labels (a x) ∙ e, λ e. sym (s .same-labels (a x)) ∙ e)
-
-  pub numbering-meets-all : (n : ℕ) (a : Var → N) (cs : List Constraint) → MeetsAllAny T a cs ↔ MeetsAll n t (λ x. s .number (a x)) cs
-  numbering-meets-all n a cs = (
-    λ h. record { placed = λ x l. s .inside (a x); every = λ c m. numbering-meets a c .0 (h c m) },
-    λ h c m. numbering-meets a c .1 (h .every c m),
-  )
