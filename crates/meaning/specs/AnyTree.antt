@@ -14,7 +14,7 @@ pub data Reaches {N : Type 0} (R : N → N → Type 0) (u : N) : N → Type 0 wh
 
 -- T = (N, ◁, r, λ)
 pub record AnyTree (N : Type 0) : Type 1 where
-  -- N is finite: every node has a place in a list
+  -- N is finite: every node has a place in a list (so two nodes can be told apart)
   pub nodes : List N
   pub listed : (v : N) → List·Memᴰ v nodes
   -- u ◁ v: u is the parent of v

@@ -1,11 +1,11 @@
 -- Every finite tree whose nodes bear no numbers has a numbering as document 01 wants, with the same parents and labels. A node's key is its
 -- depth, then its place in the list of nodes; its number is how many keys are smaller. A parent is less deep, so its number is smaller.
 use mathlib.Core.Path.{_≡_, refl, sym, ap, _∙_, subst}
-use mathlib.Core.Logic.{_≢_, _⊎_, inl, inr, ⊎-elim}
+use mathlib.Core.Logic.{_≢_, _↔_, _⊎_, inl, inr, ⊎-elim}
 use mathlib.Core.List.{List, [], _∷_, List·Memᴰ, List·Memᴰ·head, List·Memᴰ·tail, List·Memᴰ·cases-cons, List·Memᴰ·not-nil}
 use Prim.Native.Nat.{ℕ, suc, _+_, _*_, _%_, _<_, max, suc-le-suc}
 use native.Mathlib.Nat.{zero-lt-suc, suc-mul, mul-add-mod-self-right, mod-eq-of-lt}
-use native.Mathlib.Decide.{decLt, ℕ-discrete}
+use native.Mathlib.Decide.{map-dec, decLt, ℕ-discrete}
 use native.Mathlib.Omega.{arith}
 use lib.ListN.{length, getD}
 use Rattle.meaning.specs.Tree.{Node, Tree, IsTree}
@@ -57,10 +57,23 @@ module _ {N : Type 0} (T : AnyTree N) where
   unfolding depth steps
   depth-parent {u} {v} p = steps-same (T .reached v) (down p (T .reached u)) refl
 
-  -- every node but the root has a parent
-  root-or-child : {v : N} → Reaches (T .IsParent) (T .root) v → (v ≡ T .root) ⊎ ((u : N) × T .IsParent u v)
-  root-or-child here = inl refl
-  root-or-child (down {w = u} p h) = inr (u, p)
+  -- ---- a node is the root or has a parent, and nodes can be told apart
+
+  root-or-last : {v : N} → Reaches (T .IsParent) (T .root) v → (v ≡ T .root) ⊎ ((u : N) × T .IsParent u v)
+  root-or-last here = inl refl
+  root-or-last (down {w = u} p h) = inr (u, p)
+
+  pub root-or-child : (v : N) → (v ≡ T .root) ⊎ ((u : N) × T .IsParent u v)
+  root-or-child v = root-or-last (T .reached v)
+
+  pub no-parent-iff-root : (v : N) → ((u : N) → ¬ T .IsParent u v) ↔ (v ≡ T .root)
+  no-parent-iff-root v = (λ h. ⊎-elim (λ e. e) (λ w. absurd (h (w .0) (w .1))) (root-or-child v), λ e u p. T .no-parent u (subst (T .IsParent u) e p))
+
+  place-one-to-one : (u v : N) → place (T .listed u) ≡ place (T .listed v) → u ≡ v
+  place-one-to-one u v e = sym (place-at (T .listed u) (T .root)) ∙ ap (λ (i : ℕ). getD (T .nodes) i (T .root)) e ∙ place-at (T .listed v) (T .root)
+
+  pub nodes-discrete : (u v : N) → Dec (u ≡ v)
+  nodes-discrete u v = map-dec (place-one-to-one u v) (ap (λ (w : N). place (T .listed w))) (ℕ-discrete _ _)
 
   -- ---- the key of a node: its depth, then its place in the list
 
@@ -76,9 +89,7 @@ module _ {N : Type 0} (T : AnyTree N) where
 
   key-one-to-one : (u v : N) → key u ≡ key v → u ≡ v
   unfolding key
-  key-one-to-one u v e =
-      let q = remainders-same (length (T .nodes)) _ _ _ _ (place-inside (T .listed u)) (place-inside (T .listed v)) e in
-      sym (place-at (T .listed u) (T .root)) ∙ ap (λ (i : ℕ). getD (T .nodes) i (T .root)) q ∙ place-at (T .listed v) (T .root)
+  key-one-to-one u v e = place-one-to-one u v (remainders-same (length (T .nodes)) _ _ _ _ (place-inside (T .listed u)) (place-inside (T .listed v)) e)
 
   IsKey : ℕ → Type 0
   IsKey k = (v : N) × (key v ≡ k)
@@ -139,18 +150,18 @@ module _ {N : Type 0} (T : AnyTree N) where
   -- ---- the numbered tree
 
   parent-of : N → N
-  parent-of v = ⊎-elim (λ e. T .root) (λ w. w .0) (root-or-child (T .reached v))
+  parent-of v = ⊎-elim (λ e. T .root) (λ w. w .0) (root-or-child v)
 
   parent-is : {u v : N} → T .IsParent u v → parent-of v ≡ u
   unfolding parent-of
-  parent-is {u} {v} p = go (root-or-child (T .reached v))
+  parent-is {u} {v} p = go (root-or-child v)
     where
       go : (d : (v ≡ T .root) ⊎ ((u : N) × T .IsParent u v)) → ⊎-elim (λ e. T .root) (λ w. w .0) d ≡ u
       go (inl e) = absurd (T .no-parent u (subst (T .IsParent u) e p))
       go (inr w) = T .one-parent (w .1) p
 
   parent-there : (v : N) → v ≢ T .root → T .IsParent (parent-of v) v
-  parent-there v d = ⊎-elim (λ e. absurd (d e)) (λ w. subst (λ (u : N). T .IsParent u v) (sym (parent-is (w .1))) (w .1)) (root-or-child (T .reached v))
+  parent-there v d = ⊎-elim (λ e. absurd (d e)) (λ w. subst (λ (u : N). T .IsParent u v) (sym (parent-is (w .1))) (w .1)) (root-or-child v)
 
   node-in : (i : Node) → Dec (i < size-of) → N
   node-in i (yes l) = number-onto i l .0
