@@ -14,7 +14,7 @@ use Rattle.meaning.specs.Tree.{Var, Node, Label, Assignment, Tree, IsTree, Pare
 use Rattle.meaning.specs.Constraint.{Constraint, is-child, is-below, is-strictly-below, is-same, is-differ, is-root, is-leaf, is-label, Meets, vars, MeetsAll, ByteLabels}
 use Rattle.meaning.specs.AnyTree.{Reaches, here, down, AnyTree, MeetsAny, MeetsAllAny, NoAnyTree, Numbering}
 use Rattle.meaning.specs.FixedSearch.{Outcome, in-none, in-tree}
-use Rattle.meaning.specs.Demand.{Answer, a-none, FixedSearch, Demand3}
+use Rattle.meaning.specs.Demand.{a-none, FixedSearch, Demand3}
 use Rattle.meaning.specs.Files.{accepted, judge}
 use Rattle.meaning.specs.Results.{Solved, solver-answers}
 use Rattle.meaning.specs.Promises.{SolverPromise}
