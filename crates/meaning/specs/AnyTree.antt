@@ -1,4 +1,4 @@
--- A tree as the paper has it (source 004, definition 2.1), without the order of siblings: the nodes are any finite set and bear no numbers.
+-- A tree as the paper has it (source 004, definition 2.1), without its document order ≺: the nodes are any finite set and bear no numbers.
 -- When such a tree meets the constraints, and when a tree of document 01 is that tree with its nodes numbered.
 use mathlib.Core.Path.{_≡_}
 use mathlib.Core.Logic.{_≢_, _↔_}

@@ -32,9 +32,9 @@ module _ {N : Type 0} (T : AnyTree N) (t : Tree) (s : Numbering T t) where
   number-reaches (down p h) = up (s .same-parents _ _ .0 p) (number-reaches h)
 
 module _ {N : Type 0} (T : AnyTree N) (t : Tree) (i : IsTree t) (s : Numbering T t) where
-  -- the parent of a node is one
-  parent-numbered : {i : Node} {v : N} → Parent t i (s .number v) → (u : N) × T .IsParent u v
-  parent-numbered {i = k} {v = v} p =
+  -- a numbered node with a parent has one in T
+  parent-numbered : {k : Node} {v : N} → Parent t k (s .number v) → (u : N) × T .IsParent u v
+  parent-numbered {k} {v} p =
       let l : t .parent (s .number v) < s .number v = i .smaller (s .number v) (p .not-first) (p .inside) in
       let e : t .parent (s .number v) ≡ k = p .is in
       let w = s .onto k (let q = p .inside in omega arith) in
@@ -43,7 +43,7 @@ module _ {N : Type 0} (T : AnyTree N) (t : Tree) (i : IsTree t) (s : Numbering T
   child-numbered : {u : N} {j : Node} → Parent t (s .number u) j → (v : N) × T .IsParent u v
   child-numbered {u} p = let w = s .onto _ (p .inside) in (w .0, s .same-parents u (w .0) .1 (subst (λ (j : Node). Parent t (s .number u) j) (sym (w .1)) p))
 
-  -- ancestors of a node are nodes, and reach it
+  -- what is above in t reaches in T
   above-numbered : {k j : Node} → Above t k j → (v : N) → s .number v ≡ j → (u : N) → s .number u ≡ k → Reaches (T .IsParent) u v
   above-numbered self v e u f = subst (λ (w : N). Reaches (T .IsParent) u w) (s .one-to-one u v (f ∙ sym e)) here
   above-numbered (up {v = j} {w = m} p h) v e u f =
@@ -110,7 +110,7 @@ module _ {N : Type 0} (T : AnyTree N) where
   with-bytes-meets a cs b (is-leaf x) m h = h
   with-bytes-meets a cs b (is-label x l) m h = byte-stays _ _ (subst (λ (k : Label). k ≤ 255) (sym h) (b x l m)) ∙ h
 
-  -- where a tree of the paper meets the constraints, so does one of document 01
+  -- where a tree of the paper meets constraints whose labels are bytes, so does one of document 01
   pub any-tree-meets : (n : ℕ) (a : Var → N) (cs : List Constraint) → ByteLabels cs → MeetsAllAny T a cs → (t : Tree) × IsTree t × ((b : Assignment) × MeetsAll n t b cs)
   any-tree-meets n a cs b h =
       let w = numbered with-bytes (λ v. byte-or-blank-small (T .label v) _) in

@@ -26,20 +26,20 @@ module _ (P : ℕ → Type 0) (dec : (k : ℕ) → Dec (P k)) where
   rank zero = 0
   rank (suc k) = more (dec k) (rank k)
 
-  rank-most : (j m : ℕ) → j ≤ m → rank j ≤ rank m
+  rank-le : (j m : ℕ) → j ≤ m → rank j ≤ rank m
   unfolding rank
-  rank-most j zero l = let e : j ≡ 0 = omega arith in le-of-eq (ap rank e)
-  rank-most j (suc m) l =
+  rank-le j zero l = let e : j ≡ 0 = omega arith in le-of-eq (ap rank e)
+  rank-le j (suc m) l =
       ⊎-elim
       (λ e. le-of-eq (ap rank e))
-      (λ h. let a : rank j ≤ rank m = rank-most j m (omega arith) in let b = more-least (dec m) (rank m) in omega arith)
+      (λ h. let a : rank j ≤ rank m = rank-le j m (omega arith) in let b = more-least (dec m) (rank m) in omega arith)
       (eq-or-lt-of-le l)
 
   pub rank-smaller : (j m : ℕ) → P j → j < m → rank j < rank m
   unfolding rank
-  rank-smaller j m p l = let a : rank (suc j) ≤ rank m = rank-most (suc j) m l in let b : rank (suc j) ≡ suc (rank j) = more-holds (dec j) (rank j) p in omega arith
+  rank-smaller j m p l = let a : rank (suc j) ≤ rank m = rank-le (suc j) m l in let b : rank (suc j) ≡ suc (rank j) = more-holds (dec j) (rank j) p in omega arith
 
-  -- each number below the rank of m is the rank of one below m
+  -- each number below the rank of m is the rank of a number that has the property
   pub rank-onto : (m i : ℕ) → i < rank m → (k : ℕ) × P k × (rank k ≡ i)
   unfolding rank more
   rank-onto zero i l = absurd (not-suc-le-zero l)
