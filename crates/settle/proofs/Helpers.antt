@@ -37,4 +37,3 @@ span-on same x w rest groups n m e d h = pick-on _ _ _ (rw (← e, ← d, ← no
 pub span-off : (same x w rest groups n : ℕ) (m : Bool) → w ≡ 2 ^ x → m ≡ meets rest groups → (not (eqb (bitOr same w) w) || m) ≡ false → 0 ≡ spanned same x rest groups n
 unfolding spanned
 span-off same x w rest groups n m e d h = pick-off _ _ _ (rw (← e, ← d, ← not-is, ← or-is) h)
-
