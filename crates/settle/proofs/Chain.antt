@@ -1,5 +1,4 @@
 -- What the rules for itself, child, root and chain make of the rows of below.
--- Assumes nothing.
 use mathlib.Core.Path.{_≡_, refl, sym, ap, _∙_, subst}
 use mathlib.Core.Logic.{_≢_, _⊎_, inl, inr, ⊎-elim}
 use mathlib.Core.Bool.{Bool, true, false, false≢true}
@@ -10,13 +9,17 @@ use native.Mathlib.Decide.{decLt, ℕ-discrete}
 use native.Mathlib.Omega.{arith}
 use lib.ListN.{getD, set, length, length-set, replicate}
 use lib.Seq.{getD-set-same, getD-set-other}
-use Rattle.meaning.specs.Facts.{Fact, child, below, root, Settled, child-below, self-below, chain, root-below}
+use Rattle.meaning.specs.Constraint.{Fact, child, below, root}
+use Rattle.meaning.specs.Settled.{Settled, child-below, self-below, chain, root-below}
 use Rattle.meaning.specs.Finite.{Yes}
 use Rattle.rowbits.specs.Bit.{bit}
+use Rattle.meaning.proofs.Tests.{clash, eq-yes}
+use Rattle.tables.specs.Tables.{row}
+use Rattle.tables.specs.Rows.{Up, Gathers, gained, meets}
+use Rattle.settle.specs.Rows.{Lifted, Chained, firstRow}
+use Rattle.tables.proofs.Loops.{below-cases, Rowing}
+use Rattle.tables.proofs.Bits.{or-l, or-r, or-case, up-or, up-self, up-trans, all-is, all-has, gained-up, gained-has, gained-case, one-is, one-has, none-in}
 use lib.Bits.{bitOr, bitXor, and-zero-r}
-use Rattle.meaning.proofs.Small.{clash, eq-yes}
-use Rattle.settle.specs.Rows.{row, Up, Gathers, Transposed, Raised, Outside, Lifted, Chained, firstRow, marked, gained, meets}
-use Rattle.settle.proofs.Bits.{flip-has, flip-not, or-l, or-r, or-case, up-or, up-self, up-trans, all-is, all-has, gained-up, gained-has, gained-case, one-is, one-has, none-in, in-both, meets-in}
 
 pub no-parents : (t : List ℕ) → Gathers (λ y. meets (row t y) 0) 0
 unfolding meets

@@ -1,5 +1,4 @@
 -- What follows from tables, and labels that stay.
--- Assumes nothing.
 use mathlib.Core.Path.{_≡_, refl, sym, ap, _∙_, subst}
 use mathlib.Core.Logic.{_≢_, _⊎_, inl, inr, ⊎-elim}
 use mathlib.Core.Bool.{Bool, true, false, false≢true}
@@ -9,12 +8,11 @@ use native.Mathlib.Nat.{le-refl, le-trans}
 use native.Mathlib.Omega.{arith}
 use lib.ListN.{length}
 use lib.Dec.{eqb}
-use Rattle.meaning.specs.Facts.{Fact, label, Settled}
-use Rattle.meaning.specs.Finite.{Yes, _and_, neg}
-use Rattle.meaning.proofs.Small.{clash, and-left, and-right, and-both, no-neg, is-eq, self-eq, eq-yes}
-use Rattle.settle.specs.Rows.{row}
-use Rattle.settle.specs.Tables.{has, Sound}
-use Rattle.settle.specs.declared.Facts.{Facts}
+use Rattle.meaning.specs.Constraint.{Fact, label}
+use Rattle.meaning.specs.Settled.{Settled}
+use Rattle.meaning.specs.Finite.{Yes, _and_}
+use Rattle.tables.specs.Tables.{has, Sound}
+use Rattle.tables.specs.declared.Facts.{Facts}
 
 -- a fact follows from the tables: it is settled in every set that they hold nothing but settled facts of
 abbrev pub D : ℕ → Facts → Fact → Type 0

@@ -1,5 +1,4 @@
 -- What the code of the helpers computes is what their definitions say.
--- Assumes nothing.
 use mathlib.Core.Path.{_≡_, refl, sym, ap, _∙_}
 use mathlib.Core.Bool.{Bool, true, false, _&&_, _||_, not}
 use Prim.Native.Nat.{ℕ, _-_, _*_, _%_, _^_, _<_, _≤_}
@@ -10,9 +9,10 @@ use lib.Pow.{pow-mono, pow-pos}
 use lib.Bits.{bitOr, bitAnd, or-zero-r}
 use mir.Val.{Fits}
 use mir.Syntax.{w16, w64}
-use Rattle.meaning.specs.Finite.{_and_, _or_, neg, pick}
-use Rattle.rowbits.specs.Bit.{bit}
-use Rattle.settle.specs.Rows.{gained, meets, clashing, merged, spanned}
+use Rattle.tables.proofs.Helpers.{and-is, not-is, or-is, pick-on, pick-off}
+use Rattle.meaning.specs.Finite.{_and_, neg, pick}
+use Rattle.tables.specs.Rows.{meets}
+use Rattle.settle.specs.Rows.{merged, spanned}
 
 pub four : (a b c d : Bool) → (((a && not b) && not c) && not d) ≡ (a and neg b and neg c and neg d)
 unfolding _and_ neg

@@ -10,8 +10,9 @@ use native.Mathlib.Omega.{arith}
 use lib.ListN.{getD, set, length, length-set, replicate}
 use lib.Seq.{getD-set-same, getD-set-other}
 use Rattle.meaning.specs.Finite.{Yes}
+use Rattle.meaning.proofs.Tests.{yes-eq}
 use Rattle.rowbits.specs.Bit.{bit}
-use Rattle.tables.specs.Tables.{row}
+use Rattle.tables.specs.Tables.{row, Columns}
 use Rattle.tables.specs.Rows.{Gathers, Transposed, Raised, marked, gained}
 use Rattle.tables.proofs.Bits.{gained-up, gained-has, gained-case, one-is, one-has, none-in}
 use lib.Bits.{bitOr, bitXor, and-zero-r}
@@ -76,6 +77,9 @@ transposing-more t y a x b l s w = record { long = s .long; columns = λ k h. ga
 
 pub transposed : (t : List ℕ) (y : ℕ) (a : List ℕ) → 16 ≤ y → Transposing t y a → Transposed t a
 transposed t y a h w = record { columns = λ x l. gather-all _ y _ h (w .columns x l) }
+
+pub transposed-columns : {t r : List ℕ} → Transposed t r → Columns t r
+transposed-columns w x y hx hy = yes-eq _ _ (w .columns y hy .from x) (w .columns y hy .to x hx)
 
 pub zeros : (n x : ℕ) → row (replicate n 0) x ≡ 0
 zeros zero x = refl

@@ -1,0 +1,22 @@
+use Rattle.tables.proofs.Helpers.{not-is}
+use Rattle.settle.specs.Rows.{grouped}
+use borrow.Author.Needs.{needs}
+use Rattle.settle.proofs.group.Statement.{statement}
+use Rattle.settle.proofs.group.Tie as tie
+use Rattle.settle.proofs.group.Reads as reads
+use Rattle.settle.proofs.group.Lts as lts
+use Rattle.tables.proofs.gain.Reads as gain-reads
+use Rattle.tables.proofs.one.Reads as one-reads
+
+one-requires : tie.Need-one-requires
+one-requires c κs = search needs
+
+gain-requires : tie.Need-gain-requires
+gain-requires c κs = search needs
+
+returns : tie.Need-returns
+unfolding grouped
+returns c = rw (c .gain .ensures, c .before .one .ensures, not-is)
+
+pub group-spec : {M : Type 1} → statement M
+group-spec = tie.close (tie.spec one-requires gain-requires returns)
