@@ -200,6 +200,10 @@ in-row a i h u = go (decLt i 16)
 
 -- ---- what is in one row and not in another
 
+pub without-is : (a b : ℕ) → without a b ≡ bitAnd a (bitXor b 65535)
+unfolding without
+without-is a b = refl
+
 pub without-in : (a b i : ℕ) → i < 16 → Yes (bit a i) → ¬ Yes (bit b i) → Yes (bit (without a b) i)
 unfolding without
 without-in a b i h u v = both-in a (bitXor b 65535) i u (flip-has b i h v)
@@ -207,3 +211,12 @@ without-in a b i h u v = both-in a (bitXor b 65535) i u (flip-has b i h v)
 pub without-out : (a b i : ℕ) → i < 16 → Yes (bit (without a b) i) → Yes (bit a i) × (¬ Yes (bit b i))
 unfolding without
 without-out a b i h u = let q = in-both a (bitXor b 65535) i u in (q .0, flip-not b i h (q .1))
+
+-- a row is less without one of its numbers
+pub without-less : (a j : ℕ) → j < 16 → Yes (bit a j) → without a (2 ^ j) < a
+unfolding without
+without-less a j h u = go (ℕ-discrete (bitAnd a (bitXor (2 ^ j) 65535)) a)
+  where
+    go : Dec (bitAnd a (bitXor (2 ^ j) 65535) ≡ a) → bitAnd a (bitXor (2 ^ j) 65535) < a
+    go (yes e) = absurd (flip-not (2 ^ j) j h (in-both a (bitXor (2 ^ j) 65535) j (subst (λ (k : ℕ). Yes (bit k j)) (sym e) u) .1) (one-has j))
+    go (no e) = let l = and-le-l a (bitXor (2 ^ j) 65535) in omega arith

@@ -13,8 +13,8 @@ use Rattle.meaning.specs.Finite.{Yes}
 use Rattle.meaning.proofs.Tests.{yes-eq}
 use Rattle.rowbits.specs.Bit.{bit}
 use Rattle.tables.specs.Tables.{row, Columns}
-use Rattle.tables.specs.Rows.{Gathers, Transposed, Raised, marked, gained}
-use Rattle.tables.proofs.Bits.{gained-up, gained-has, gained-case, one-is, one-has, none-in}
+use Rattle.tables.specs.Rows.{Gathers, Transposed, Raised, marked, gained, Lowest}
+use Rattle.tables.proofs.Bits.{gained-up, gained-has, gained-case, one-is, one-has, none-in, some-in, in-row}
 use lib.Bits.{bitOr, bitXor, and-zero-r}
 
 pub below-cases : {k y : ℕ} → k < y + 1 → (k ≡ y) ⊎ (k < y)
@@ -91,3 +91,10 @@ was-raised t which by x r h h2 w = record { within = λ k l. w .done k (le-trans
 
 pub not-below-more : (p : ℕ → Bool) (i : ℕ) → ((k : ℕ) → k < i → ¬ Yes (p k)) → ¬ Yes (p i) → (k : ℕ) → k < i + 1 → ¬ Yes (p k)
 not-below-more p i h n k l u = ⊎-elim (λ e. n (subst (λ (j : ℕ). Yes (p j)) e u)) (λ m. h k m u) (below-cases l)
+
+pub lowest-is : (a k : ℕ) → a < 65536 → a ≢ 0 → Lowest a k → k < 16
+lowest-is a k h z w = go (decLt k 16)
+  where
+    go : Dec (k < 16) → k < 16
+    go (yes l) = l
+    go (no l) = let q = some-in a h z in absurd (w .none (q .0) (le-trans (in-row a (q .0) h (q .1)) (omega arith)) (q .1))
