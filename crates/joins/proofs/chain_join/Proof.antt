@@ -1,12 +1,12 @@
 -- The outer loop has passed no z with a chain join, the inner one no x above z.
 use mathlib.Core.Path.{subst, sym, ap, _∙_}
-use Prim.Native.Nat.{ℕ, _^_, _≤_, _<_, _-_}
+use Prim.Native.Nat.{ℕ, _≤_, _<_, _-_}
 use native.Mathlib.Nat.{not-suc-le-zero}
 use Rattle.meaning.specs.FixedSearch.{chain-join}
 use Rattle.theory.specs.Search.{isChainJoin}
 use Rattle.tables.specs.Rows.{Lowest, without}
 use Rattle.tables.proofs.Bits.{without-less}
-use Rattle.tables.proofs.Loops.{lowest-is}
+use Rattle.tables.proofs.Bits.{lowest-is}
 use Rattle.joins.specs.Found.{joinOf}
 use Rattle.joins.proofs.First.{NoneBefore, none-more, Walking, walk-none, walk-more, walk-done, chain-named, chain-first, none-first}
 use borrow.Author.Needs.{needs}
@@ -117,9 +117,11 @@ loop-less c = search needs
 
 loop-again : tie.Need-loop-again Inv-loop2 μ-loop2 Inv-loop μ-loop
 loop-again c =
-    let i = c .before .before .before in
-    (search needs, none-more isChainJoin _ _ _ (i .before .loop .inv .1)
-    (walk-done _ (i .before .before .before .pre) _ _ (i .before .before .all .ensures) _ (i .loop-test .taken) _ (c .loop2-test .left) (c .before .loop2 .inv)))
+    let i = c .before .before .before in (
+      search needs,
+      none-more isChainJoin _ _ _ (i .before .loop .inv .1)
+          (walk-done _ (i .before .before .before .pre) _ _ (i .before .before .all .ensures) _ (i .loop-test .taken) _ (c .loop2-test .left) (c .before .loop2 .inv)),
+    )
 
 returns-2 : tie.Need-returns-2 Inv-loop2 μ-loop2 Inv-loop μ-loop
 unfolding joinOf
