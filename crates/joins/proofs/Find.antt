@@ -4,7 +4,7 @@ use mathlib.Core.Logic.{⊎-elim}
 use mathlib.Core.Bool.{Bool, true, false, false≢true}
 use mathlib.Core.Option.{Option, none, some}
 use Prim.Native.Nat.{ℕ, zero, suc, _<_}
-use native.Mathlib.Nat.{le-refl, le-trans, le-step, le-of-lt, not-suc-le-zero}
+use native.Mathlib.Nat.{le-refl, le-step, not-suc-le-zero}
 use Rattle.meaning.specs.Tree.{Var}
 use Rattle.meaning.specs.Finite.{Yes}
 use Rattle.meaning.specs.FixedSearch.{Join}

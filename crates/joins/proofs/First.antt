@@ -1,23 +1,22 @@
 -- A join is read from the rows of z, x and y. With the parents of z all the same, any of them, y, tells whether x makes a parent join; the
 -- smaller of two variables that are apart is met first, so a chain join is found from its x.
 use mathlib.Core.Path.{_≡_, refl, sym, ap, _∙_, subst}
-use mathlib.Core.Logic.{_≢_, _⊎_, inl, inr, ⊎-elim}
-use mathlib.Core.Bool.{Bool, true, false, false≢true}
+use mathlib.Core.Logic.{_⊎_, ⊎-elim}
+use mathlib.Core.Bool.{Bool}
 use mathlib.Core.List.{List}
 use mathlib.Core.Option.{Option, none, some}
 use Prim.Native.Nat.{ℕ, _+_, _-_, _^_, _<_, _≤_}
 use native.Mathlib.Nat.{le-trans, le-of-lt}
 use native.Mathlib.Decide.{decLt, ℕ-discrete}
 use native.Mathlib.Omega.{arith}
-use lib.Dec.{ltb}
 use lib.Bits.{bitAnd, bitOr, bitXor, and-le-l, and-le-r}
 use Rattle.meaning.specs.Tree.{Var}
 use Rattle.meaning.specs.Constraint.{Fact, child, below}
-use Rattle.meaning.specs.Settled.{Settled, self-below, chain, one-parent}
-use Rattle.meaning.specs.Finite.{Yes, _and_, neg}
+use Rattle.meaning.specs.Settled.{self-below, chain, one-parent}
+use Rattle.meaning.specs.Finite.{Yes}
 use Rattle.meaning.specs.ReadOff.{FactSet, same}
 use Rattle.meaning.specs.FixedSearch.{Join, parent-join, chain-join}
-use Rattle.meaning.proofs.Tests.{clash, yes-case, and-left, and-right, and-both, no-neg, is-lt, lt-yes}
+use Rattle.meaning.proofs.Tests.{clash, and-left, and-right, and-both, no-neg, is-lt, lt-yes}
 use Rattle.theory.specs.Find.{orElse}
 use Rattle.theory.specs.Search.{isParentJoin, isChainJoin, firstOf, firstJoin}
 use Rattle.rowbits.specs.Bit.{bit}
@@ -89,7 +88,7 @@ module _ (n : ℕ) (small : n ≤ 16) (S : List Fact) (f : Facts) (r : Ready n S
         and-both (p .parent) (and-both (sym (above-is x z hx hz) ∙ p .above)
         (and-both (no-neg (λ s. p .not-below (below-is z x ∙ and-right _ s))) (no-neg (p .not-above))))
 
-  -- ---- a chain join
+    -- ---- a chain join
 
     record ChainParts : Type 0 where
       ordered : x < y

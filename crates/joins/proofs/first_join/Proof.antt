@@ -89,13 +89,15 @@ loop-less c = search needs
 loop-again : tie.Need-loop-again Inv-loop μ-loop
 loop-again c =
     let l = c .before in
-    let i = l .before .before in
-    (search needs, none-more isParentJoin _ _ _ (i .before .loop .inv .1)
-    (⊎-elim
-    (λ w. none-without-x _ (i .before .before .before .pre) _ _ (i .before .before .all .ensures) _ (i .loop-test .taken) _ (l .lowest .ensures) (w .0 .taken) _
-    (subst (λ (k : ℕ). Lowest k (w .5 .result)) (w .4 .ensures) (w .5 .ensures)) (w .6 .left))
-    (λ w. none-without-parent _ (i .before .before .before .pre) _ _ (i .before .before .all .ensures) _ (i .loop-test .taken) _ (l .lowest .ensures) (w .left))
-    (c .if1 .came)))
+    let i = l .before .before in (
+      search needs,
+      none-more isParentJoin _ _ _ (i .before .loop .inv .1)
+          (⊎-elim
+          (λ w. none-without-x _ (i .before .before .before .pre) _ _ (i .before .before .all .ensures) _ (i .loop-test .taken) _ (l .lowest .ensures) (w .0 .taken) _
+          (subst (λ (k : ℕ). Lowest k (w .5 .result)) (w .4 .ensures) (w .5 .ensures)) (w .6 .left))
+          (λ w. none-without-parent _ (i .before .before .before .pre) _ _ (i .before .before .all .ensures) _ (i .loop-test .taken) _ (l .lowest .ensures) (w .left))
+          (c .if1 .came)),
+    )
 
 chain-join-requires : tie.Need-chain-join-requires Inv-loop μ-loop
 chain-join-requires c κs = search needs
