@@ -16,7 +16,10 @@ fn by_settling(f: Facts, n: usize, a: usize, b: usize) -> Settled
     g.below[a] = tables::mark(true, row, b);
     let r = settle::settle(g, n);
     if r.clash {
-        return Settled { clash: true, facts: f };
+        return Settled {
+            clash: true,
+            facts: f,
+        };
     }
     r
 }
@@ -41,5 +44,8 @@ pub fn enter_below(f: Facts, n: usize, a: Var, b: Var) -> Settled
     let above = tables::raise(columns, down, up);
     g.below = below;
     g.above = above;
-    Settled { clash: false, facts: g }
+    Settled {
+        clash: false,
+        facts: g,
+    }
 }

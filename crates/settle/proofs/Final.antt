@@ -1,10 +1,10 @@
 -- A pass that changes nothing leaves tables that are closed under every rule, so they decide the settled set. The passes end because
 -- the sum of all numbers of the tables grows.
-use mathlib.Core.Path.{_≡_, refl, sym, ap, _∙_, subst}
-use mathlib.Core.Logic.{_≢_, _⊎_, inl, inr, ⊎-elim}
-use mathlib.Core.Bool.{Bool, true, false, false≢true}
-use mathlib.Core.List.{List, List·Memᴰ}
-use Prim.Native.Nat.{ℕ, zero, suc, _+_, _<_, _≤_}
+use mathlib.Core.Path.{_≡_, refl, sym, _∙_, subst}
+use mathlib.Core.Logic.{_≢_}
+use mathlib.Core.Bool.{true, false, false≢true}
+use mathlib.Core.List.{List}
+use Prim.Native.Nat.{ℕ, _+_, _≤_}
 use native.Mathlib.Decide.{ℕ-discrete}
 use Rattle.meaning.specs.ReadOff.{Decides}
 use Rattle.meaning.proofs.Rules.{Rules}
@@ -13,9 +13,9 @@ use Rattle.theory.proofs.Closure.{rules-decide}
 use Rattle.tables.specs.Rows.{Transposed}
 use Rattle.tables.proofs.Loops.{transposed-columns}
 use Rattle.meaning.specs.Constraint.{Fact, child, below, differ, root, leaf, label}
-use Rattle.meaning.specs.Settled.{Settled, given, Clash, differs, labels, child-below, child-differ, self-below, chain, root-below, leaf-below, one-parent, differ-back, same-parent, same-child, same-differ, same-root, same-leaf, same-label}
+use Rattle.meaning.specs.Settled.{Clash, differs, labels, child-below, child-differ, self-below, chain, root-below, leaf-below, one-parent, differ-back, same-parent, same-child, same-differ, same-root, same-leaf, same-label}
 use Rattle.meaning.specs.Finite.{Yes}
-use Rattle.meaning.proofs.Facts.{Within, Inside}
+use Rattle.meaning.proofs.Facts.{Within}
 use Rattle.rowbits.specs.Bit.{bit}
 use Rattle.tables.specs.Tables.{has, Sound, Seeded}
 use Rattle.settle.specs.Pass.{Same, Gone, total}
@@ -97,7 +97,14 @@ module _ (n : ℕ) (S : List Fact) (f g h : Facts) (old diff new : ℕ) (seed : 
 
 abbrev pub with-mirrors : Facts → List ℕ → List ℕ → Facts
 with-mirrors h parent above = record {
-  child = h .child; parent = parent; below = h .below; above = above; differ = h .differ; root = h .root; leaf = h .leaf; label = h .label;
+  child = h .child;
+  parent = parent;
+  below = h .below;
+  above = above;
+  differ = h .differ;
+  root = h .root;
+  leaf = h .leaf;
+  label = h .label;
 }
 
 -- no fact is read from them

@@ -1,16 +1,13 @@
 -- What follows from tables, and labels that stay.
-use mathlib.Core.Path.{_≡_, refl, sym, ap, _∙_, subst}
-use mathlib.Core.Logic.{_≢_, _⊎_, inl, inr, ⊎-elim}
-use mathlib.Core.Bool.{Bool, true, false, false≢true}
+use mathlib.Core.Path.{_≡_, refl, _∙_}
+use mathlib.Core.Logic.{_≢_}
 use mathlib.Core.List.{List}
-use Prim.Native.Nat.{ℕ, zero, suc, _+_, _<_, _≤_}
+use Prim.Native.Nat.{ℕ, _≤_}
 use native.Mathlib.Nat.{le-refl, le-trans}
 use native.Mathlib.Omega.{arith}
-use lib.ListN.{length}
-use lib.Dec.{eqb}
-use Rattle.meaning.specs.Constraint.{Fact, label}
+use Rattle.meaning.specs.Constraint.{Fact}
 use Rattle.meaning.specs.Settled.{Settled}
-use Rattle.meaning.specs.Finite.{Yes, _and_}
+use Rattle.meaning.specs.Finite.{Yes}
 use Rattle.tables.specs.Tables.{has, Sound}
 use Rattle.tables.specs.declared.Facts.{Facts}
 

@@ -1,14 +1,9 @@
 -- What the code of the helpers computes is what their definitions say.
-use mathlib.Core.Path.{_≡_, refl, sym, ap, _∙_}
+use mathlib.Core.Path.{_≡_, refl}
 use mathlib.Core.Bool.{Bool, true, false, _&&_, _||_, not}
-use Prim.Native.Nat.{ℕ, _-_, _*_, _%_, _^_, _<_, _≤_}
-use native.Mathlib.Nat.{one-mul, mod-eq-of-lt, le-trans}
-use native.Mathlib.Omega.{arith}
+use Prim.Native.Nat.{ℕ, _-_, _^_}
 use lib.Dec.{eqb}
-use lib.Pow.{pow-mono, pow-pos}
-use lib.Bits.{bitOr, bitAnd, or-zero-r}
-use mir.Val.{Fits}
-use mir.Syntax.{w16, w64}
+use lib.Bits.{bitOr}
 use Rattle.tables.proofs.Helpers.{and-is, not-is, or-is, pick-on, pick-off}
 use Rattle.meaning.specs.Finite.{_and_, neg, pick}
 use Rattle.tables.specs.Rows.{meets}

@@ -3,17 +3,17 @@ use mathlib.Core.Path.{_≡_, refl, sym, ap, _∙_, subst}
 use mathlib.Core.Logic.{_≢_, _⊎_, inl, inr, ⊎-elim}
 use mathlib.Core.Bool.{Bool, true, false, false≢true}
 use mathlib.Core.List.{List}
-use Prim.Native.Nat.{ℕ, zero, suc, _+_, _*_, _^_, _<_, _≤_, zero-le, suc-le-suc}
+use Prim.Native.Nat.{ℕ, _+_, _*_, _^_, _<_, _≤_, zero-le, suc-le-suc}
 use native.Mathlib.Nat.{le-refl, le-trans, not-suc-le-zero}
 use native.Mathlib.Decide.{decLt, ℕ-discrete}
 use native.Mathlib.Omega.{arith}
 use lib.Dec.{eqb}
-use lib.ListN.{getD, set, length, length-set}
-use lib.Seq.{getD-set-same, getD-set-other}
-use lib.Bits.{bitOr, bitAnd, bitXor, or-lt, and-lt, and-le-l, and-le-r, or-self, xor-self}
+use lib.ListN.{set}
+use lib.Seq.{getD-set-other}
+use lib.Bits.{bitOr, bitAnd, bitXor, or-lt, and-le-r, xor-self}
 use Rattle.meaning.specs.Constraint.{Fact, child, below, differ, root, leaf, label}
-use Rattle.meaning.specs.Settled.{Settled, Clash, labels, chain, same-root, same-leaf}
-use Rattle.meaning.specs.Finite.{Yes, _and_, _or_, neg, pick, sum}
+use Rattle.meaning.specs.Settled.{Settled, Clash, same-root, same-leaf}
+use Rattle.meaning.specs.Finite.{Yes, _or_, neg, pick, sum}
 use Rattle.meaning.proofs.Tests.{clash, yes-case, or-left, or-right, no-neg, is-eq, pick-yes}
 use Rattle.meaning.proofs.Finite.{sum-le, sum-lt, sum-bound}
 use Rattle.meaning.proofs.Facts.{Within}
@@ -26,7 +26,7 @@ use Rattle.tables.specs.declared.Facts.{Facts}
 use Rattle.tables.proofs.Bits.{or-l, or-r, in-both, both-in, up-or, up-self, up-trans, gained-up, gained-has, gained-case, gained-small, one-is, one-has, one-small, meets-in, meets-out, xor-zero, or-zero}
 use Rattle.tables.proofs.Loops.{below-cases}
 use Rattle.tables.proofs.Shape.{set-same, set-rows, set-case, Rows, Shape, label-has, label-is}
-use Rattle.settle.proofs.Grown.{D, have, LUp, lup-self, lup-trans}
+use Rattle.settle.proofs.Grown.{D, LUp, lup-self, lup-trans}
 use Rattle.settle.proofs.Visit.{up-s, below-s, differ-s₀, Visiting}
 
 -- ---- one table above another
@@ -41,7 +41,12 @@ pub record Above (f g : Facts) : Type 0 where
 
 pub above-self : (f : Facts) → Above f f
 above-self f = record {
-  child = λ x. up-self _; below = λ x. up-self _; differ = λ x. up-self _; label = λ x. lup-self _; root = up-self _; leaf = up-self _;
+  child = λ x. up-self _;
+  below = λ x. up-self _;
+  differ = λ x. up-self _;
+  label = λ x. lup-self _;
+  root = up-self _;
+  leaf = up-self _;
 }
 
 pub above-trans : {f g h : Facts} → Above f g → Above g h → Above f h
@@ -449,16 +454,22 @@ module _ (n : ℕ) (small : n ≤ 16) (m : ℕ) (f : Facts) (x : ℕ) (hx : x < 
       where
         o : Quiet m f x g groups
         o = p .still z
+
         r : Equal f g x
         r = p .rest x (le-refl _)
+
         bx : row (set (g .below) x b) x ≡ b
         bx = set-same (g .below) x b (p .shape .below) l16
+
         cx : row (set (g .child) x c) x ≡ c
         cx = set-same (g .child) x c (p .shape .child) l16
+
         dx : row (set (g .differ) x d) x ≡ d
         dx = set-same (g .differ) x d (p .shape .differ) l16
+
         lx : row (set (g .label) x l) x ≡ l
         lx = set-same (g .label) x l (p .shape .label) l16
+
         go : Dec (weight f x < weight g' x) → sum 16 (weight f) + f .root + f .leaf + m < sum 16 (weight g') + rt + lf + now
         go (yes h) =
             let s : sum 16 (weight f) < sum 16 (weight g') = sum-lt 16 _ _ (λ k i. weight-up f g' above' k) x l16 h in
@@ -540,7 +551,12 @@ module _ (n m : ℕ) (f : Facts) (closed : List ℕ) (w : Shape f) (wc : Rows cl
 
   first-above : Above f chained-facts
   first-above = record {
-    child = λ x. up-self _; below = ch .up; differ = λ x. up-self _; label = λ x. lup-self _; root = up-self _; leaf = up-self _;
+    child = λ x. up-self _;
+    below = ch .up;
+    differ = λ x. up-self _;
+    label = λ x. lup-self _;
+    root = up-self _;
+    leaf = up-self _;
   }
 
   first-base : (k : ℕ) → k < n → Base n f k chained-facts

@@ -1,17 +1,17 @@
 -- What the loops over y and z know of row x: all that was added follows from the tables, and what row y gives is there.
-use mathlib.Core.Path.{_≡_, refl, sym, ap, _∙_, subst}
+use mathlib.Core.Path.{_≡_, refl, sym, _∙_, subst}
 use mathlib.Core.Logic.{_≢_, _⊎_, inl, inr, ⊎-elim}
 use mathlib.Core.Bool.{Bool, true, false, false≢true}
 use mathlib.Core.List.{List}
-use Prim.Native.Nat.{ℕ, zero, suc, _+_, _^_, _<_, _≤_, zero-le}
+use Prim.Native.Nat.{ℕ, _+_, _^_, _<_, _≤_, zero-le}
 use native.Mathlib.Nat.{le-refl, le-trans, not-suc-le-zero}
-use native.Mathlib.Decide.{decLt, ℕ-discrete}
+use native.Mathlib.Decide.{ℕ-discrete}
 use native.Mathlib.Omega.{arith}
 use lib.Dec.{eqb}
 use lib.Bits.{bitOr, bitAnd, or-lt}
 use Rattle.meaning.specs.Constraint.{Fact, child, below, differ, leaf, label}
 use Rattle.meaning.specs.Settled.{Settled, Clash, labels, child-differ, leaf-below, one-parent, differ-back, same-parent, same-child, same-differ, same-label}
-use Rattle.meaning.specs.Finite.{Yes, _and_, _or_, pick}
+use Rattle.meaning.specs.Finite.{Yes, _and_, pick}
 use Rattle.meaning.proofs.Tests.{clash, yes-case, and-left, and-right, and-both, no-neg, is-eq, eq-yes, pick-yes, pick-no}
 use Rattle.rowbits.specs.Bit.{bit}
 use Rattle.tables.specs.Tables.{row, has, Sound}
@@ -129,7 +129,12 @@ module _ (n : ℕ) (g : Facts) (x y : ℕ) (hc : Bool) (c₀ d₀ z c d v c' : �
 
 pub sharing-none : (n : ℕ) (g : Facts) (x y : ℕ) (hc : Bool) (c d : ℕ) → c < 65536 → d < 65536 → ((i : ℕ) → Yes (bit c i) → D n g (child x i)) → ((i : ℕ) → Yes (bit d i) → D n g (differ x i)) → Sharing n g x y hc c d 0 c d
 sharing-none n g x y hc c d hc' hd cs ds = record {
-  child-up = up-self _; differ-up = up-self _; child-small = hc'; differ-small = hd; child-s = cs; differ-s = ds;
+  child-up = up-self _;
+  differ-up = up-self _;
+  child-small = hc';
+  differ-small = hd;
+  child-s = cs;
+  differ-s = ds;
   shared = λ k l. absurd (not-suc-le-zero l);
 }
 
@@ -154,17 +159,29 @@ pub visiting-none : (n : ℕ) (g : Facts) (groups same x c d l : ℕ) → c < 65
     → ((i : ℕ) → Yes (bit c i) → D n g (child x i)) → ((i : ℕ) → Yes (bit d i) → D n g (differ x i)) → (l ≢ 0 → D n g (label x l))
     → Visiting n g groups same x c d l 0 c d l
 visiting-none n g groups same x c d l hc hd hl cs ds ls = record {
-  child-up = up-self _; differ-up = up-self _; label-up = lup-self _;
-  child-small = hc; differ-small = hd; label-small = hl; child-s = cs; differ-s = ds; label-s = ls;
-  children = λ k i h. absurd (not-suc-le-zero h); named = λ k h. absurd (not-suc-le-zero h); columns = λ k z h. absurd (not-suc-le-zero h);
+  child-up = up-self _;
+  differ-up = up-self _;
+  label-up = lup-self _;
+  child-small = hc;
+  differ-small = hd;
+  label-small = hl;
+  child-s = cs;
+  differ-s = ds;
+  label-s = ls;
+  children = λ k i h. absurd (not-suc-le-zero h);
+  named = λ k h. absurd (not-suc-le-zero h);
+  columns = λ k z h. absurd (not-suc-le-zero h);
 }
 
 -- two labels: none, or a clash
 clashing-out : (t : Bool) (l m : ℕ) → Yes (clashing t l m) → Yes t × (l ≢ 0) × (m ≢ 0) × (l ≢ m)
 unfolding clashing
-clashing-out t l m u =
-    (and-left _ u, (λ e. clash (eq-yes e) (and-left _ (and-right _ u))), (λ e. clash (eq-yes e) (and-left _ (and-right _ (and-right _ u)))),
-    (λ e. clash (eq-yes e) (and-right _ (and-right _ (and-right _ u)))))
+clashing-out t l m u = (
+  and-left _ u,
+  (λ e. clash (eq-yes e) (and-left _ (and-right _ u))),
+  (λ e. clash (eq-yes e) (and-left _ (and-right _ (and-right _ u)))),
+  (λ e. clash (eq-yes e) (and-right _ (and-right _ (and-right _ u)))),
+)
 
 no-clashing : (t : Bool) (l m : ℕ) → clashing t l m ≡ false → Yes t → l ≢ 0 → m ≢ 0 → l ≡ m
 unfolding clashing
@@ -266,8 +283,9 @@ module _ (n : ℕ) (g : Facts) (w : Shape g) (groups same x c₀ d₀ l₀ y c d
         at k i e hi gk p q =
             let gy = subst (λ (j : ℕ). Yes (bit groups j)) e gk in
             let p' = subst (λ (j : ℕ). Yes (bit (row (g .below) j) i)) e p in
-            let q' = subst (λ (j : ℕ). Yes (bit (row (g .below) i) j)) e q in
-            ((λ u. let cy : Yes (bit c' y) = c-up' .kept y (v .child-up .kept y (subst (λ (j : ℕ). Yes (bit c₀ j)) e u)) in
-            r .shared i (le-trans hi (whole (or-l c' d y cy) gy)) p' q' .0 (eh ∙ cy)),
-            (λ u. let dy : Yes (bit d y) = v .differ-up .kept y (subst (λ (j : ℕ). Yes (bit d₀ j)) e u) in
-            r .shared i (le-trans hi (whole (or-r c' d y dy) gy)) p' q' .1))
+            let q' = subst (λ (j : ℕ). Yes (bit (row (g .below) i) j)) e q in (
+              (λ u. let cy : Yes (bit c' y) = c-up' .kept y (v .child-up .kept y (subst (λ (j : ℕ). Yes (bit c₀ j)) e u)) in
+                  r .shared i (le-trans hi (whole (or-l c' d y cy) gy)) p' q' .0 (eh ∙ cy)),
+              (λ u. let dy : Yes (bit d y) = v .differ-up .kept y (subst (λ (j : ℕ). Yes (bit d₀ j)) e u) in
+                  r .shared i (le-trans hi (whole (or-r c' d y dy) gy)) p' q' .1),
+            )

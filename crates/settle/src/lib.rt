@@ -13,7 +13,11 @@ fn first_row(below: u16, child: u16, root: u16, x: usize, n: usize) -> u16
     requires { ⌜ (x < 16) × (n ≤ 16) ⌝ }
     ensures { λ r. ⌜ r ≡ firstRow below child root x n ⌝ }
 {
-    tables::gain(rowbits::has(root, x), below | child | tables::one(x), tables::all(n))
+    tables::gain(
+        rowbits::has(root, x),
+        below | child | tables::one(x),
+        tables::all(n),
+    )
 }
 
 fn twins(by: u16, bz: u16, y: usize, z: usize) -> u16
@@ -198,7 +202,12 @@ fn pass(f: Facts, n: usize, m: u16) -> Passed
         g.leaf = leaf;
         groups = now;
     }
-    Passed { clash, diff, groups, facts: g }
+    Passed {
+        clash,
+        diff,
+        groups,
+        facts: g,
+    }
 }
 
 pub struct Settled {
@@ -216,7 +225,10 @@ pub fn settle(f: Facts, n: usize) -> Settled
     loop {
         let p = pass(g, n, groups);
         if p.clash {
-            return Settled { clash: true, facts: f };
+            return Settled {
+                clash: true,
+                facts: f,
+            };
         }
         g = p.facts;
         groups = p.groups;
@@ -227,7 +239,10 @@ pub fn settle(f: Facts, n: usize) -> Settled
             let above = tables::transpose(below);
             g.parent = parent;
             g.above = above;
-            return Settled { clash: false, facts: g };
+            return Settled {
+                clash: false,
+                facts: g,
+            };
         }
     }
 }

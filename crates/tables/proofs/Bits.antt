@@ -2,18 +2,19 @@
 use mathlib.Core.Path.{_≡_, refl, sym, ap, _∙_, subst}
 use mathlib.Core.Logic.{_≢_, _⊎_, inl, inr, ⊎-elim}
 use mathlib.Core.Bool.{Bool, true, false, _||_, _&&_, false≢true}
-use Prim.Native.Nat.{ℕ, zero, suc, _+_, _-_, _*_, _/_, _%_, _^_, _<_, _≤_, zero-le}
-use native.Mathlib.Nat.{le-refl, le-trans, mod-lt, zero-lt-suc, div-eq-of-lt, pow-suc, mod-eq-of-lt, div-div-eq-div-mul, mul-comm, mul-add-mod-self-right}
+use Prim.Native.Nat.{ℕ, zero, suc, _-_, _*_, _/_, _%_, _^_, _<_, _≤_}
+use native.Mathlib.Nat.{le-of-suc-le-suc, not-suc-le-zero, le-refl, le-trans, mod-lt, zero-lt-suc, div-eq-of-lt, pow-suc, mod-eq-of-lt, div-div-eq-div-mul, mul-comm, mul-add-mod-self-right}
 use native.Mathlib.Decide.{decLt, ℕ-discrete}
 use native.Mathlib.Omega.{arith}
 use lib.Dec.{eqb}
-use lib.Bits.{bitOr, bitAnd, bitXor, or-add-and, and-le-l, and-le-r, or-lt, and-lt, or-zero-r, and-mask, xor-add-and, xor-self, or-self, xor-shr, xor-step, differ as bitDiffer}
+use lib.Bits.{bitOr, bitAnd, bitXor, or-add-and, and-le-l, and-le-r, or-lt, and-mask, xor-add-and, xor-shr, xor-step, differ as bitDiffer}
+use lib.Count.{trailingZeros, under, trailing-le}
 use lib.Pow.{pow-mono, pow-pos, pow-lt}
-use Rattle.meaning.specs.Finite.{Yes, _and_, pick}
+use Rattle.meaning.specs.Finite.{Yes, pick}
 use Rattle.meaning.proofs.Tests.{clash, no-neg, is-eq, self-eq, eq-yes}
 use Rattle.rowbits.specs.Bit.{bit}
 use Rattle.rowbits.proofs.Laws.{bit-or, bit-and, bit-one, bit-none}
-use Rattle.tables.specs.Rows.{Up, gained, meets, without}
+use Rattle.tables.specs.Rows.{Up, Lowest, gained, meets, without}
 
 -- ---- a union, a meet, one number
 
@@ -96,10 +97,12 @@ one-small y h = pow-lt {i = y} {j = 16} h
 
 -- ---- some number in a row
 
-next : (a i : ℕ) → Yes (eqb (a / 2 / 2 ^ i % 2) 1) → Yes (eqb (a / 2 ^ suc i % 2) 1)
-next a i t =
+-- the digits above the lowest
+bit-half : (a i : ℕ) → bit (a / 2) i ≡ bit a (suc i)
+unfolding bit
+bit-half a i =
     let e : a / 2 / 2 ^ i ≡ a / 2 ^ suc i = div-div-eq-div-mul a 2 (2 ^ i) ∙ ap (λ (k : ℕ). a / k) (mul-comm 2 (2 ^ i) ∙ sym (pow-suc 2 i)) in
-    subst (λ (k : ℕ). Yes (eqb (k % 2) 1)) e t
+    ap (λ (k : ℕ). eqb (k % 2) 1) e
 
 half : (k a : ℕ) → a < 2 ^ suc k → a / 2 < 2 ^ k
 half k a h = let p : 2 ^ suc k ≡ 2 ^ k * 2 = pow-suc 2 k in omega arith
@@ -111,7 +114,7 @@ some (suc k) a h z = go (ℕ-discrete (a % 2) 1) (λ q. some k (a / 2) (half k a
   where
     go : Dec (a % 2 ≡ 1) → (a / 2 ≢ 0 → (i : ℕ) × Yes (eqb (a / 2 / 2 ^ i % 2) 1)) → (i : ℕ) × Yes (eqb (a / 2 ^ i % 2) 1)
     go (yes e) r = (0, eq-yes {x = a / 2 ^ 0 % 2} {y = 1} (omega arith))
-    go (no e) r = let w = r (λ q. z (omega arith)) in (suc (w .0), next a (w .0) (w .1))
+    go (no e) r = let w = r (λ q. z (omega arith)) in (suc (w .0), sym (bit-half a (w .0)) ∙ w .1)
 
 pub meets-out : (a b : ℕ) → a < 65536 → Yes (meets a b) → (i : ℕ) × Yes (bit a i) × Yes (bit b i)
 unfolding meets
@@ -200,6 +203,10 @@ in-row a i h u = go (decLt i 16)
 
 -- ---- what is in one row and not in another
 
+pub without-is : (a b : ℕ) → without a b ≡ bitAnd a (bitXor b 65535)
+unfolding without
+without-is a b = refl
+
 pub without-in : (a b i : ℕ) → i < 16 → Yes (bit a i) → ¬ Yes (bit b i) → Yes (bit (without a b) i)
 unfolding without
 without-in a b i h u v = both-in a (bitXor b 65535) i u (flip-has b i h v)
@@ -207,3 +214,52 @@ without-in a b i h u v = both-in a (bitXor b 65535) i u (flip-has b i h v)
 pub without-out : (a b i : ℕ) → i < 16 → Yes (bit (without a b) i) → Yes (bit a i) × (¬ Yes (bit b i))
 unfolding without
 without-out a b i h u = let q = in-both a (bitXor b 65535) i u in (q .0, flip-not b i h (q .1))
+
+-- a row is less without one of its numbers
+pub without-less : (a j : ℕ) → j < 16 → Yes (bit a j) → without a (2 ^ j) < a
+unfolding without
+without-less a j h u = go (ℕ-discrete (bitAnd a (bitXor (2 ^ j) 65535)) a)
+  where
+    go : Dec (bitAnd a (bitXor (2 ^ j) 65535) ≡ a) → bitAnd a (bitXor (2 ^ j) 65535) < a
+    go (yes e) = absurd (flip-not (2 ^ j) j h (in-both a (bitXor (2 ^ j) 65535) j (subst (λ (k : ℕ). Yes (bit k j)) (sym e) u) .1) (one-has j))
+    go (no e) = let l = and-le-l a (bitXor (2 ^ j) 65535) in omega arith
+
+-- ---- the smallest number in a row
+
+digit-in : (a : ℕ) → a % 2 ≡ 1 → Yes (bit a 0)
+unfolding bit
+digit-in a e = eq-yes {x = a / 2 ^ 0 % 2} {y = 1} (omega arith)
+
+in-digit : (a : ℕ) → Yes (bit a 0) → a % 2 ≡ 1
+unfolding bit
+in-digit a u = let q : a / 2 ^ 0 % 2 ≡ 1 = is-eq u in omega arith
+
+trailing-none : (k a i : ℕ) → i < trailingZeros k a → ¬ Yes (bit a i)
+unfolding trailingZeros
+trailing-none zero a i h = absurd (not-suc-le-zero h)
+trailing-none (suc k) a i h = go (a % 2) refl i h (λ j. trailing-none k (a / 2) j)
+  where
+    go : (r : ℕ) → a % 2 ≡ r → (i : ℕ) → i < under r (trailingZeros k (a / 2)) → ((j : ℕ) → j < trailingZeros k (a / 2) → ¬ Yes (bit (a / 2) j)) → ¬ Yes (bit a i)
+    go zero e zero l rest u = let q = in-digit a u in omega arith
+    go zero e (suc i) l rest u = rest i (le-of-suc-le-suc l) (bit-half a i ∙ u)
+    go (suc r) e i l rest u = not-suc-le-zero l
+
+trailing-this : (k a : ℕ) → trailingZeros k a < k → Yes (bit a (trailingZeros k a))
+unfolding trailingZeros
+trailing-this zero a h = absurd (not-suc-le-zero h)
+trailing-this (suc k) a h = go (a % 2) refl h (trailing-this k (a / 2))
+  where
+    go : (r : ℕ) → a % 2 ≡ r → under r (trailingZeros k (a / 2)) < suc k
+        → (trailingZeros k (a / 2) < k → Yes (bit (a / 2) (trailingZeros k (a / 2)))) → Yes (bit a (under r (trailingZeros k (a / 2))))
+    go zero e l rest = sym (bit-half a (trailingZeros k (a / 2))) ∙ rest (le-of-suc-le-suc l)
+    go (suc r) e l rest = digit-in a (let d = mod-lt a (zero-lt-suc 1) in omega arith)
+
+pub lowest-of : (a : ℕ) → Lowest a (trailingZeros 16 a)
+lowest-of a = record { most = trailing-le 16 a; none = trailing-none 16 a; this = trailing-this 16 a }
+
+pub lowest-is : (a k : ℕ) → a < 65536 → a ≢ 0 → Lowest a k → k < 16
+lowest-is a k h z w = go (decLt k 16)
+  where
+    go : Dec (k < 16) → k < 16
+    go (yes l) = l
+    go (no l) = let q = some-in a h z in absurd (w .none (q .0) (le-trans (in-row a (q .0) h (q .1)) (omega arith)) (q .1))

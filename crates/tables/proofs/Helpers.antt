@@ -1,12 +1,11 @@
 -- What the code of the helpers computes is what their definitions say.
-use mathlib.Core.Path.{_≡_, refl, sym, ap, _∙_}
+use mathlib.Core.Path.{_≡_, refl, sym}
 use mathlib.Core.Bool.{Bool, true, false, _&&_, _||_, not}
 use Prim.Native.Nat.{ℕ, _-_, _*_, _%_, _^_, _<_, _≤_}
-use native.Mathlib.Nat.{one-mul, mod-eq-of-lt, le-trans}
+use native.Mathlib.Nat.{one-mul, mod-eq-of-lt}
 use native.Mathlib.Omega.{arith}
-use lib.Dec.{eqb}
 use lib.Pow.{pow-mono, pow-pos}
-use lib.Bits.{bitOr, bitAnd, or-zero-r}
+use lib.Bits.{bitOr, or-zero-r}
 use mir.Val.{Fits}
 use mir.Syntax.{w16, w64}
 use Rattle.meaning.specs.Finite.{_and_, _or_, neg, pick}

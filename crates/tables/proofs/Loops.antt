@@ -1,13 +1,13 @@
 -- What the loops over one table know so far: a gathered row, and rows changed up to x.
 use mathlib.Core.Path.{_≡_, refl, sym, ap, _∙_, subst}
-use mathlib.Core.Logic.{_≢_, _⊎_, inl, inr, ⊎-elim}
-use mathlib.Core.Bool.{Bool, true, false, false≢true}
+use mathlib.Core.Logic.{_⊎_, inl, inr, ⊎-elim}
+use mathlib.Core.Bool.{Bool}
 use mathlib.Core.List.{List}
-use Prim.Native.Nat.{ℕ, zero, suc, _+_, _-_, _^_, _<_, _≤_}
-use native.Mathlib.Nat.{le-refl, le-trans, eq-or-lt-of-le, not-suc-le-zero}
-use native.Mathlib.Decide.{decLt, ℕ-discrete}
+use Prim.Native.Nat.{ℕ, zero, suc, _+_, _-_, _<_, _≤_}
+use native.Mathlib.Nat.{le-refl, le-trans, not-suc-le-zero}
+use native.Mathlib.Decide.{ℕ-discrete}
 use native.Mathlib.Omega.{arith}
-use lib.ListN.{getD, set, length, length-set, replicate}
+use lib.ListN.{set, length, length-set, replicate}
 use lib.Seq.{getD-set-same, getD-set-other}
 use Rattle.meaning.specs.Finite.{Yes}
 use Rattle.meaning.proofs.Tests.{yes-eq}
@@ -15,7 +15,6 @@ use Rattle.rowbits.specs.Bit.{bit}
 use Rattle.tables.specs.Tables.{row, Columns}
 use Rattle.tables.specs.Rows.{Gathers, Transposed, Raised, marked, gained}
 use Rattle.tables.proofs.Bits.{gained-up, gained-has, gained-case, one-is, one-has, none-in}
-use lib.Bits.{bitOr, bitXor, and-zero-r}
 
 pub below-cases : {k y : ℕ} → k < y + 1 → (k ≡ y) ⊎ (k < y)
 below-cases {k} {y} h = go (ℕ-discrete k y)
@@ -88,6 +87,3 @@ zeros (suc n) (suc x) = zeros n x
 
 pub was-raised : (t : List ℕ) (which by x : ℕ) (r : List ℕ) → 16 ≤ x → x ≤ 16 → Rowing (λ k v. gained (bit which k) v by) 16 t x r → Raised t which by r
 was-raised t which by x r h h2 w = record { within = λ k l. w .done k (le-trans l h); beyond = λ k l. w .rest k (le-trans h2 l) }
-
-pub not-below-more : (p : ℕ → Bool) (i : ℕ) → ((k : ℕ) → k < i → ¬ Yes (p k)) → ¬ Yes (p i) → (k : ℕ) → k < i + 1 → ¬ Yes (p k)
-not-below-more p i h n k l u = ⊎-elim (λ e. n (subst (λ (j : ℕ). Yes (p j)) e u)) (λ m. h k m u) (below-cases l)

@@ -1,21 +1,17 @@
 -- Tables whose rows are rows of sixteen bits, before and after a store, and their labels.
-use mathlib.Core.Path.{_≡_, refl, sym, ap, _∙_, subst}
-use mathlib.Core.Logic.{_≢_, _⊎_, inl, inr, ⊎-elim}
-use mathlib.Core.Bool.{Bool, true, false, false≢true}
+use mathlib.Core.Path.{_≡_, sym, ap, _∙_, subst}
+use mathlib.Core.Logic.{_≢_}
 use mathlib.Core.List.{List}
-use Prim.Native.Nat.{ℕ, zero, suc, _+_, _<_, _≤_}
-use native.Mathlib.Nat.{le-refl, le-trans}
-use native.Mathlib.Omega.{arith}
-use lib.ListN.{getD, set, length, length-set}
+use Prim.Native.Nat.{ℕ, _<_}
+use lib.ListN.{set, length, length-set}
 use lib.Seq.{getD-set-same, getD-set-other}
 use native.Mathlib.Decide.{ℕ-discrete}
 use Rattle.rowbits.specs.Bit.{bit}
 use Rattle.meaning.specs.Constraint.{label}
-use Rattle.meaning.specs.Finite.{Yes, _and_}
+use Rattle.meaning.specs.Finite.{Yes}
 use Rattle.meaning.proofs.Tests.{clash, and-left, and-right, and-both, no-neg, is-eq, eq-yes}
 use Rattle.tables.specs.Tables.{row, has}
 use Rattle.tables.specs.declared.Facts.{Facts}
-use lib.Dec.{eqb}
 
 pub record Rows (l : List ℕ) : Type 0 where
   pub long : length l ≡ 16
@@ -56,3 +52,12 @@ set-case l x v w h P k i p q u = go (ℕ-discrete k x)
     go : Dec (k ≡ x) → P k i
     go (yes e) = subst (λ (j : ℕ). P j i) (sym e) (p (subst (λ (j : ℕ). Yes (bit j i)) (ap (row (set l x v)) e ∙ set-same l x v w h) u))
     go (no e) = q (subst (λ (j : ℕ). Yes (bit j i)) (getD-set-other l x k v 0 e) u)
+
+-- what is in a row is there after a store that keeps it
+pub set-keeps : (l : List ℕ) (x v : ℕ) → Rows l → x < 16 → ((i : ℕ) → Yes (bit (row l x) i) → Yes (bit v i)) → (k i : ℕ) → Yes (bit (row l k) i) → Yes (bit (row (set l x v) k) i)
+set-keeps l x v w h p k i u = go (ℕ-discrete k x)
+  where
+    go : Dec (k ≡ x) → Yes (bit (row (set l x v) k) i)
+    go (yes e) =
+        subst (λ (j : ℕ). Yes (bit j i)) (sym (ap (row (set l x v)) e ∙ set-same l x v w h)) (p i (subst (λ (j : ℕ). Yes (bit (row l j) i)) e u))
+    go (no e) = subst (λ (j : ℕ). Yes (bit j i)) (sym (getD-set-other l x k v 0 e)) u

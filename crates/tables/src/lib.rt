@@ -79,15 +79,7 @@ pub fn except(a: u16, b: u16) -> u16
 pub fn lowest(row: u16) -> usize
     ensures { λ r. ⌜ Lowest row r ⌝ }
 {
-    if row == 0 {
-        return 16;
-    }
-    for i in 0usize..16 {
-        if rowbits::has(row, i) {
-            return i;
-        }
-    }
-    16
+    u16::trailing_zeros(row) as usize
 }
 
 // The columns of a table as rows.

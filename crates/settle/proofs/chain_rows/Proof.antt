@@ -6,15 +6,10 @@ use Rattle.settle.proofs.Chain.{Lifting, lifting-none, lifting-more, ch
 use Rattle.tables.specs.Tables.{row}
 use Rattle.settle.specs.Rows.{firstRow}
 use Rattle.tables.specs.Rows.{gained}
-use Prim.Native.Nat.{ℕ, _≤_, _-_}
+use Prim.Native.Nat.{_≤_, _-_}
 use borrow.Author.Needs.{needs}
 use Rattle.settle.proofs.chain_rows.Statement.{statement}
 use Rattle.settle.proofs.chain_rows.Tie as tie
-use Rattle.settle.proofs.chain_rows.Reads as reads
-use Rattle.settle.proofs.chain_rows.Lts as lts
-use Rattle.rowbits.proofs.has.Reads as has-reads
-use Rattle.settle.proofs.first_row.Reads as first-row-reads
-use Rattle.tables.proofs.gain.Reads as gain-reads
 
 abbrev Inv-loop : tie.InvT-loop
 Inv-loop root n child a₀ x₀ a x = (x ≤ n) × Rowing (λ k v. firstRow v (row child k) root k n) n a₀ x a

@@ -1,10 +1,7 @@
 use Rattle.settle.specs.Rows.{clashing}
 use Rattle.settle.proofs.Helpers.{four}
-use borrow.Author.Needs.{needs}
 use Rattle.settle.proofs.clashes.Statement.{statement}
 use Rattle.settle.proofs.clashes.Tie as tie
-use Rattle.settle.proofs.clashes.Reads as reads
-use Rattle.settle.proofs.clashes.Lts as lts
 
 returns : tie.Need-returns
 unfolding clashing

@@ -3,9 +3,6 @@ use Rattle.tables.proofs.Helpers.{pick-on, pick-off}
 use borrow.Author.Needs.{needs}
 use Rattle.settle.proofs.depth.Statement.{statement}
 use Rattle.settle.proofs.depth.Tie as tie
-use Rattle.settle.proofs.depth.Reads as reads
-use Rattle.settle.proofs.depth.Lts as lts
-use Rattle.tables.proofs.has_both.Reads as has-both-reads
 
 has-both-requires : tie.Need-has-both-requires
 has-both-requires c κs = search needs

@@ -2,12 +2,6 @@ use Rattle.settle.specs.Rows.{firstRow}
 use borrow.Author.Needs.{needs}
 use Rattle.settle.proofs.first_row.Statement.{statement}
 use Rattle.settle.proofs.first_row.Tie as tie
-use Rattle.settle.proofs.first_row.Reads as reads
-use Rattle.settle.proofs.first_row.Lts as lts
-use Rattle.rowbits.proofs.has.Reads as has-reads
-use Rattle.tables.proofs.all.Reads as all-reads
-use Rattle.tables.proofs.gain.Reads as gain-reads
-use Rattle.tables.proofs.one.Reads as one-reads
 
 has-requires : tie.Need-has-requires
 has-requires c κs = search needs

@@ -3,10 +3,6 @@ use Rattle.settle.specs.Rows.{grouped}
 use borrow.Author.Needs.{needs}
 use Rattle.settle.proofs.group.Statement.{statement}
 use Rattle.settle.proofs.group.Tie as tie
-use Rattle.settle.proofs.group.Reads as reads
-use Rattle.settle.proofs.group.Lts as lts
-use Rattle.tables.proofs.gain.Reads as gain-reads
-use Rattle.tables.proofs.one.Reads as one-reads
 
 one-requires : tie.Need-one-requires
 one-requires c κs = search needs

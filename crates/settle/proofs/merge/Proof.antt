@@ -1,9 +1,6 @@
 use Rattle.settle.proofs.Helpers.{merge-on, merge-off}
-use borrow.Author.Needs.{needs}
 use Rattle.settle.proofs.merge.Statement.{statement}
 use Rattle.settle.proofs.merge.Tie as tie
-use Rattle.settle.proofs.merge.Reads as reads
-use Rattle.settle.proofs.merge.Lts as lts
 
 returns : tie.Need-returns
 returns c = merge-on _ _ _ (c .if1 .taken)

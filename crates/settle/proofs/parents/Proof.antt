@@ -2,14 +2,10 @@ use Rattle.tables.proofs.Loops.{Gathering, gather-none, gather-more, gather-all
 use Rattle.settle.proofs.Chain.{no-parents}
 use Rattle.tables.specs.Tables.{row}
 use Rattle.tables.specs.Rows.{meets}
-use Prim.Native.Nat.{ℕ, _≤_, _-_}
+use Prim.Native.Nat.{_≤_, _-_}
 use borrow.Author.Needs.{needs}
 use Rattle.settle.proofs.parents.Statement.{statement}
 use Rattle.settle.proofs.parents.Tie as tie
-use Rattle.settle.proofs.parents.Reads as reads
-use Rattle.settle.proofs.parents.Lts as lts
-use Rattle.tables.proofs.mark.Reads as mark-reads
-use Rattle.tables.proofs.meet.Reads as meet-reads
 
 abbrev Inv-loop : tie.InvT-loop
 Inv-loop c t a₀ y₀ a y = (y ≤ 16) × Gathering (λ k. meets (row t k) c) y a

@@ -17,32 +17,16 @@ use Rattle.settle.proofs.Passing.{picked-on, passing-more-as, Above, ab
 use Rattle.tables.proofs.Helpers.{doubled}
 use Rattle.tables.specs.declared.Facts.{Facts}
 use Rattle.settle.proofs.Visit.{Sharing, Visiting, sharing-none, sharing-more, visiting-none, visiting-more, label-clash, differ-z, child-y, child-y-small}
-use native.Mathlib.Nat.{le-trans, le-refl}
-use lib.ListN.{length, getD}
+use native.Mathlib.Nat.{le-trans}
+use lib.ListN.{getD}
 use mir.Val.{Fits}
 use mir.Syntax.{w16}
 use mathlib.Core.Path.{_≡_, refl, sym, _∙_}
-use mathlib.Core.Bool.{Bool, true, false}
+use mathlib.Core.Bool.{false}
 use Prim.Native.Nat.{ℕ, _≤_, _<_, _-_}
-use native.Mathlib.Omega.{arith}
 use borrow.Author.Needs.{needs}
 use Rattle.settle.proofs.pass.Statement.{statement}
 use Rattle.settle.proofs.pass.Tie as tie
-use Rattle.settle.proofs.pass.Reads as reads
-use Rattle.settle.proofs.pass.Lts as lts
-use Rattle.rowbits.proofs.has.Reads as has-reads
-use Rattle.settle.proofs.chain_rows.Reads as chain-rows-reads
-use Rattle.settle.proofs.clashes.Reads as clashes-reads
-use Rattle.settle.proofs.depth.Reads as depth-reads
-use Rattle.tables.proofs.gain.Reads as gain-reads
-use Rattle.settle.proofs.group.Reads as group-reads
-use Rattle.settle.proofs.merge.Reads as merge-reads
-use Rattle.settle.proofs.parents.Reads as parents-reads
-use Rattle.settle.proofs.span.Reads as span-reads
-use Rattle.settle.proofs.spreads.Reads as spreads-reads
-use Rattle.tables.proofs.transpose.Reads as transpose-reads
-use Rattle.settle.proofs.twins.Reads as twins-reads
-use Rattle.settle.proofs.widen.Reads as widen-reads
 
 abbrev Inv-loop2 : tie.InvT-loop2
 Inv-loop2 n m g start childs ups backs groups diff clash₀ x ob nb oc od ol up back b same c₀ d₀ l end y by cy ly t hc stop z₀ clash c d z =
@@ -366,8 +350,12 @@ loop2-less : tie.Need-loop2-less Inv-loop2 μ-loop2 Inv-loop μ-loop Inv-pass μ
 loop2-less c = search needs
 
 loop2-again : tie.Need-loop2-again Inv-loop2 μ-loop2 Inv-loop μ-loop Inv-pass μ-pass
-loop2-again c = (add-one-le (c .before .before .before .before .before .loop2-test .taken), c .before .before .before .before .before .before .loop2 .inv .1, c .before .before .before .before .before .before .loop2 .inv .2,
-    sharing-more _ _ _ _ _ _ _ _ _ _ _ _ (z-small (c .before .before .before .before .before)) (c .before .before .before .twins .ensures) (c .before .before .gain2 .ensures) (hc-known (c .before .before .before .before .before .before .before)) (differ-known (c .before .before .before .before .before .before .before) _ (c .before .before .before .before .before .loop2-test .taken)) (c .before .before .before .before .before .before .loop2 .inv .3))
+loop2-again c = (
+  add-one-le (c .before .before .before .before .before .loop2-test .taken),
+  c .before .before .before .before .before .before .loop2 .inv .1,
+  c .before .before .before .before .before .before .loop2 .inv .2,
+  sharing-more _ _ _ _ _ _ _ _ _ _ _ _ (z-small (c .before .before .before .before .before)) (c .before .before .before .twins .ensures) (c .before .before .gain2 .ensures) (hc-known (c .before .before .before .before .before .before .before)) (differ-known (c .before .before .before .before .before .before .before) _ (c .before .before .before .before .before .loop2-test .taken)) (c .before .before .before .before .before .before .loop2 .inv .3),
+)
 
 add-y : tie.Need-add-y Inv-loop2 μ-loop2 Inv-loop μ-loop Inv-pass μ-pass
 add-y c = search needs
@@ -376,10 +364,13 @@ loop-less : tie.Need-loop-less Inv-loop2 μ-loop2 Inv-loop μ-loop Inv-pass μ-p
 loop-less c = search needs
 
 loop-again : tie.Need-loop-again Inv-loop2 μ-loop2 Inv-loop μ-loop Inv-pass μ-pass
-loop-again c = let d = c .before .before in let r = c .before .before .before .before .before .before .before .before .before .before .before .before .before .before .before .before .before in
-    (add-one-le (c .before .before .before .before .before .before .before .before .before .before .before .before .loop-test .taken), c .before .before .before .before .before .before .before .before .before .before .before .before .before .loop .inv .1, c .before .loop2 .inv .2,
-    visiting-more _ _ (known r .shape) _ _ _ _ _ _ _ _ _ _ _ (d .before .before .before .before .before .before .has2 .ensures) (same-known r) (so-far d) _ _
-    (d .before .before .before .before .before .gain .ensures) (d .before .before .merge .ensures) (not-clashing d) _ _ _ _ _ (d .before .has3 .ensures) (d .depth .ensures) (c .loop2-test .left) (c .before .loop2 .inv .3))
+loop-again c = let d = c .before .before in let r = c .before .before .before .before .before .before .before .before .before .before .before .before .before .before .before .before .before in (
+  add-one-le (c .before .before .before .before .before .before .before .before .before .before .before .before .loop-test .taken),
+  c .before .before .before .before .before .before .before .before .before .before .before .before .before .loop .inv .1,
+  c .before .loop2 .inv .2,
+  visiting-more _ _ (known r .shape) _ _ _ _ _ _ _ _ _ _ _ (d .before .before .before .before .before .before .has2 .ensures) (same-known r) (so-far d) _ _
+      (d .before .before .before .before .before .gain .ensures) (d .before .before .merge .ensures) (not-clashing d) _ _ _ _ _ (d .before .has3 .ensures) (d .depth .ensures) (c .loop2-test .left) (c .before .loop2 .inv .3),
+)
 
 spreads-requires : tie.Need-spreads-requires Inv-loop2 μ-loop2 Inv-loop μ-loop Inv-pass μ-pass
 spreads-requires c κs = search needs
@@ -424,14 +415,16 @@ pass-less : tie.Need-pass-less Inv-loop2 μ-loop2 Inv-loop μ-loop Inv-pass μ-p
 pass-less c = search needs
 
 pass-again : tie.Need-pass-again Inv-loop2 μ-loop2 Inv-loop μ-loop Inv-pass μ-pass
-pass-again c = let r = c .before .before .before .before .before .before .before .before .before .before in
-    (add-one-le (hx r), c .before .before .before .before .before .before .loop .inv .2,
-    passing-more-as _ (n-small r) _ _ _ (hx r) _ _ _ (known r) _ _ _ (par-small r) (turned-small r) (gu r) (gu-to r) (r .parents .ensures) (gt r) (gt-to r)
-    _ _ _ _ _ _ _ _ (c .before .before .before .before .before .before .before .span .ensures) (c .before .before .before .before .before .loop-test .left) (c .before .before .before .before .before .before .loop .inv .3) (sym (c .before .before .before .before .before .before .before .before .before .has .ensures) ∙ c .before .before .before .before .before .before .before .before .if1 .left)
-    (c .before .before .before .before .spreads .ensures) (c .before .before .before .spreads2 .ensures) (c .before .before .group .ensures) _ _ (c .before .widen .ensures) (c .widen2 .ensures),
-    above-trans (c .before .before .before .before .before .before .before .before .before .before .before .before .before .before .before .before .pass .inv .3) (grows _ (n-small r) _ _ _ (hx r) _ _ _ (known r) _ _ _ (par-small r) (turned-small r) (gu r) (gu-to r) (r .parents .ensures) (gt r) (gt-to r)
-    _ _ _ _ _ _ _ _ (c .before .before .before .before .before .before .before .span .ensures) (c .before .before .before .before .before .loop-test .left) (c .before .before .before .before .before .before .loop .inv .3) (sym (c .before .before .before .before .before .before .before .before .before .has .ensures) ∙ c .before .before .before .before .before .before .before .before .if1 .left)
-    (c .before .before .before .before .spreads .ensures) (c .before .before .before .spreads2 .ensures) (c .before .before .group .ensures)))
+pass-again c = let r = c .before .before .before .before .before .before .before .before .before .before in (
+  add-one-le (hx r),
+  c .before .before .before .before .before .before .loop .inv .2,
+  passing-more-as _ (n-small r) _ _ _ (hx r) _ _ _ (known r) _ _ _ (par-small r) (turned-small r) (gu r) (gu-to r) (r .parents .ensures) (gt r) (gt-to r)
+      _ _ _ _ _ _ _ _ (c .before .before .before .before .before .before .before .span .ensures) (c .before .before .before .before .before .loop-test .left) (c .before .before .before .before .before .before .loop .inv .3) (sym (c .before .before .before .before .before .before .before .before .before .has .ensures) ∙ c .before .before .before .before .before .before .before .before .if1 .left)
+      (c .before .before .before .before .spreads .ensures) (c .before .before .before .spreads2 .ensures) (c .before .before .group .ensures) _ _ (c .before .widen .ensures) (c .widen2 .ensures),
+  above-trans (c .before .before .before .before .before .before .before .before .before .before .before .before .before .before .before .before .pass .inv .3) (grows _ (n-small r) _ _ _ (hx r) _ _ _ (known r) _ _ _ (par-small r) (turned-small r) (gu r) (gu-to r) (r .parents .ensures) (gt r) (gt-to r)
+      _ _ _ _ _ _ _ _ (c .before .before .before .before .before .before .before .span .ensures) (c .before .before .before .before .before .loop-test .left) (c .before .before .before .before .before .before .loop .inv .3) (sym (c .before .before .before .before .before .before .before .before .before .has .ensures) ∙ c .before .before .before .before .before .before .before .before .if1 .left)
+      (c .before .before .before .before .spreads .ensures) (c .before .before .before .spreads2 .ensures) (c .before .before .group .ensures)),
+)
 
 returns : tie.Need-returns Inv-loop2 μ-loop2 Inv-loop μ-loop Inv-pass μ-pass
 returns c = ended-well _ _ _ _ _ _ _ (c .before .pass .inv .1) (gone _ _ _ _ _ _ _ (c .pass-test .left) (c .before .pass .inv .2))

@@ -5,7 +5,7 @@ use native.Mathlib.Omega.{arith}
 use lib.ListN.{getD}
 use mir.Val.{Fits}
 use mir.Syntax.{w16}
-use Rattle.settle.specs.Pass.{total, Gone}
+use Rattle.settle.specs.Pass.{total}
 use Rattle.tables.proofs.Shape.{Shape}
 use Rattle.settle.proofs.Final.{Settling, settling-none, settling-more, settled-well, settled-clash}
 use borrow.Author.Needs.{needs}

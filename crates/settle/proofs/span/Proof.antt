@@ -2,10 +2,6 @@ use Rattle.settle.proofs.Helpers.{span-on, span-off}
 use borrow.Author.Needs.{needs}
 use Rattle.settle.proofs.span.Statement.{statement}
 use Rattle.settle.proofs.span.Tie as tie
-use Rattle.settle.proofs.span.Reads as reads
-use Rattle.settle.proofs.span.Lts as lts
-use Rattle.tables.proofs.meet.Reads as meet-reads
-use Rattle.tables.proofs.one.Reads as one-reads
 
 one-requires : tie.Need-one-requires
 one-requires c κs = search needs

@@ -3,10 +3,6 @@ use Rattle.tables.specs.Rows.{marked}
 use borrow.Author.Needs.{needs}
 use Rattle.settle.proofs.spreads.Statement.{statement}
 use Rattle.settle.proofs.spreads.Tie as tie
-use Rattle.settle.proofs.spreads.Reads as reads
-use Rattle.settle.proofs.spreads.Lts as lts
-use Rattle.tables.proofs.mark.Reads as mark-reads
-use Rattle.tables.proofs.meet.Reads as meet-reads
 
 meet-requires : tie.Need-meet-requires
 meet-requires c κs = search needs

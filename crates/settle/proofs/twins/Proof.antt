@@ -4,10 +4,6 @@ use Rattle.settle.specs.Rows.{twin}
 use borrow.Author.Needs.{needs}
 use Rattle.settle.proofs.twins.Statement.{statement}
 use Rattle.settle.proofs.twins.Tie as tie
-use Rattle.settle.proofs.twins.Reads as reads
-use Rattle.settle.proofs.twins.Lts as lts
-use Rattle.tables.proofs.has_both.Reads as has-both-reads
-use Rattle.tables.proofs.one.Reads as one-reads
 
 has-both-requires : tie.Need-has-both-requires
 has-both-requires c κs = search needs

@@ -2,8 +2,6 @@ use Rattle.tables.proofs.Helpers.{all-positive, all-fits, power32}
 use borrow.Author.Needs.{needs}
 use Rattle.tables.proofs.all.Statement.{statement}
 use Rattle.tables.proofs.all.Tie as tie
-use Rattle.tables.proofs.all.Reads as reads
-use Rattle.tables.proofs.all.Lts as lts
 
 cast-p : tie.Need-cast-p
 cast-p c = search needs

@@ -3,9 +3,6 @@ use Rattle.tables.proofs.Helpers.{and-is}
 use borrow.Author.Needs.{needs}
 use Rattle.tables.proofs.has_both.Statement.{statement}
 use Rattle.tables.proofs.has_both.Tie as tie
-use Rattle.tables.proofs.has_both.Reads as reads
-use Rattle.tables.proofs.has_both.Lts as lts
-use Rattle.rowbits.proofs.has.Reads as has-reads
 
 has-requires : tie.Need-has-requires
 has-requires c κs = search needs

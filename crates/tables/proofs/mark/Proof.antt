@@ -2,10 +2,6 @@ use Rattle.tables.specs.Rows.{marked}
 use borrow.Author.Needs.{needs}
 use Rattle.tables.proofs.mark.Statement.{statement}
 use Rattle.tables.proofs.mark.Tie as tie
-use Rattle.tables.proofs.mark.Reads as reads
-use Rattle.tables.proofs.mark.Lts as lts
-use Rattle.tables.proofs.gain.Reads as gain-reads
-use Rattle.tables.proofs.one.Reads as one-reads
 
 one-requires : tie.Need-one-requires
 one-requires c κs = search needs

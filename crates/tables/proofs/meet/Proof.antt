@@ -1,10 +1,7 @@
 use Rattle.tables.specs.Rows.{meets}
 use Rattle.tables.proofs.Helpers.{not-is}
-use borrow.Author.Needs.{needs}
 use Rattle.tables.proofs.meet.Statement.{statement}
 use Rattle.tables.proofs.meet.Tie as tie
-use Rattle.tables.proofs.meet.Reads as reads
-use Rattle.tables.proofs.meet.Lts as lts
 
 returns : tie.Need-returns
 unfolding meets

@@ -2,8 +2,6 @@ use Rattle.rowbits.proofs.Laws.{shifted-one}
 use borrow.Author.Needs.{needs}
 use Rattle.tables.proofs.one.Statement.{statement}
 use Rattle.tables.proofs.one.Tie as tie
-use Rattle.tables.proofs.one.Reads as reads
-use Rattle.tables.proofs.one.Lts as lts
 
 cast-result : tie.Need-cast-result
 cast-result c = search needs

@@ -1,14 +1,10 @@
 use Rattle.tables.proofs.Loops.{Rowing, rowing-none, rowing-more, was-raised}
 use Rattle.rowbits.specs.Bit.{bit}
 use Rattle.tables.specs.Rows.{gained}
-use Prim.Native.Nat.{ℕ, _≤_, _-_}
+use Prim.Native.Nat.{_≤_, _-_}
 use borrow.Author.Needs.{needs}
 use Rattle.tables.proofs.raise.Statement.{statement}
 use Rattle.tables.proofs.raise.Tie as tie
-use Rattle.tables.proofs.raise.Reads as reads
-use Rattle.tables.proofs.raise.Lts as lts
-use Rattle.rowbits.proofs.has.Reads as has-reads
-use Rattle.tables.proofs.gain.Reads as gain-reads
 
 abbrev Inv-loop : tie.InvT-loop
 Inv-loop which by a₀ x₀ a x = (x ≤ 16) × Rowing (λ k v. gained (bit which k) v by) 16 a₀ x a

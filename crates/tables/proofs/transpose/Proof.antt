@@ -2,14 +2,10 @@ use mathlib.Core.Path.{refl}
 use Rattle.tables.proofs.Loops.{Rowing, rowing-none, rowing-more, Transposing, transposing-none, transposing-more, transposed, zeros}
 use Rattle.rowbits.specs.Bit.{bit}
 use Rattle.tables.specs.Rows.{marked}
-use Prim.Native.Nat.{ℕ, _≤_, _-_}
+use Prim.Native.Nat.{_≤_, _-_}
 use borrow.Author.Needs.{needs}
 use Rattle.tables.proofs.transpose.Statement.{statement}
 use Rattle.tables.proofs.transpose.Tie as tie
-use Rattle.tables.proofs.transpose.Reads as reads
-use Rattle.tables.proofs.transpose.Lts as lts
-use Rattle.rowbits.proofs.has.Reads as has-reads
-use Rattle.tables.proofs.mark.Reads as mark-reads
 
 abbrev Inv-loop2 : tie.InvT-loop2
 Inv-loop2 t a₀ y v x₀ a x = (x ≤ 16) × Rowing (λ k w. marked (bit v k) w y) 16 a₀ x a

@@ -1,9 +1,6 @@
 use Rattle.tables.proofs.Helpers.{pick-on, pick-off}
-use borrow.Author.Needs.{needs}
 use Rattle.tables.proofs.when.Statement.{statement}
 use Rattle.tables.proofs.when.Tie as tie
-use Rattle.tables.proofs.when.Reads as reads
-use Rattle.tables.proofs.when.Lts as lts
 
 returns : tie.Need-returns
 returns c = pick-on _ _ _ (c .if1 .taken)
