@@ -42,10 +42,9 @@ pub record Alternatives (n : ℕ) (S : List Fact) (f : Facts) (p q : Below) : Ty
   pub first : Enters n S p (first-alternative join)
   pub second : Enters n S q (second-alternative join)
 
-pub record StepOf (n : ℕ) (f : Facts) (r : Step) : Type 0 where
-  pub solved : r ≡ Solved → (S : List Fact) → Ready n S f → firstJoin n (has f) ≡ none
-  pub named : {p q : Below} → r ≡ Split p q → Named n p × Named n q
-  pub split : {p q : Below} → r ≡ Split p q → (S : List Fact) → Ready n S f → Alternatives n S f p q
+abbrev pub StepOf : ℕ → Facts → Step → Type 0
+StepOf n f Solved = (S : List Fact) → Ready n S f → firstJoin n (has f) ≡ none
+StepOf n f (Split p q) = Named n p × Named n q × ((S : List Fact) → Ready n S f → Alternatives n S f p q)
 
 -- ---- a line
 

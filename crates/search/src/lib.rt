@@ -37,15 +37,21 @@ enum Step {
 }
 
 // The second alternative of a parent join is same(x, z), where below(x, z) holds already.
-fn step(f: Facts, n: usize) -> Step
+fn next_step(f: Facts, n: usize) -> Step
     requires { ⌜ n ≤ 16 ⌝ }
     ensures { λ r. ⌜ StepOf n f r ⌝ }
 {
     let found = joins::first_join(f, n);
     match found {
         Found::Nothing => Step::Solved,
-        Found::Parent(z, x, y) => Step::Split(Below { upper: x, lower: y }, Below { upper: z, lower: x }),
-        Found::Chain(_, x, y) => Step::Split(Below { upper: x, lower: y }, Below { upper: y, lower: x }),
+        Found::Parent(z, x, y) => Step::Split(
+            Below { upper: x, lower: y },
+            Below { upper: z, lower: x },
+        ),
+        Found::Chain(_, x, y) => Step::Split(
+            Below { upper: x, lower: y },
+            Below { upper: y, lower: x },
+        ),
     }
 }
 
@@ -57,16 +63,33 @@ fn line(s: Settled, n: usize, allowance: u32, count: u32) -> Searched
 {
     let f = s.facts;
     if s.clash {
-        return Searched { end: End::None, count, facts: f };
+        return Searched {
+            end: End::None,
+            count,
+            facts: f,
+        };
     }
-    let next = step(f, n);
+    let next = next_step(f, n);
     match next {
-        Step::Solved => Searched { end: End::Tree, count, facts: f },
+        Step::Solved => Searched {
+            end: End::Tree,
+            count,
+            facts: f,
+        },
         Step::Split(first, second) => {
             if count == allowance {
-                return Searched { end: End::Spent, count, facts: f };
+                return Searched {
+                    end: End::Spent,
+                    count,
+                    facts: f,
+                };
             }
-            let searched = line(enter::enter_below(f, n, first.upper, first.lower), n, allowance, count + 1);
+            let searched = line(
+                enter::enter_below(f, n, first.upper, first.lower),
+                n,
+                allowance,
+                count + 1,
+            );
             let end = searched.end;
             match end {
                 End::Tree => searched,
@@ -74,9 +97,18 @@ fn line(s: Settled, n: usize, allowance: u32, count: u32) -> Searched
                 End::None => {
                     let used = searched.count;
                     if used == allowance {
-                        return Searched { end: End::Spent, count: used, facts: f };
+                        return Searched {
+                            end: End::Spent,
+                            count: used,
+                            facts: f,
+                        };
                     }
-                    line(enter::enter_below(f, n, second.upper, second.lower), n, allowance, used + 1)
+                    line(
+                        enter::enter_below(f, n, second.upper, second.lower),
+                        n,
+                        allowance,
+                        used + 1,
+                    )
                 }
             }
         }
@@ -95,11 +127,19 @@ pub fn search(s: Settled, n: usize, allowance: u32) -> Searched
         End::Tree => r,
         End::None => {
             let facts = s.facts;
-            Searched { end: End::None, count: r.count, facts }
+            Searched {
+                end: End::None,
+                count: r.count,
+                facts,
+            }
         }
         End::Spent => {
             let facts = s.facts;
-            Searched { end: End::Spent, count: r.count, facts }
+            Searched {
+                end: End::Spent,
+                count: r.count,
+                facts,
+            }
         }
     }
 }
