@@ -1,0 +1,3 @@
+pub mod Bits
+pub mod Helpers
+pub mod Layered
