@@ -1,3 +1,4 @@
 pub mod Bits
 pub mod Helpers
 pub mod Layered
+pub mod Listing

@@ -1,7 +1,7 @@
 -- The groups in the order of their nodes, as a list, and what is read from it.
 use mathlib.Core.Path.{_≡_}
 use mathlib.Core.Bool.{Bool}
-use mathlib.Core.List.{List, [], _++_, map}
+use mathlib.Core.List.{List, [], _++_, map, List·Memᴰ}
 use Prim.Native.Nat.{ℕ, zero, suc, _+_, _≤_, _<_}
 use lib.Bits.{bitAnd}
 use lib.Dec.{eqb}
@@ -21,7 +21,7 @@ groups o = map (λ (v : Var). v .0) (take (o .len) (o .group))
 
 pub record Small (o : Order) : Type 0 where
   pub few : o .len ≤ 16
-  pub inside : (i : ℕ) → i < o .len → getD (groups o) i 0 < 16
+  pub inside : (g : ℕ) → List·Memᴰ g (groups o) → g < 16
 
 -- the members of the first d rows, row by row
 unfoldable pub listed : List ℕ → ℕ → List ℕ

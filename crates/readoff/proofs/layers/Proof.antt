@@ -1,6 +1,6 @@
 -- `readoff::layers` meets its contract: at x the rows hold the lowest variables below x, each in the row of its depth.
-use mathlib.Core.Path.{_≡_, sym, ap, _∙_}
-use Prim.Native.Nat.{_≤_, _-_}
+use mathlib.Core.Path.{_≡_, subst}
+use Prim.Native.Nat.{ℕ, _≤_, _-_}
 use lib.ListN.{length}
 use Rattle.readoff.proofs.Layered.{Layered, layered-none, layered-more}
 use Rattle.readoff.specs.Rows.{deep}
@@ -69,7 +69,8 @@ loop-again c =
 
 returns : tie.Need-returns Inv-loop μ-loop
 unfolding Layered
-returns c = let e : c .before .loop .x ≡ c .before .before .args .n = search needs in rw (← e) (c .before .loop .inv .2)
+returns c = let e : c .before .loop .x ≡ c .before .before .args .n = search needs in let s = c .before .before .args in
+    subst (λ (k : ℕ). Layered (s .t1) (s .t2) (s .n) (s .lows) k (c .before .loop .layer)) e (c .before .loop .inv .2)
 
 pub layers-spec : {M : Type 1} → statement M
 layers-spec =

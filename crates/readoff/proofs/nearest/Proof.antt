@@ -1,67 +1,66 @@
+-- `readoff::nearest` meets its contract: at every place the groups before it and the place in the rest make the whole.
+use mathlib.Core.Path.{_≡_, sym, _∙_}
+use Prim.Native.Nat.{_≤_, _+_, _-_}
+use native.Mathlib.Omega.{arith}
+use lib.ListN.{length, drop}
+use Rattle.meaning.specs.Finite.{position}
+use Rattle.readoff.specs.Rows.{near}
+use Rattle.readoff.specs.Listing.{groups}
+use Rattle.readoff.proofs.Listing.{length-mapped, inside-at, scan-here, scan-next, scan-end}
 use borrow.Author.Needs.{needs}
 use Rattle.readoff.proofs.nearest.Statement.{statement}
 use Rattle.readoff.proofs.nearest.Tie as tie
-use Rattle.readoff.proofs.nearest.Reads as reads
-use Rattle.readoff.proofs.nearest.Lts as lts
-use Rattle.readoff.proofs.is_near.Reads as is-near-reads
 
 abbrev Inv-loop : tie.InvT-loop
-Inv-loop over order below above len i₀ i = ?
+Inv-loop over order below above len i₀ i = (i ≤ len) × (i + position (near below above over) (drop i (groups order)) ≡ position (near below above over) (groups order))
 
 abbrev μ-loop : tie.MeasureT-loop
-μ-loop over order below above len i₀ i = ?
+μ-loop over order below above len i₀ i = len - i
 
--- src/lib.rt:170:5
 loop-holds : tie.Need-loop-holds Inv-loop μ-loop
-loop-holds c = search needs
+loop-holds c = (search needs, omega arith)
 
--- src/lib.rt:171:17
 element-copy-out-g : tie.Need-element-copy-out-g Inv-loop μ-loop
 element-copy-out-g c = search needs
 
--- src/lib.rt:172:17
 cast-w : tie.Need-cast-w Inv-loop μ-loop
 cast-w c = search needs
 
--- src/lib.rt:173:20
 mul-down : tie.Need-mul-down Inv-loop μ-loop
-mul-down c = search needs
+mul-down c = let i = c .before .before .before in let s = inside-at (near (i .before .args .t3) (i .before .args .t4) (i .before .args .over)) (i .before .args .t1) (search (needs, length-mapped)) (i .before .pre) (i .loop .i) (search needs) in omega arith
 
--- src/lib.rt:173:20
 array-read-down : tie.Need-array-read-down Inv-loop μ-loop
-array-read-down c = search needs
+array-read-down c = let i = c .before .before .before in inside-at (near (i .before .args .t3) (i .before .args .t4) (i .before .args .over)) (i .before .args .t1) (search (needs, length-mapped)) (i .before .pre) (i .loop .i) (search needs)
 
--- src/lib.rt:174:18
 mul-up : tie.Need-mul-up Inv-loop μ-loop
-mul-up c = search needs
+mul-up c = let i = c .before .before .before in let s = inside-at (near (i .before .args .t3) (i .before .args .t4) (i .before .args .over)) (i .before .args .t1) (search (needs, length-mapped)) (i .before .pre) (i .loop .i) (search needs) in omega arith
 
--- src/lib.rt:174:18
 array-read-up : tie.Need-array-read-up Inv-loop μ-loop
-array-read-up c = search needs
+array-read-up c = let i = c .before .before .before in inside-at (near (i .before .args .t3) (i .before .args .t4) (i .before .args .over)) (i .before .args .t1) (search (needs, length-mapped)) (i .before .pre) (i .loop .i) (search needs)
 
--- src/lib.rt:175:12
 is-near-requires : tie.Need-is-near-requires Inv-loop μ-loop
-is-near-requires c κs = search needs
+is-near-requires c κs = let i = c .before .before .before in inside-at (near (i .before .args .t3) (i .before .args .t4) (i .before .args .over)) (i .before .args .t1) (search (needs, length-mapped)) (i .before .pre) (i .loop .i) (search needs)
 
--- src/lib.rt:176:13
 returns : tie.Need-returns Inv-loop μ-loop
-returns c = search needs
+unfolding near
+returns c =
+    let i = c .before .before .before .before .before in
+    scan-here (near (i .before .args .t3) (i .before .args .t4) (i .before .args .over)) (i .before .args .t1) (search (needs, length-mapped)) (i .before .pre) (i .loop .i) (search needs) (sym (c .before .is-near .ensures) ∙ c .if1 .taken) (i .loop .inv .1)
 
--- src/lib.rt:170:9
 add-i : tie.Need-add-i Inv-loop μ-loop
 add-i c = search needs
 
--- src/lib.rt:170:5
 loop-less : tie.Need-loop-less Inv-loop μ-loop
 loop-less c = search needs
 
--- src/lib.rt:170:5
 loop-again : tie.Need-loop-again Inv-loop μ-loop
-loop-again c = search needs
+unfolding near
+loop-again c =
+    let i = c .before .before .before .before .before in
+    (search needs, scan-next (near (i .before .args .t3) (i .before .args .t4) (i .before .args .over)) (i .before .args .t1) (search (needs, length-mapped)) (i .before .pre) (i .loop .i) (search needs) (sym (c .before .is-near .ensures) ∙ c .if1 .left) (i .loop .inv .1))
 
--- src/lib.rt:165:1
 returns-2 : tie.Need-returns-2 Inv-loop μ-loop
-returns-2 c = search needs
+returns-2 c = let i = c .before in scan-end (near (i .before .args .t3) (i .before .args .t4) (i .before .args .over)) (i .before .args .t1) (search (needs, length-mapped)) (i .before .pre) (i .loop .i) (search needs) (search needs) (i .loop .inv .1)
 
 pub nearest-spec : {M : Type 1} → statement M
 nearest-spec =
