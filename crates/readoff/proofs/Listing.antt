@@ -2,7 +2,7 @@
 use mathlib.Core.Path.{_≡_, refl, sym, ap, _∙_, subst}
 use mathlib.Core.Logic.{⊎-elim}
 use mathlib.Core.Bool.{Bool, true, false}
-use mathlib.Core.List.{List, [], _∷_, _++_, map, map-append, append-assoc, append-nil, List·Memᴰ, List·Memᴰ·head, List·Memᴰ·tail, List·Memᴰ·append-cases}
+use mathlib.Core.List.{List, [], _∷_, _++_, map, map-append, append-assoc, append-nil, List·Memᴰ, List·Memᴰ·head, List·Memᴰ·tail, List·Memᴰ·append-cases, List·Memᴰ·not-nil}
 use Prim.Native.Nat.{ℕ, zero, suc, _+_, _-_, _≤_, _<_, zero-le, suc-le-suc}
 use native.Mathlib.Nat.{le-refl, le-step, le-trans, not-suc-le-zero, le-of-suc-le-suc}
 use native.Mathlib.Decide.{ℕ-discrete}
@@ -14,10 +14,11 @@ use Rattle.meaning.specs.Finite.{Yes, pick, picked, position}
 use Rattle.meaning.proofs.Tests.{pick-yes, pick-no}
 use Rattle.meaning.proofs.Lists.{picked-out, getD-mem}
 use Rattle.rowbits.specs.Bit.{bit}
+use Rattle.tables.specs.Tables.{row}
 use Rattle.ids.specs.declared.Var.{Var}
 use Rattle.readoff.specs.declared.Order.{Order}
 use Rattle.readoff.specs.Rows.{Next}
-use Rattle.readoff.specs.Listing.{groups, Small, Listed}
+use Rattle.readoff.specs.Listing.{groups, Small, listed, Listed}
 use Rattle.readoff.proofs.Bits.{not-yes, bit-past, picked-stop}
 
 -- ---- the place of the first that passes a test
@@ -81,6 +82,9 @@ module _ (p : ℕ → Bool) (o : Order) (long : length (o .group) ≡ 16) (s : S
 
   count-is : length (groups o) ≡ o .len
   count-is = let a = s .few in length-groups o (omega arith)
+
+  pub place-most : position p (groups o) ≤ 16
+  place-most = let a = s .few in let b = position-most p (groups o) in omega (arith, count-is)
 
   pub scan-here : (i : ℕ) → i < o .len → p (getD (o .group) i record { 0 = 0 } .0) ≡ true → i + position p (drop i (groups o)) ≡ position p (groups o) → i ≡ position p (groups o)
   scan-here i l e h =
@@ -166,3 +170,31 @@ module _ (a : ℕ) (gs : List ℕ) where
     where
       these : groups o ≡ gs ++ picked 16 (bit a)
       these = w .these ∙ ap (λ (ys : List ℕ). gs ++ ys) (picked-stop 16 x (bit a) l (λ y p q. bit-past 16 a y h p))
+
+-- ---- layer by layer
+
+listed-more : (t : List ℕ) (d n : ℕ) → d ≤ n → length (listed t d) ≤ length (listed t n)
+unfolding listed
+listed-more t d zero l = let e : d ≡ 0 = omega arith in rw e (le-refl _)
+listed-more t d (suc n) l = go (ℕ-discrete d (suc n)) (λ q. listed-more t d n q)
+  where
+    go : Dec (d ≡ suc n) → (d ≤ n → length (listed t d) ≤ length (listed t n)) → length (listed t d) ≤ length (listed t n ++ picked 16 (bit (row t n)))
+    go (yes e) r = rw e (le-refl _)
+    go (no e) r = let a = r (omega arith) in let b = length-append (listed t n) (picked 16 (bit (row t n))) in omega arith
+
+pub listed-none : (t : List ℕ) (vs : List Var) → Listed (listed t 0) (record { group = vs; len = 0 })
+unfolding listed groups
+listed-none t vs = record { small = record { few = zero-le; inside = λ g m. absurd (List·Memᴰ·not-nil m) }; these = refl }
+
+module _ (t : List ℕ) (n d : ℕ) (room : length (listed t n) ≤ 16) (l : d < n) (o : Order) (w : Listed (listed t d) o) where
+  pub listed-room : length (groups o) + length (picked 16 (bit (row t d))) ≤ 16
+  unfolding listed
+  listed-room =
+      let a = listed-more t (suc d) n l in
+      let b = length-append (listed t d) (picked 16 (bit (row t d))) in
+      let c = ap length (w .these) in
+      omega arith
+
+  pub listed-next : (r : Order) → Listed (groups o ++ picked 16 (bit (row t d))) r → Listed (listed t (d + 1)) r
+  unfolding listed
+  listed-next r v = rw add-one (rw (w .these) at v)

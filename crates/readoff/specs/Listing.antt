@@ -36,13 +36,13 @@ pub record Listed (gs : List ℕ) (o : Order) : Type 0 where
 unfoldable pub nodeNumbers : ℕ → List Node → List ℕ
 nodeNumbers n vs = map (λ (v : Node). v .0) (take n vs)
 
-module _ (t u : List ℕ) (n lows blank : ℕ) (gs : List ℕ) where
-  -- the node of x
-  unfoldable pub placeIn : ℕ → ℕ
-  placeIn x = blank + position (bit (bitAnd (row u x) (row t x))) gs
+-- the node of a variable, where gs are the groups in the order of their nodes
+unfoldable pub placeIn : (t u : List ℕ) (blank : ℕ) (gs : List ℕ) → ℕ → ℕ
+placeIn t u blank gs x = blank + position (bit (bitAnd (row u x) (row t x))) gs
 
-  unfoldable pub parentIn : ℕ → ℕ
-  parentIn g = pick (eqb (bitAnd (overRow n (row u g) (row t g)) lows) 0) 0 (blank + position (near t u (overRow n (row u g) (row t g))) gs)
+-- the parent of a group with this row of variables over it
+unfoldable pub parentIn : (t u : List ℕ) (lows blank : ℕ) (gs : List ℕ) → ℕ → ℕ
+parentIn t u lows blank gs above = pick (eqb (bitAnd above lows) 0) 0 (blank + position (near t u above) gs)
 
-  unfoldable pub nodeIn : List ℕ → ℕ → NodeRecord
-  nodeIn labels g = record { up = parentIn g; mark = getD labels g 0 }
+unfoldable pub nodeIn : (t u labels : List ℕ) (n lows blank : ℕ) (gs : List ℕ) → ℕ → NodeRecord
+nodeIn t u labels n lows blank gs g = record { up = parentIn t u lows blank gs (overRow n (row u g) (row t g)); mark = row labels g }

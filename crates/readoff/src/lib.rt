@@ -72,11 +72,12 @@ fn next(row: u16, k: usize) -> usize
     k + u32::trailing_zeros(rest) as usize
 }
 
-fn is_low(up: u16, down: u16, x: usize) -> bool
-    requires { ⌜ x < 16 ⌝ }
-    ensures { λ r. ⌜ r ≡ eqb (bitAnd (bitAnd up down) (2 ^ x - 1)) 0 ⌝ }
+// Whether no smaller variable is in the group of x.
+fn is_low(up: u16, down: u16, x: Var) -> bool
+    requires { ⌜ x .0 < 16 ⌝ }
+    ensures { λ r. ⌜ r ≡ eqb (bitAnd (bitAnd up down) (2 ^ (x .0) - 1)) 0 ⌝ }
 {
-    up & down & all(x) == 0
+    up & down & all(x.0 as usize) == 0
 }
 
 // The lowest variables of the groups.
@@ -88,7 +89,7 @@ fn lows(below: [u16; 16], above: [u16; 16], n: usize) -> u16
     for x in 0..n {
         let up = above[x];
         let down = below[x];
-        a = mark(is_low(up, down, x), a, x);
+        a = mark(is_low(up, down, Var(x as u8)), a, x);
     }
     a
 }
@@ -154,11 +155,12 @@ fn find(order: Order, row: u16) -> usize
     len
 }
 
-fn is_near(above: u16, w: usize, down: u16, up: u16) -> bool
-    requires { ⌜ w < 16 ⌝ }
-    ensures { λ r. ⌜ r ≡ (bit above w and eqb (bitAnd above (apart down up)) 0) ⌝ }
+// Whether w is over, and over nothing else that is.
+fn is_near(over: u16, w: Var, down: u16, up: u16) -> bool
+    requires { ⌜ w .0 < 16 ⌝ }
+    ensures { λ r. ⌜ r ≡ (bit over (w .0) and eqb (bitAnd over (apart down up)) 0) ⌝ }
 {
-    rowbits::has(above, w) & (above & without(down, up) == 0)
+    rowbits::has(over, w.0 as usize) & (over & without(down, up) == 0)
 }
 
 // The place of the nearest group of those over one variable.
@@ -172,7 +174,7 @@ fn nearest(order: Order, over: u16, below: [u16; 16], above: [u16; 16]) -> usize
         let w = g.0 as usize;
         let down = below[w];
         let up = above[w];
-        if is_near(over, w, down, up) {
+        if is_near(over, g, down, up) {
             return i;
         }
     }
@@ -187,4 +189,115 @@ fn blank(top: u16) -> usize
         return 0;
     }
     1
+}
+
+// The parent of a group, where these variables are over it.
+fn parent_of(order: Order, over: u16, lows: u16, below: [u16; 16], above: [u16; 16], blank: usize) -> Node
+    requires { ⌜ Small order × (blank ≤ 1) ⌝ }
+    ensures { λ r. ⌜ r .0 ≡ parentIn below above lows blank (groups order) over ⌝ }
+{
+    if over & lows == 0 {
+        return Node(0);
+    }
+    let place = nearest(order, over, below, above);
+    Node((blank + place) as u8)
+}
+
+// The node of each variable.
+fn assign(order: Order, below: [u16; 16], above: [u16; 16], blank: usize, n: usize) -> [Node; 16]
+    requires { ⌜ Small order × (blank ≤ 1) × (n ≤ 16) ⌝ }
+    ensures { λ r. ⌜ nodeNumbers n r ≡ tab n (placeIn below above blank (groups order)) ⌝ }
+{
+    let first = Node(0);
+    let mut nodes = [first; 16];
+    for x in 0..n {
+        let up = above[x];
+        let down = below[x];
+        let place = find(order, up & down);
+        nodes[x] = Node((blank + place) as u8);
+    }
+    nodes
+}
+
+// A record of four bytes.
+fn put(answer: &mut [u8], at: usize, kind: u8, own: u8, node: u8, last: u8)
+    requires { ⌜ at + 4 ≤ length (now answer) ⌝ }
+    ensures { λ _. ⌜ Wrote at (kind ∷ own ∷ node ∷ last ∷ []) (now (answer .entry)) (now (answer .exit)) ⌝ }
+{
+    answer[at] = kind;
+    answer[at + 1] = own;
+    answer[at + 2] = node;
+    answer[at + 3] = last;
+}
+
+fn put_node(answer: &mut [u8], own: Node, parent: Node, label: u8)
+    requires { ⌜ own .0 * 4 + 4 ≤ length (now answer) ⌝ }
+    ensures { λ _. ⌜ Wrote (own .0 * 4) (1 ∷ own .0 ∷ parent .0 ∷ label ∷ []) (now (answer .entry)) (now (answer .exit)) ⌝ }
+{
+    put(answer, own.0 as usize * 4, 1, own.0, parent.0, label);
+}
+
+fn put_place(answer: &mut [u8], at: usize, own: Var, node: Node)
+    requires { ⌜ at + 4 ≤ length (now answer) ⌝ }
+    ensures { λ _. ⌜ Wrote at (2 ∷ own .0 ∷ node .0 ∷ 0 ∷ []) (now (answer .entry)) (now (answer .exit)) ⌝ }
+{
+    put(answer, at, 2, own.0, node.0, 0);
+}
+
+fn put_blank(answer: &mut [u8], blank: usize)
+    requires { ⌜ 4 ≤ length (now answer) ⌝ }
+    ensures { λ _. ⌜ Wrote 0 (nodeBytes 0 (pick (eqb blank 1) (blankRecord ∷ []) [])) (now (answer .entry)) (now (answer .exit)) ⌝ }
+{
+    if blank == 1 {
+        put_node(answer, Node(0), Node(0), 0);
+    }
+}
+
+// The nodes of the groups, behind the blank one.
+fn put_nodes(answer: &mut [u8], order: Order, below: [u16; 16], above: [u16; 16], label: [u8; 16], lows: u16, blank: usize, n: usize)
+    requires { ⌜ Small order × (blank ≤ 1) × (n ≤ 16) × ((blank + order .len) * 4 ≤ length (now answer)) ⌝ }
+    ensures { λ _. ⌜ Wrote (blank * 4) (nodeBytes blank (map (nodeIn below above label n lows blank (groups order)) (groups order))) (now (answer .entry)) (now (answer .exit)) ⌝ }
+{
+    let len = order.len;
+    for i in 0..len {
+        let g = order.group[i];
+        let x = g.0 as usize;
+        let up = above[x];
+        let down = below[x];
+        let l = label[x];
+        let parent = parent_of(order, over(up, down, n), lows, below, above, blank);
+        put_node(answer, Node((blank + i) as u8), parent, l);
+    }
+}
+
+// The places of the variables.
+fn put_places(answer: &mut [u8], at: usize, nodes: [Node; 16], n: usize)
+    requires { ⌜ (n ≤ 16) × (at + n * 4 ≤ length (now answer)) ⌝ }
+    ensures { λ _. ⌜ Wrote at (placeBytes 0 (nodeNumbers n nodes)) (now (answer .entry)) (now (answer .exit)) ⌝ }
+{
+    for x in 0..n {
+        let v = nodes[x];
+        put_place(answer, at + x * 4, Var(x as u8), v);
+    }
+}
+
+// The answer file of the tables at the front of the buffer, and how many bytes it has.
+pub fn read_off(f: Facts, n: usize, answer: &mut [u8]) -> usize
+    requires { ⌜ (n ≤ 16) × (132 ≤ length (now answer)) × Mirrored f ⌝ }
+    ensures { λ r. ⌜ Answered n (has f) (now (answer .entry)) r (now (answer .exit)) ⌝ }
+{
+    let below = f.below;
+    let above = f.above;
+    let label = f.label;
+    let low = lows(below, above, n);
+    let layer = layers(below, above, low, n);
+    let order = in_order(layer, n);
+    let top = layer[0];
+    let first = blank(top);
+    put_blank(answer, first);
+    put_nodes(answer, order, below, above, label, low, first, n);
+    let at = (first + order.len) * 4;
+    let nodes = assign(order, below, above, first, n);
+    put_places(answer, at, nodes, n);
+    at + n * 4
 }

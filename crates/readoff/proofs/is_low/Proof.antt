@@ -3,6 +3,9 @@ use borrow.Author.Needs.{needs}
 use Rattle.readoff.proofs.is_low.Statement.{statement}
 use Rattle.readoff.proofs.is_low.Tie as tie
 
+cast-all : tie.Need-cast-all
+cast-all c = search needs
+
 all-requires : tie.Need-all-requires
 all-requires c κs = search needs
 
@@ -10,4 +13,4 @@ returns : tie.Need-returns
 returns c = rw (c .all .ensures)
 
 pub is-low-spec : {M : Type 1} → statement M
-is-low-spec = tie.close (tie.spec all-requires returns)
+is-low-spec = tie.close (tie.spec cast-all all-requires returns)

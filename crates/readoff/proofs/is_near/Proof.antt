@@ -4,6 +4,9 @@ use borrow.Author.Needs.{needs}
 use Rattle.readoff.proofs.is_near.Statement.{statement}
 use Rattle.readoff.proofs.is_near.Tie as tie
 
+cast-has : tie.Need-cast-has
+cast-has c = search needs
+
 has-requires : tie.Need-has-requires
 has-requires c κs = search needs
 
@@ -14,4 +17,4 @@ returns : tie.Need-returns
 returns c = rw (c .before .has .ensures, c .without .ensures) (and-is _ _)
 
 pub is-near-spec : {M : Type 1} → statement M
-is-near-spec = tie.close (tie.spec has-requires without-requires returns)
+is-near-spec = tie.close (tie.spec cast-has has-requires without-requires returns)

@@ -28,6 +28,9 @@ mul-down c = search needs
 array-read-down : tie.Need-array-read-down Inv-loop μ-loop
 array-read-down c = search needs
 
+cast-t17 : tie.Need-cast-t17 Inv-loop μ-loop
+cast-t17 c = search needs
+
 is-low-requires : tie.Need-is-low-requires Inv-loop μ-loop
 is-low-requires c κs = search needs
 
@@ -58,6 +61,7 @@ lows-spec =
     array-read-up
     mul-down
     array-read-down
+    cast-t17
     is-low-requires
     mark-requires
     add-x
