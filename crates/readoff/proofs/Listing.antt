@@ -72,35 +72,35 @@ group-at o i d h l =
     at (v ∷ vs) zero l = refl
     at (v ∷ vs) (suc i) l = at vs i (le-of-suc-le-suc l)
 
+module _ (o : Order) (long : length (o .group) ≡ 16) (s : Small o) where
+  pub count-is : length (groups o) ≡ o .len
+  count-is = let a = s .few in length-groups o (omega arith)
+
+  pub member-at : (i : ℕ) → i < o .len → getD (groups o) i 0 ≡ getD (o .group) i record { 0 = 0 } .0
+  member-at i l = let a = s .few in group-at o i record { 0 = 0 } (omega arith) l
+
+  pub inside-at : (i : ℕ) → i < o .len → getD (o .group) i record { 0 = 0 } .0 < 16
+  inside-at i l = subst (λ (x : ℕ). x < 16) (member-at i l) (s .inside _ (getD-mem (groups o) i (rw count-is l)))
+
 -- ---- a scan of the groups for the first that passes a test
 
 module _ (p : ℕ → Bool) (o : Order) (long : length (o .group) ≡ 16) (s : Small o) where
-  pub inside-at : (i : ℕ) → i < o .len → getD (o .group) i record { 0 = 0 } .0 < 16
-  inside-at i l =
-      let a = s .few in
-      subst (λ (x : ℕ). x < 16) (group-at o i record { 0 = 0 } (omega arith) l) (s .inside _ (getD-mem (groups o) i (rw (length-groups o (omega arith)) l)))
-
-  count-is : length (groups o) ≡ o .len
-  count-is = let a = s .few in length-groups o (omega arith)
-
   pub place-most : position p (groups o) ≤ 16
-  place-most = let a = s .few in let b = position-most p (groups o) in omega (arith, count-is)
+  place-most = let a = s .few in let b = position-most p (groups o) in omega (arith, count-is o long s)
 
   pub scan-here : (i : ℕ) → i < o .len → p (getD (o .group) i record { 0 = 0 } .0) ≡ true → i + position p (drop i (groups o)) ≡ position p (groups o) → i ≡ position p (groups o)
   scan-here i l e h =
-      let a = s .few in
-      let z = position-here p (groups o) i (rw count-is l) (rw (group-at o i record { 0 = 0 } (omega arith) l) e) in
+      let z = position-here p (groups o) i (rw (count-is o long s) l) (rw (member-at o long s i l) e) in
       omega arith
 
   pub scan-next : (i : ℕ) → i < o .len → p (getD (o .group) i record { 0 = 0 } .0) ≡ false → i + position p (drop i (groups o)) ≡ position p (groups o)
       → i + 1 + position p (drop (i + 1) (groups o)) ≡ position p (groups o)
   scan-next i l e h =
-      let a = s .few in
-      let z = position-next p (groups o) i (rw count-is l) (rw (group-at o i record { 0 = 0 } (omega arith) l) e) in
+      let z = position-next p (groups o) i (rw (count-is o long s) l) (rw (member-at o long s i l) e) in
       omega arith
 
   pub scan-end : (i : ℕ) → i ≤ o .len → o .len ≤ i → i + position p (drop i (groups o)) ≡ position p (groups o) → o .len ≡ position p (groups o)
-  scan-end i l m h = let z = position-end p (groups o) i (rw count-is m) in omega arith
+  scan-end i l m h = let z = position-end p (groups o) i (rw (count-is o long s) m) in omega arith
 
 -- ---- the members of a row, put behind the groups
 

@@ -12,10 +12,14 @@ use Rattle.meaning.specs.Finite.{pick, tab}
 use Rattle.meaning.specs.ReadOff.{NodeRecord, blankRecord, nodeBytes, placeBytes}
 use Rattle.meaning.proofs.Tests.{eq-yes, is-eq}
 use Rattle.theory.proofs.AnswerFile.{length-nodeBytes, length-placeBytes}
+use Rattle.tables.specs.Tables.{row}
 use Rattle.ids.specs.declared.Node.{Node}
-use Rattle.readoff.specs.Listing.{nodeNumbers}
+use Rattle.readoff.specs.declared.Order.{Order}
+use Rattle.readoff.specs.Rows.{overRow}
+use Rattle.readoff.specs.Listing.{groups, Small, nodeNumbers, parentIn, nodeIn}
 use Rattle.readoff.specs.Written.{Wrote}
 use Rattle.readoff.proofs.Bits.{yes-not}
+use Rattle.readoff.proofs.Listing.{member-at}
 
 pub wrote-none : (at : ℕ) (old : List ℕ) → Wrote at [] old old
 wrote-none at old = rw (add-zero, append-nil (take at old)) (sym (take-append-drop at old))
@@ -109,6 +113,17 @@ module _ (f : ℕ → NodeRecord) (gs : List ℕ) (blank : ℕ) where
   pub nodes-all : (i : ℕ) (old new : List ℕ) → i ≡ length gs → Wrote (blank * 4) (firstNodes i) old new → Wrote (blank * 4) (nodeBytes blank (map f gs)) old new
   unfolding firstNodes
   nodes-all i old new e w = subst (λ (xs : List ℕ). Wrote (blank * 4) (nodeBytes blank (map f xs)) old new) (ap (λ (k : ℕ). take k gs) e ∙ take-length gs) w
+
+-- the record that is computed is that of the group
+module _ (t u labels : List ℕ) (n lows blank : ℕ) (o : Order) (long : length (o .group) ≡ 16) (s : Small o) (i : ℕ) (l : i < o .len) where
+  pub up-is : (above p : ℕ) → above ≡ overRow n (row u (getD (o .group) i record { 0 = 0 } .0)) (row t (getD (o .group) i record { 0 = 0 } .0))
+      → p ≡ parentIn t u lows blank (groups o) above → p ≡ nodeIn t u labels n lows blank (groups o) (getD (groups o) i 0) .up
+  unfolding nodeIn
+  up-is above p a e = rw (member-at o long s i l) (e ∙ ap (parentIn t u lows blank (groups o)) a)
+
+  pub mark-is : row labels (getD (o .group) i record { 0 = 0 } .0) ≡ nodeIn t u labels n lows blank (groups o) (getD (groups o) i 0) .mark
+  unfolding nodeIn
+  mark-is = rw (member-at o long s i l)
 
 -- ---- places
 

@@ -27,7 +27,7 @@ cast-has : tie.Need-cast-has Inv-loop μ-loop
 cast-has c = search needs
 
 has-requires : tie.Need-has-requires Inv-loop μ-loop
-has-requires c κs = let i = c .before .before .before in inside-at (bit (i .before .args .row)) (i .before .args .t1) (search (needs, length-mapped)) (i .before .pre) (i .loop .i) (search needs)
+has-requires c κs = let i = c .before .before .before in inside-at (i .before .args .t1) (search (needs, length-mapped)) (i .before .pre) (i .loop .i) (search needs)
 
 returns : tie.Need-returns Inv-loop μ-loop
 returns c =

@@ -27,19 +27,19 @@ cast-w : tie.Need-cast-w Inv-loop μ-loop
 cast-w c = search needs
 
 mul-down : tie.Need-mul-down Inv-loop μ-loop
-mul-down c = let i = c .before .before .before in let s = inside-at (near (i .before .args .t3) (i .before .args .t4) (i .before .args .over)) (i .before .args .t1) (search (needs, length-mapped)) (i .before .pre) (i .loop .i) (search needs) in omega arith
+mul-down c = let i = c .before .before .before in let s = inside-at (i .before .args .t1) (search (needs, length-mapped)) (i .before .pre) (i .loop .i) (search needs) in omega arith
 
 array-read-down : tie.Need-array-read-down Inv-loop μ-loop
-array-read-down c = let i = c .before .before .before in inside-at (near (i .before .args .t3) (i .before .args .t4) (i .before .args .over)) (i .before .args .t1) (search (needs, length-mapped)) (i .before .pre) (i .loop .i) (search needs)
+array-read-down c = let i = c .before .before .before in inside-at (i .before .args .t1) (search (needs, length-mapped)) (i .before .pre) (i .loop .i) (search needs)
 
 mul-up : tie.Need-mul-up Inv-loop μ-loop
-mul-up c = let i = c .before .before .before in let s = inside-at (near (i .before .args .t3) (i .before .args .t4) (i .before .args .over)) (i .before .args .t1) (search (needs, length-mapped)) (i .before .pre) (i .loop .i) (search needs) in omega arith
+mul-up c = let i = c .before .before .before in let s = inside-at (i .before .args .t1) (search (needs, length-mapped)) (i .before .pre) (i .loop .i) (search needs) in omega arith
 
 array-read-up : tie.Need-array-read-up Inv-loop μ-loop
-array-read-up c = let i = c .before .before .before in inside-at (near (i .before .args .t3) (i .before .args .t4) (i .before .args .over)) (i .before .args .t1) (search (needs, length-mapped)) (i .before .pre) (i .loop .i) (search needs)
+array-read-up c = let i = c .before .before .before in inside-at (i .before .args .t1) (search (needs, length-mapped)) (i .before .pre) (i .loop .i) (search needs)
 
 is-near-requires : tie.Need-is-near-requires Inv-loop μ-loop
-is-near-requires c κs = let i = c .before .before .before in inside-at (near (i .before .args .t3) (i .before .args .t4) (i .before .args .over)) (i .before .args .t1) (search (needs, length-mapped)) (i .before .pre) (i .loop .i) (search needs)
+is-near-requires c κs = let i = c .before .before .before in inside-at (i .before .args .t1) (search (needs, length-mapped)) (i .before .pre) (i .loop .i) (search needs)
 
 returns : tie.Need-returns Inv-loop μ-loop
 unfolding near
