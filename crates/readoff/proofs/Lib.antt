@@ -3,3 +3,4 @@ pub mod Helpers
 pub mod Layered
 pub mod Listing
 pub mod Written
+pub mod Meaning
