@@ -4,3 +4,4 @@ pub mod Layered
 pub mod Listing
 pub mod Written
 pub mod Meaning
+pub mod Answer
