@@ -179,8 +179,10 @@ module _ (f : Facts) (n : ℕ) (few : n ≤ 16) (m : Columns (f .below) (f .abov
     pub parent-is : (x : ℕ) → x < n → parentIn (f .below) (f .above) lows (blank n (has f)) (order n (has f)) (rowOf x) ≡ parentOf n (has f) x
     unfolding parentIn parentOf
     parent-is x h =
-        rw (top-is x (omega arith),
-        position-eq (near (f .below) (f .above) (rowOf x)) (λ w. nearest n (has f) w x) (order n (has f)) (λ w k. near-is x w h (order-inside n (has f) w k)))
+        rw (
+          top-is x (omega arith),
+          position-eq (near (f .below) (f .above) (rowOf x)) (λ w. nearest n (has f) w x) (order n (has f)) (λ w k. near-is x w h (order-inside n (has f) w k)),
+        )
 
   pub place-is : (x : ℕ) → x < n → placeIn (f .below) (f .above) (blank n (has f)) (order n (has f)) x ≡ place n (has f) x
   unfolding placeIn place

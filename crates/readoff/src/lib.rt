@@ -192,7 +192,14 @@ fn blank(top: u16) -> usize
 }
 
 // The parent of a group, where these variables are over it.
-fn parent_of(order: Order, over: u16, lows: u16, below: [u16; 16], above: [u16; 16], blank: usize) -> Node
+fn parent_of(
+    order: Order,
+    over: u16,
+    lows: u16,
+    below: [u16; 16],
+    above: [u16; 16],
+    blank: usize,
+) -> Node
     requires { ⌜ Small order × (blank ≤ 1) ⌝ }
     ensures { λ r. ⌜ r .0 ≡ parentIn below above lows blank (groups order) over ⌝ }
 {
@@ -254,7 +261,16 @@ fn put_blank(answer: &mut [u8], blank: usize)
 }
 
 // The nodes of the groups, behind the blank one.
-fn put_nodes(answer: &mut [u8], order: Order, below: [u16; 16], above: [u16; 16], label: [u8; 16], lows: u16, blank: usize, n: usize)
+fn put_nodes(
+    answer: &mut [u8],
+    order: Order,
+    below: [u16; 16],
+    above: [u16; 16],
+    label: [u8; 16],
+    lows: u16,
+    blank: usize,
+    n: usize,
+)
     requires { ⌜ Small order × (blank ≤ 1) × (n ≤ 16) × ((blank + order .len) * 4 ≤ length (now answer)) ⌝ }
     ensures { λ _. ⌜ Wrote (blank * 4) (nodeBytes blank (map (nodeIn below above label n lows blank (groups order)) (groups order))) (now (answer .entry)) (now (answer .exit)) ⌝ }
 {

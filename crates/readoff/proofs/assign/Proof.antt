@@ -65,9 +65,11 @@ loop-again : tie.Need-loop-again Inv-loop μ-loop
 unfolding placeIn
 loop-again c =
     let i = c .before .before in
-    let s = i .before in
-    (search needs, search needs,
-    assigned-more (i .loop .nodes) (i .loop .x) _ (placeIn (s .args .t2) (s .args .t3) (s .args .blank) (groups (s .args .order))) (search needs) (ap (λ (k : ℕ). s .args .blank + k) (c .find .ensures)) (i .loop .inv .2))
+    let s = i .before in (
+      search needs,
+      search needs,
+      assigned-more (i .loop .nodes) (i .loop .x) _ (placeIn (s .args .t2) (s .args .t3) (s .args .blank) (groups (s .args .order))) (search needs) (ap (λ (k : ℕ). s .args .blank + k) (c .find .ensures)) (i .loop .inv .2),
+    )
 
 returns : tie.Need-returns Inv-loop μ-loop
 returns c = let e : c .before .loop .x ≡ c .before .before .args .n = search needs in rw (← e) (c .before .loop .inv .2)

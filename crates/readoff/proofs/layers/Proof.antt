@@ -62,10 +62,12 @@ loop-less c = search needs
 loop-again : tie.Need-loop-again Inv-loop μ-loop
 unfolding deep
 loop-again c =
-    let i = c .before .before .before .before .before in
-    (search needs, search needs,
-    layered-more _ _ _ _ (i .loop .x) _ _ _ _ (i .loop .layer) (i .loop .inv .1) (c .before .before .before .over .ensures)
-    (c .before .before .count .ensures .0) (c .before .has .ensures) (c .mark .ensures) (i .loop .inv .2))
+    let i = c .before .before .before .before .before in (
+      search needs,
+      search needs,
+      layered-more _ _ _ _ (i .loop .x) _ _ _ _ (i .loop .layer) (i .loop .inv .1) (c .before .before .before .over .ensures)
+          (c .before .before .count .ensures .0) (c .before .has .ensures) (c .mark .ensures) (i .loop .inv .2),
+    )
 
 returns : tie.Need-returns Inv-loop μ-loop
 unfolding Layered

@@ -68,11 +68,13 @@ loop-again c =
     let s = i .before .before in
     let l = c .before .before .before .before .before .before .before .before .loop-test .taken in
     let long : length (s .args .t2 .group) ≡ 16 = search (needs, length-mapped) in
-    let e = count-is (s .args .t2) long (s .pre .0) in
-    (search needs, omega (arith, c .before .before .put-node .kept .0, i .loop .inv .1),
-    nodes-more (nodeIn (s .args .t3) (s .args .t4) (s .args .t5) (s .args .n) (s .args .lows) (s .args .blank) (groups (s .args .t2))) (groups (s .args .t2)) (s .args .blank) (i .loop .i) _ _
-    (s .args .answer .now) (i .loop .answer) (c .before .before .put-node .last .0) (omega (arith, l, e))
-    (up-is _ _ _ _ _ _ _ long (s .pre .0) (i .loop .i) l _ _ (c .before .before .before .before .before .over .ensures) (c .before .before .before .before .parent-of .ensures)) (mark-is _ _ _ _ _ _ _ long (s .pre .0) (i .loop .i) l) (omega (arith, s .pre .3, e)) (i .loop .inv .2) (c .before .before .put-node .ensures))
+    let e = count-is (s .args .t2) long (s .pre .0) in (
+      search needs,
+      omega (arith, c .before .before .put-node .kept .0, i .loop .inv .1),
+      nodes-more (nodeIn (s .args .t3) (s .args .t4) (s .args .t5) (s .args .n) (s .args .lows) (s .args .blank) (groups (s .args .t2))) (groups (s .args .t2)) (s .args .blank) (i .loop .i) _ _
+          (s .args .answer .now) (i .loop .answer) (c .before .before .put-node .last .0) (omega (arith, l, e))
+          (up-is _ _ _ _ _ _ _ long (s .pre .0) (i .loop .i) l _ _ (c .before .before .before .before .before .over .ensures) (c .before .before .before .before .parent-of .ensures)) (mark-is _ _ _ _ _ _ _ long (s .pre .0) (i .loop .i) l) (omega (arith, s .pre .3, e)) (i .loop .inv .2) (c .before .before .put-node .ensures),
+    )
 
 same-length : tie.Need-same-length Inv-loop μ-loop
 same-length c = search needs

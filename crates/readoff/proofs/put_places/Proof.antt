@@ -42,9 +42,11 @@ loop-less c = search needs
 loop-again : tie.Need-loop-again Inv-loop μ-loop
 loop-again c =
     let i = c .before .before .before .before .before .before in
-    let s = i .before .before in
-    (search needs, omega (arith, c .before .before .put-place .kept .0, i .loop .inv),
-    places-more (s .args .t3) (s .args .at) (i .loop .x) (s .args .answer .now) (i .loop .answer) (c .before .before .put-place .last .0) (search needs) (omega (arith, s .pre, i .loop .inv)) (i .loop .inv .2) (c .before .before .put-place .ensures))
+    let s = i .before .before in (
+      search needs,
+      omega (arith, c .before .before .put-place .kept .0, i .loop .inv),
+      places-more (s .args .t3) (s .args .at) (i .loop .x) (s .args .answer .now) (i .loop .answer) (c .before .before .put-place .last .0) (search needs) (omega (arith, s .pre, i .loop .inv)) (i .loop .inv .2) (c .before .before .put-place .ensures),
+    )
 
 same-length : tie.Need-same-length Inv-loop μ-loop
 same-length c = search needs

@@ -38,9 +38,10 @@ module _ (c : tie.After-blank) where
   s = c .before .before .before .before .before .before .before .before
 
   few-nodes : (c .blank .result ≤ 1) × (c .before .in-order .result .len ≤ s .args .n)
-  few-nodes =
-      (first-most (s .args .f) (s .args .n) (c .before .before .before .lows .result) (c .before .before .layers .result) (c .before .in-order .result) (ordered (c .before)) (c .blank .result) (c .blank .ensures),
-      len-most (s .args .f) (s .args .n) (c .before .before .before .lows .result) (c .before .before .layers .result) (c .before .in-order .result) (ordered (c .before)))
+  few-nodes = (
+    first-most (s .args .f) (s .args .n) (c .before .before .before .lows .result) (c .before .before .layers .result) (c .before .in-order .result) (ordered (c .before)) (c .blank .result) (c .blank .ensures),
+    len-most (s .args .f) (s .args .n) (c .before .before .before .lows .result) (c .before .before .layers .result) (c .before .in-order .result) (ordered (c .before)),
+  )
 
 lows-requires : tie.Need-lows-requires
 lows-requires c κs = search needs
