@@ -46,7 +46,10 @@ fn solve_accepted(constraints: &[u8], n: usize, answer: &mut [u8], allowance: u3
         End::Spent => Verdict::Spent { count: found.count },
         End::Tree => {
             let bytes = readoff::read_off(found.facts, n, answer);
-            Verdict::Tree { bytes, count: found.count }
+            Verdict::Tree {
+                bytes,
+                count: found.count,
+            }
         }
     }
 }

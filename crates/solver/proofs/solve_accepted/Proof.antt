@@ -1,5 +1,7 @@
 -- What the search reports is answered, and a tree is written.
+use Prim.Native.Nat.{ℕ, _<_}
 use native.Mathlib.Omega.{arith}
+use lib.ListN.{getD}
 use Rattle.solver.proofs.Answers.{variables-few, vars-within, solves-none, solves-spent, solves-tree, tree-ready, answer-none, answer-spent, answer-tree}
 use borrow.Author.Needs.{needs}
 use Rattle.solver.proofs.solve_accepted.Statement.{statement}
@@ -38,9 +40,8 @@ read-off-requires c κs =
     let searched = c .before .before .before in
     let known = searched .before .before .before in
     let start = known .before in
-    let small = λ i. omega (arith, known .shared-slice-known .given i) in
-    let within = vars-within (start .args .constraints .now) small _ (start .pre .0) in
-    (
+    let small : (i : ℕ) → getD (start .args .constraints .now) i 0 < 256 = λ i. omega (arith, known .shared-slice-known .given i) in
+    let within = vars-within (start .args .constraints .now) small _ (start .pre .0) in (
       variables-few (start .args .constraints .now) small _ (start .pre .0),
       start .pre .1,
       tree-ready _ _ _ within _ (searched .search .ensures .reports _ (searched .before .first-line .ensures)) (c .before .enum-told3 .given .1) .1 .mirrored,
