@@ -1,0 +1,143 @@
+// Marks per second of `cudreth_mark` (the proved marker, from target/staticlib/libcapi.a) beside a plain Rust marker, in one run.
+// Each case is 256 records against 64 nodes, all met, so that every record is looked at. bench/marker/run builds and runs it.
+use std::hint::black_box;
+use std::time::Instant;
+
+mod plain;
+
+extern "C" {
+    fn cudreth_mark(constraints: *const u8, constraints_len: usize, answer: *const u8, answer_len: usize) -> u64;
+}
+
+fn proved(constraints: &[u8], answer: &[u8]) -> u64 {
+    unsafe { cudreth_mark(constraints.as_ptr(), constraints.len(), answer.as_ptr(), answer.len()) }
+}
+
+// A small generator of numbers, so that every run has the same cases.
+struct Rng(u64);
+
+impl Rng {
+    fn below(&mut self, n: u64) -> u64 {
+        self.0 ^= self.0 << 13;
+        self.0 ^= self.0 >> 7;
+        self.0 ^= self.0 << 17;
+        (self.0 >> 11) % n
+    }
+}
+
+struct Case {
+    name: &'static str,
+    constraints: Vec<u8>,
+    answer: Vec<u8>,
+}
+
+fn answer(parents: &[u8], labels: &[u8], places: &[u8]) -> Vec<u8> {
+    let mut bytes = Vec::new();
+    for v in 0..parents.len() {
+        bytes.extend([1, v as u8, parents[v], labels[v]]);
+    }
+    for x in 0..places.len() {
+        bytes.extend([2, x as u8, places[x], 0]);
+    }
+    bytes
+}
+
+// Records drawn by `draw` until 256 of them are met one by one.
+fn met(answer: &[u8], draw: &mut dyn FnMut() -> [u8; 4]) -> Vec<u8> {
+    // the last record names variable 15, so that n is 16 in each trial
+    let name_all = [4, 15, 15, 0];
+    let mut bytes = Vec::new();
+    while bytes.len() < 1020 {
+        let record = draw();
+        let mut trial = record.to_vec();
+        trial.extend(name_all);
+        if plain::mark(&trial, answer) == 0 {
+            bytes.extend(record);
+        }
+    }
+    bytes.extend(name_all);
+    bytes
+}
+
+fn cases() -> Vec<Case> {
+    let mut rng = Rng(88172645463325252);
+    let chain: Vec<u8> = (0..64).map(|v: u8| v.saturating_sub(1)).collect();
+    let star = vec![0u8; 64];
+    let random: Vec<u8> = (0..64u64).map(|v| if v == 0 { 0 } else { rng.below(v) as u8 }).collect();
+    let labels: Vec<u8> = (0..64).map(|_| 1 + rng.below(4) as u8).collect();
+    // every fourth variable shares a node, and some pairs are parent and child
+    let mut spread: Vec<u8> = Vec::new();
+    for x in 0..16usize {
+        let v = match x % 4 {
+            0 => rng.below(64) as u8,
+            1 => random[spread[x - 1] as usize],
+            2 => spread[x / 2],
+            _ => rng.below(64) as u8,
+        };
+        spread.push(v);
+    }
+    spread[0] = 0;
+    let mixed_answer = answer(&random, &labels, &spread);
+    let mixed = {
+        let mut kind = 0u8;
+        let mut tried = 0;
+        met(&mixed_answer, &mut || {
+            // kinds in turn, but not for ever: a kind that no draw meets gives way to the next
+            tried += 1;
+            if tried % 40 == 1 {
+                kind = kind % 8 + 1;
+            }
+            let (x, y) = (rng.below(16) as u8, rng.below(16) as u8);
+            match kind {
+                6 | 7 => [kind, x, 0, 0],
+                8 => [8, x, 0, labels[spread[x as usize] as usize]],
+                _ => [kind, x, y, 0],
+            }
+        })
+    };
+    let leaves: Vec<u8> = (0..16).map(|_| 1 + rng.below(63) as u8).collect();
+    let star_answer = answer(&star, &labels, &leaves);
+    let leaf = met(&star_answer, &mut || [7, rng.below(16) as u8, 0, 0]);
+    let depths: Vec<u8> = (0..16).map(|_| rng.below(64) as u8).collect();
+    let chain_answer = answer(&chain, &labels, &depths);
+    let below = met(&chain_answer, &mut || [2, rng.below(16) as u8, rng.below(16) as u8, 0]);
+    // all below the bottom: the longest ways up
+    let ends: Vec<u8> = (0..16).map(|x| if x < 8 { 0 } else { 63 }).collect();
+    let ends_answer = answer(&chain, &labels, &ends);
+    let longest = met(&ends_answer, &mut || [2, rng.below(8) as u8, 8 + rng.below(8) as u8, 0]);
+    vec![
+        Case { name: "mixed kinds", constraints: mixed, answer: mixed_answer },
+        Case { name: "leaf on a star", constraints: leaf, answer: star_answer },
+        Case { name: "below on a chain", constraints: below, answer: chain_answer },
+        Case { name: "below, top to bottom", constraints: longest, answer: ends_answer },
+    ]
+}
+
+// Nanoseconds for a mark: the least of many short runs, which is what the machine can do when nothing else takes its core.
+fn nanoseconds(mark: fn(&[u8], &[u8]) -> u64, case: &Case) -> f64 {
+    let mut least = f64::MAX;
+    for _ in 0..400 {
+        let start = Instant::now();
+        for _ in 0..500 {
+            black_box(mark(black_box(&case.constraints), black_box(&case.answer)));
+        }
+        least = least.min(start.elapsed().as_secs_f64() * 1e9 / 500.0);
+    }
+    least
+}
+
+fn main() {
+    println!("{:22} {:>12} {:>12} {:>14} {:>7}", "256 records, 64 nodes", "proved", "plain Rust", "marks/s proved", "ratio");
+    for case in cases() {
+        assert_eq!(case.constraints.len(), 1024);
+        assert_eq!(proved(&case.constraints, &case.answer), 0);
+        assert_eq!(plain::mark(&case.constraints, &case.answer), 0);
+        let p = nanoseconds(proved, &case);
+        let q = nanoseconds(plain::mark, &case);
+        println!("{:22} {:>9.0} ns {:>9.0} ns {:>14.0} {:>7.2}", case.name, p, q, 1e9 / p, p / q);
+        if std::env::args().len() > 1 {
+            let w = nanoseconds(plain::mark_masks, &case);
+            println!("   masks {w:.0}");
+        }
+    }
+}
