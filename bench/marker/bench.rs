@@ -1,4 +1,4 @@
-// Marks per second of `cudreth_mark` (the proved marker, from target/staticlib/libcapi.a) beside a plain Rust marker, in one run.
+// Marks per second of `cudreth_mark` (the proved marker, from target/staticlib/libcapi.a) beside two plain Rust markers, in one run.
 // Each case is 256 records against 64 nodes, all met, so that every record is looked at. bench/marker/run builds and runs it.
 use std::hint::black_box;
 use std::time::Instant;
@@ -113,31 +113,30 @@ fn cases() -> Vec<Case> {
     ]
 }
 
-// Nanoseconds for a mark: the least of many short runs, which is what the machine can do when nothing else takes its core.
-fn nanoseconds(mark: fn(&[u8], &[u8]) -> u64, case: &Case) -> f64 {
-    let mut least = f64::MAX;
+// Nanoseconds for a mark by each of three markers: the least of many short runs, taken in turn, which is what the machine can do when
+// nothing else takes its core.
+fn nanoseconds(markers: [fn(&[u8], &[u8]) -> u64; 3], case: &Case) -> [f64; 3] {
+    let mut least = [f64::MAX; 3];
     for _ in 0..400 {
-        let start = Instant::now();
-        for _ in 0..500 {
-            black_box(mark(black_box(&case.constraints), black_box(&case.answer)));
+        for (mark, least) in markers.iter().zip(&mut least) {
+            let start = Instant::now();
+            for _ in 0..500 {
+                black_box(mark(black_box(&case.constraints), black_box(&case.answer)));
+            }
+            *least = least.min(start.elapsed().as_secs_f64() * 1e9 / 500.0);
         }
-        least = least.min(start.elapsed().as_secs_f64() * 1e9 / 500.0);
     }
     least
 }
 
 fn main() {
-    println!("{:22} {:>12} {:>12} {:>14} {:>7}", "256 records, 64 nodes", "proved", "plain Rust", "marks/s proved", "ratio");
+    println!("| 256 records, 64 nodes | proved | marks/s | plain, walking up | ratio | plain, ancestor sets | ratio |");
+    println!("|---|---|---|---|---|---|---|");
     for case in cases() {
+        let markers = [proved, plain::mark, plain::mark_by_sets];
         assert_eq!(case.constraints.len(), 1024);
-        assert_eq!(proved(&case.constraints, &case.answer), 0);
-        assert_eq!(plain::mark(&case.constraints, &case.answer), 0);
-        let p = nanoseconds(proved, &case);
-        let q = nanoseconds(plain::mark, &case);
-        println!("{:22} {:>9.0} ns {:>9.0} ns {:>14.0} {:>7.2}", case.name, p, q, 1e9 / p, p / q);
-        if std::env::args().len() > 1 {
-            let w = nanoseconds(plain::mark_masks, &case);
-            println!("   masks {w:.0}");
-        }
+        assert_eq!(markers.map(|mark| mark(&case.constraints, &case.answer)), [0; 3]);
+        let [p, walking, sets] = nanoseconds(markers, &case);
+        println!("| {} | {p:.0} ns | {:.0} | {walking:.0} ns | {:.2} | {sets:.0} ns | {:.2} |", case.name, 1e9 / p, p / walking, p / sets);
     }
 }

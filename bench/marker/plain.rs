@@ -1,5 +1,5 @@
-// A plain Rust marker, as one would write it with no proof in mind: questions 1 to 6 of the constraints, 8 to 12 of the answer, then the
-// constraints in order. Its result is that of `cudreth_mark`.
+// Two plain Rust markers, as one would write them with no proof in mind: questions 1 to 6 of the constraints, 8 to 12 of the answer,
+// then the constraints in order. Their results are those of `cudreth_mark`.
 const REFUSED: u64 = 3 << 48;
 
 fn unmet(kind: u8, position: usize) -> u64 {
@@ -116,67 +116,59 @@ impl Sheet {
         }
         u == v
     }
+
+    // for each node the nodes at or above it, a bit for each
+    fn ancestor_sets(&self) -> [u64; 64] {
+        let mut sets = [0u64; 64];
+        sets[0] = 1;
+        for v in 1..self.nodes {
+            sets[v] = sets[self.parent[v] as usize] | 1 << v;
+        }
+        sets
+    }
 }
 
+#[inline(always)]
+fn first_unmet(constraints: &[u8], sheet: &Sheet, above: impl Fn(u8, u8) -> bool) -> u64 {
+    for (position, r) in constraints.chunks_exact(4).enumerate() {
+        let x = sheet.place[r[1] as usize];
+        let y = sheet.place[r[2] as usize];
+        let met = match r[0] {
+            1 => y != 0 && sheet.parent[y as usize] == x,
+            2 => above(x, y),
+            3 => x != y && above(x, y),
+            4 => x == y,
+            5 => x != y,
+            6 => x == 0,
+            7 => sheet.inner >> x & 1 == 0,
+            _ => sheet.label[x as usize] == r[3],
+        };
+        if !met {
+            return unmet(r[0], position);
+        }
+    }
+    0
+}
+
+fn read(constraints: &[u8], answer: &[u8]) -> Result<Sheet, u64> {
+    sheet(answer, variables(constraints)?)
+}
+
+// The straightforward one: below is a walk up from y.
 pub fn mark(constraints: &[u8], answer: &[u8]) -> u64 {
-    let n = match variables(constraints) {
-        Ok(n) => n,
-        Err(q) => return REFUSED | q,
-    };
-    let sheet = match sheet(answer, n) {
-        Ok(sheet) => sheet,
-        Err(q) => return REFUSED | q,
-    };
-    for (position, r) in constraints.chunks_exact(4).enumerate() {
-        let x = sheet.place[r[1] as usize];
-        let y = sheet.place[r[2] as usize];
-        let met = match r[0] {
-            1 => y != 0 && sheet.parent[y as usize] == x,
-            2 => sheet.above(x, y),
-            3 => x != y && sheet.above(x, y),
-            4 => x == y,
-            5 => x != y,
-            6 => x == 0,
-            7 => sheet.inner >> x & 1 == 0,
-            _ => sheet.label[x as usize] == r[3],
-        };
-        if !met {
-            return unmet(r[0], position);
-        }
+    match read(constraints, answer) {
+        Ok(sheet) => first_unmet(constraints, &sheet, |u, v| sheet.above(u, v)),
+        Err(q) => REFUSED | q,
     }
-    0
 }
 
-pub fn mark_masks(constraints: &[u8], answer: &[u8]) -> u64 {
-    let n = match variables(constraints) {
-        Ok(n) => n,
-        Err(q) => return REFUSED | q,
-    };
-    let sheet = match sheet(answer, n) {
-        Ok(sheet) => sheet,
-        Err(q) => return REFUSED | q,
-    };
-    let mut above = [0u64; 64];
-    above[0] = 1;
-    for v in 1..sheet.nodes {
-        above[v] = above[sheet.parent[v] as usize] | 1 << v;
-    }
-    for (position, r) in constraints.chunks_exact(4).enumerate() {
-        let x = sheet.place[r[1] as usize];
-        let y = sheet.place[r[2] as usize];
-        let met = match r[0] {
-            1 => y != 0 && sheet.parent[y as usize] == x,
-            2 => above[y as usize] >> x & 1 == 1,
-            3 => x != y && above[y as usize] >> x & 1 == 1,
-            4 => x == y,
-            5 => x != y,
-            6 => x == 0,
-            7 => sheet.inner >> x & 1 == 0,
-            _ => sheet.label[x as usize] == r[3],
-        };
-        if !met {
-            return unmet(r[0], position);
+// The one that computes what the proved marker computes: below is one bit.
+pub fn mark_by_sets(constraints: &[u8], answer: &[u8]) -> u64 {
+    match read(constraints, answer) {
+        Ok(sheet) => {
+            let sets = sheet.ancestor_sets();
+            first_unmet(constraints, &sheet, |u, v| sets[v as usize] >> u & 1 == 1)
         }
+        Err(q) => REFUSED | q,
     }
-    0
 }
