@@ -113,6 +113,47 @@ fn cases() -> Vec<Case> {
     ]
 }
 
+// The three markers agree on files drawn at random: small bytes, whole records and files that nearly pass, so that every answer comes.
+fn agree(markers: [fn(&[u8], &[u8]) -> u64; 3], rounds: usize) -> usize {
+    let mut rng = Rng(7046029254386353131);
+    let mut seen = std::collections::BTreeSet::new();
+    for _ in 0..rounds {
+        let mut constraints = Vec::new();
+        let mut n = 0;
+        for _ in 0..rng.below(5) {
+            let (kind, x, y) = (1 + rng.below(8) as u8, rng.below(4) as u8, rng.below(4) as u8);
+            constraints.extend(match kind {
+                6 | 7 => [kind, x, 0, 0],
+                8 => [8, x, 0, 1 + rng.below(2) as u8],
+                _ => [kind, x, y, 0],
+            });
+            n = n.max(x + 1).max(if kind < 6 { y + 1 } else { 0 });
+        }
+        let nodes = 1 + rng.below(if rng.below(50) == 0 { 70 } else { 6 });
+        let parents: Vec<u8> = (0..nodes).map(|v| if v == 0 { 0 } else { rng.below(v) as u8 }).collect();
+        let labels: Vec<u8> = (0..nodes).map(|_| rng.below(3) as u8).collect();
+        let places: Vec<u8> = (0..n).map(|_| rng.below(nodes) as u8).collect();
+        let mut sheet = answer(&parents, &labels, &places);
+        // half of them with a byte changed, put in or taken out
+        for file in [&mut constraints, &mut sheet] {
+            if rng.below(4) == 0 && !file.is_empty() {
+                let at = rng.below(file.len() as u64) as usize;
+                match rng.below(8) {
+                    0 => file.insert(at, 1),
+                    1 => drop(file.remove(at)),
+                    2 => file.extend(vec![1; 1024]),
+                    _ => file[at] = rng.below(20) as u8,
+                }
+            }
+        }
+        let answers = markers.map(|mark| mark(&constraints, &sheet));
+        assert!(answers == [answers[0]; 3], "{constraints:?} {sheet:?} {answers:x?}");
+        // verdict with the kind, or with the question
+        seen.insert(if answers[0] >> 48 == 3 { answers[0] } else { answers[0] >> 32 });
+    }
+    seen.len()
+}
+
 // Nanoseconds for a mark by each of three markers: the least of many short runs, taken in turn, which is what the machine can do when
 // nothing else takes its core.
 fn nanoseconds(markers: [fn(&[u8], &[u8]) -> u64; 3], case: &Case) -> [f64; 3] {
@@ -130,10 +171,11 @@ fn nanoseconds(markers: [fn(&[u8], &[u8]) -> u64; 3], case: &Case) -> [f64; 3] {
 }
 
 fn main() {
+    let markers = [proved, plain::mark, plain::mark_by_sets];
+    println!("they agree on 300000 random pairs of files, of {} sorts of answer\n", agree(markers, 300_000));
     println!("| 256 records, 64 nodes | proved | marks/s | plain, walking up | ratio | plain, ancestor sets | ratio |");
     println!("|---|---|---|---|---|---|---|");
     for case in cases() {
-        let markers = [proved, plain::mark, plain::mark_by_sets];
         assert_eq!(case.constraints.len(), 1024);
         assert_eq!(markers.map(|mark| mark(&case.constraints, &case.answer)), [0; 3]);
         let [p, walking, sets] = nanoseconds(markers, &case);
