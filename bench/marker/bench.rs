@@ -42,13 +42,13 @@ fn answer(parents: &[u8], labels: &[u8], places: &[u8]) -> Vec<u8> {
     bytes
 }
 
-// Records drawn by `draw` until 256 of them are met one by one.
-fn met(answer: &[u8], draw: &mut dyn FnMut() -> [u8; 4]) -> Vec<u8> {
+// 256 records that are met: at each position `draw` draws until one is.
+fn met(answer: &[u8], draw: &mut dyn FnMut(usize) -> [u8; 4]) -> Vec<u8> {
     // the last record names variable 15, so that n is 16 in each trial
     let name_all = [4, 15, 15, 0];
     let mut bytes = Vec::new();
     while bytes.len() < 1020 {
-        let record = draw();
+        let record = draw(bytes.len() / 4);
         let mut trial = record.to_vec();
         trial.extend(name_all);
         if plain::mark(&trial, answer) == 0 {
@@ -65,7 +65,7 @@ fn cases() -> Vec<Case> {
     let star = vec![0u8; 64];
     let random: Vec<u8> = (0..64u64).map(|v| if v == 0 { 0 } else { rng.below(v) as u8 }).collect();
     let labels: Vec<u8> = (0..64).map(|_| 1 + rng.below(4) as u8).collect();
-    // every fourth variable shares a node, and some pairs are parent and child
+    // each kind is met by some variables: some pairs are parent and child, and some share a node
     let mut spread: Vec<u8> = Vec::new();
     for x in 0..16usize {
         let v = match x % 4 {
@@ -78,33 +78,25 @@ fn cases() -> Vec<Case> {
     }
     spread[0] = 0;
     let mixed_answer = answer(&random, &labels, &spread);
-    let mixed = {
-        let mut kind = 0u8;
-        let mut tried = 0;
-        met(&mixed_answer, &mut || {
-            // kinds in turn, but not for ever: a kind that no draw meets gives way to the next
-            tried += 1;
-            if tried % 40 == 1 {
-                kind = kind % 8 + 1;
-            }
-            let (x, y) = (rng.below(16) as u8, rng.below(16) as u8);
-            match kind {
-                6 | 7 => [kind, x, 0, 0],
-                8 => [8, x, 0, labels[spread[x as usize] as usize]],
-                _ => [kind, x, y, 0],
-            }
-        })
-    };
+    let kinds: Vec<u8> = (0..256).map(|_| 1 + rng.below(8) as u8).collect();
+    let mixed = met(&mixed_answer, &mut |position| {
+        let (x, y) = (rng.below(16) as u8, rng.below(16) as u8);
+        match kinds[position] {
+            kind @ (6 | 7) => [kind, x, 0, 0],
+            8 => [8, x, 0, labels[spread[x as usize] as usize]],
+            kind => [kind, x, y, 0],
+        }
+    });
     let leaves: Vec<u8> = (0..16).map(|_| 1 + rng.below(63) as u8).collect();
     let star_answer = answer(&star, &labels, &leaves);
-    let leaf = met(&star_answer, &mut || [7, rng.below(16) as u8, 0, 0]);
+    let leaf = met(&star_answer, &mut |_| [7, rng.below(16) as u8, 0, 0]);
     let depths: Vec<u8> = (0..16).map(|_| rng.below(64) as u8).collect();
     let chain_answer = answer(&chain, &labels, &depths);
-    let below = met(&chain_answer, &mut || [2, rng.below(16) as u8, rng.below(16) as u8, 0]);
+    let below = met(&chain_answer, &mut |_| [2, rng.below(16) as u8, rng.below(16) as u8, 0]);
     // all below the bottom: the longest ways up
     let ends: Vec<u8> = (0..16).map(|x| if x < 8 { 0 } else { 63 }).collect();
     let ends_answer = answer(&chain, &labels, &ends);
-    let longest = met(&ends_answer, &mut || [2, rng.below(8) as u8, 8 + rng.below(8) as u8, 0]);
+    let longest = met(&ends_answer, &mut |_| [2, rng.below(8) as u8, 8 + rng.below(8) as u8, 0]);
     vec![
         Case { name: "mixed kinds", constraints: mixed, answer: mixed_answer },
         Case { name: "leaf on a star", constraints: leaf, answer: star_answer },
@@ -129,7 +121,8 @@ fn agree(markers: [fn(&[u8], &[u8]) -> u64; 3], rounds: usize) -> usize {
             });
             n = n.max(x + 1).max(if kind < 6 { y + 1 } else { 0 });
         }
-        let nodes = 1 + rng.below(if rng.below(50) == 0 { 70 } else { 6 });
+        let most = if rng.below(50) == 0 { 70 } else { 6 };
+        let nodes = 1 + rng.below(most);
         let parents: Vec<u8> = (0..nodes).map(|v| if v == 0 { 0 } else { rng.below(v) as u8 }).collect();
         let labels: Vec<u8> = (0..nodes).map(|_| rng.below(3) as u8).collect();
         let places: Vec<u8> = (0..n).map(|_| rng.below(nodes) as u8).collect();
