@@ -29,6 +29,15 @@ fn gain(t: bool, row: u16, more: u16) -> u16
     row | when(t, more)
 }
 
+fn choose(t: bool, l: u8, m: u8) -> u8
+    ensures { λ r. ⌜ r ≡ pick t l m ⌝ }
+{
+    if t {
+        return l;
+    }
+    m
+}
+
 fn meet(a: u16, b: u16) -> bool
     ensures { λ r. ⌜ r ≡ meets a b ⌝ }
 {
@@ -84,9 +93,7 @@ fn label_of(t: [u8; 16], rows: u16) -> u8
     let mut a: u8 = 0;
     for x in 0usize..16 {
         let v = t[x];
-        if rowbits::has(rows, x) & (v != 0) {
-            a = v;
-        }
+        a = choose(rowbits::has(rows, x) & (v != 0), v, a);
     }
     a
 }
@@ -109,9 +116,8 @@ fn paint(t: [u8; 16], rows: u16, l: u8) -> [u8; 16]
 {
     let mut a = t;
     for x in 0usize..16 {
-        if rowbits::has(rows, x) {
-            a[x] = l;
-        }
+        let v = a[x];
+        a[x] = choose(rowbits::has(rows, x), l, v);
     }
     a
 }
