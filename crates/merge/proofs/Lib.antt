@@ -1,3 +1,7 @@
 -- What a caller cites stands in Entered: when below(b,a) follows.
 mod Rows
 mod Loops
+mod Glue
+mod Reach
+mod Masks
+mod Shared

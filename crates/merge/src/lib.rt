@@ -140,8 +140,8 @@ pub fn unify(f: Facts, x: u16) -> Round
     let parent = f.parent;
     let differ = f.differ;
     let label = f.label;
-    let w = union_rows(below, x);
-    let near = union_rows(above, x);
+    let w = x | union_rows(below, x);
+    let near = x | union_rows(above, x);
     let far = union_rows(above, when(meet(near, f.leaf), w));
     let u = near | far;
     let m = u & w;
@@ -155,7 +155,7 @@ pub fn unify(f: Facts, x: u16) -> Round
     let belows = raise_rows(below, u, w);
     let aboves = raise_rows(above, w, u);
     let children = raise_rows(raise_rows(child, m, c), p, m);
-    let parents = raise_rows(raise_rows(parent, m, p), c, m);
+    let parents = raise_rows(raise_rows(parent, c, m), m, p);
     let differs = raise_rows(raise_rows(differ, m, d), d, m);
     let labels = paint(label, m, l);
     let root = gain(meet(f.root, m), f.root, m);

@@ -1,0 +1,156 @@
+-- The tables of a round are those of the glued facts, table by table: a table of two variables, a row of one, and the labels.
+-- m is the mask of what is glued, the group that shares every fact.
+use mathlib.Core.Path.{_≡_, refl, sym, _∙_, subst}
+use mathlib.Core.Logic.{_≢_, _⊎_, inl, inr, ⊎-elim}
+use mathlib.Core.Bool.{Bool, true, false}
+use mathlib.Core.List.{List}
+use Prim.Native.Nat.{ℕ, _<_}
+use lib.Dec.{eqb}
+use lib.Bits.{bitOr, bitAnd}
+use Rattle.meaning.specs.Tree.{Var, Label}
+use Rattle.meaning.specs.Constraint.{Fact, below}
+use Rattle.meaning.specs.Finite.{Yes, _and_, neg, pick}
+use Rattle.meaning.proofs.Tests.{clash, yes-case, yes-eq, and-left, and-right, and-both, is-eq, eq-yes, pick-yes, pick-no}
+use Rattle.rowbits.specs.Bit.{bit}
+use Rattle.tables.specs.Tables.{row, Columns}
+use Rattle.merge.specs.Rows.{gained, meets, Raised, Union, LabelOf, TwoLabels, Painted}
+use Rattle.merge.specs.Merging.{Sharing, In}
+use Rattle.merge.proofs.Rows.{in-both, both-in, gained-keeps, gained-has, gained-case, meets-in, meets-out}
+use Rattle.merge.proofs.Glue.{Cut, Mid, Twin, One, Two, mid-twin, twin-cases}
+
+-- ---- a raised table
+
+raised-out : (t : List ℕ) (rows by : ℕ) (r : List ℕ) → Raised t rows by r → (i j : ℕ) → Yes (bit (row r i) j) → Yes (bit (row t i) j) ⊎ (In rows i × In by j)
+raised-out t rows by r h i j u = gained-case (bit rows i) (row t i) by j (subst (λ (k : ℕ). Yes (bit k j)) (h .rises i) u)
+
+raised-keeps : (t : List ℕ) (rows by : ℕ) (r : List ℕ) → Raised t rows by r → (i j : ℕ) → Yes (bit (row t i) j) → Yes (bit (row r i) j)
+raised-keeps t rows by r h i j u = subst (λ (k : ℕ). Yes (bit k j)) (sym (h .rises i)) (gained-keeps (bit rows i) (row t i) by j u)
+
+raised-has : (t : List ℕ) (rows by : ℕ) (r : List ℕ) → Raised t rows by r → (i j : ℕ) → In rows i → In by j → Yes (bit (row r i) j)
+raised-has t rows by r h i j u v = subst (λ (k : ℕ). Yes (bit k j)) (sym (h .rises i)) (gained-has (bit rows i) (row t i) by j u v)
+
+-- a table and its columns stay so if both are raised
+pub columns-raised : (t r : List ℕ) (rows by : ℕ) (t' r' : List ℕ) → Columns t r → Raised t rows by t' → Raised r by rows r' → Columns t' r'
+columns-raised t r rows by t' r' c h k x y lx ly =
+    yes-eq _ _
+    (λ u. ⊎-elim (λ a. raised-keeps t rows by t' h x y (sym (c x y lx ly) ∙ a)) (λ a. raised-has t rows by t' h x y (a .1) (a .0)) (raised-out r by rows r' k y x u))
+    (λ u. ⊎-elim (λ a. raised-keeps r by rows r' k y x (c x y lx ly ∙ a)) (λ a. raised-has r by rows r' k y x (a .1) (a .0)) (raised-out t rows by t' h x y u))
+
+module _ (n : ℕ) (P : Fact → Type 0) (u w : ℕ) (s : Sharing n P) (c : Cut P (In u) (In w)) where
+  abbrev G : Var → Type 0
+  G = In (bitAnd u w)
+
+  abbrev W : Var → Var → Type 0
+  W = Twin P (In u) (In w)
+
+  together : (i j : Var) → G i → G j → W i j
+  together i j a b = mid-twin n P (In u) (In w) s c (in-both u w i a) (in-both u w j b)
+
+  cases : (i j : Var) → W i j → (P (below i j) × P (below j i)) ⊎ (G i × G j)
+  cases i j t = ⊎-elim inl (λ p. inr (both-in u w i (p .0 .0) (p .0 .1), both-in u w j (p .1 .0) (p .1 .1))) (twin-cases n P (In u) (In w) s c t)
+
+  -- ---- below
+
+  pub below-out : (t r : List ℕ) → Raised t u w r → (i j : Var) → Yes (bit (row r i) j) → Yes (bit (row t i) j) ⊎ (In u i × In w j)
+  below-out t r h i j y = raised-out t u w r h i j y
+
+  pub below-in : (t r : List ℕ) → Raised t u w r → (i j : Var) → Yes (bit (row t i) j) ⊎ (In u i × In w j) → Yes (bit (row r i) j)
+  below-in t r h i j (inl y) = raised-keeps t u w r h i j y
+  below-in t r h i j (inr y) = raised-has t u w r h i j (y .0) (y .1)
+
+  -- ---- a table of two variables: the group's rows gain what they hold together, and the rows that hold one of the group gain it all
+
+  abbrev R : List ℕ → Var → Var → Type 0
+  R t i j = Yes (bit (row t i) j)
+
+  module _ (t : List ℕ) (to-left : (i j k : Var) → P (below i k) → P (below k i) → R t i j → R t k j) (to-right : (i j k : Var) → P (below j k) → P (below k j) → R t i j → R t i k)
+      (left-self : (i j : Var) → R t i j → W i i) (right-self : (i j : Var) → R t i j → W j j) (apart : (i j : Var) → G i → G j → ¬ R t i j)
+      (along : ℕ) (ua : Union t (bitAnd u w) along) (across : ℕ) (from : (i : Var) → In across i → (k : Var) × G k × R t i k) (to : (i k : Var) → G k → R t i k → In across i)
+      (r q : List ℕ) (hr : Raised t (bitAnd u w) along r) (hq : Raised r across (bitAnd u w) q) where
+    pub two-out : (i j : Var) → Yes (bit (row q i) j) → Two P (In u) (In w) (R t) i j
+    two-out i j y =
+        ⊎-elim
+        (λ y. ⊎-elim
+        (λ y. record { left = i; right = j; left-twin = left-self i j y; right-twin = right-self i j y; holds = y })
+        (λ y. let k = ua .from j (y .1) in
+        record { left = k .0; right = j; left-twin = together (k .0) i (k .1) (y .0); right-twin = right-self (k .0) j (k .2); holds = k .2 })
+        (raised-out t (bitAnd u w) along r hr i j y))
+        (λ y. let k = from i (y .0) in
+        record { left = i; right = k .0; left-twin = left-self i (k .0) (k .2); right-twin = together (k .0) j (k .1) (y .1); holds = k .2 })
+        (raised-out r across (bitAnd u w) q hq i j y)
+
+    pub two-in : (i j : Var) → Two P (In u) (In w) (R t) i j → Yes (bit (row q i) j)
+    two-in i j a =
+        ⊎-elim
+        (λ x. let y = to-left (a .left) (a .right) i (x .0) (x .1) (a .holds) in ⊎-elim
+        (λ z. up (raised-keeps t (bitAnd u w) along r hr i j (to-right i (a .right) j (z .0) (z .1) y)))
+        (λ z. raised-has r across (bitAnd u w) q hq i j (to i (a .right) (z .0) y) (z .1))
+        (cases (a .right) j (a .right-twin)))
+        (λ x. ⊎-elim
+        (λ z. up (raised-has t (bitAnd u w) along r hr i j (x .1) (ua .to (a .left) j (x .0) (to-right (a .left) (a .right) j (z .0) (z .1) (a .holds)))))
+        (λ z. absurd (apart (a .left) (a .right) (x .0) (z .0) (a .holds)))
+        (cases (a .right) j (a .right-twin)))
+        (cases (a .left) i (a .left-twin))
+      where
+        up : Yes (bit (row r i) j) → Yes (bit (row q i) j)
+        up y = raised-keeps r across (bitAnd u w) q hq i j y
+
+    -- the parents of the group are those that had a child in it
+    pub two-over : (i j : Var) → G j → Yes (bit (row q i) j) → In across i
+    two-over i j g y =
+        ⊎-elim
+        (λ y. ⊎-elim (λ y. to i j g y) (λ y. let k = ua .from j (y .1) in absurd (apart (k .0) j (k .1) g (k .2))) (raised-out t (bitAnd u w) along r hr i j y))
+        (λ y. y .0)
+        (raised-out r across (bitAnd u w) q hq i j y)
+
+  -- ---- a row of variables: the group is added if it is met
+
+  module _ (t : ℕ) (small : t < 65536) (to-twin : (i k : Var) → P (below i k) → P (below k i) → In t i → In t k) (self : (i : Var) → In t i → W i i) where
+    pub one-out : (i : Var) → In (gained (meets t (bitAnd u w)) t (bitAnd u w)) i → One P (In u) (In w) (In t) i
+    one-out i y =
+        ⊎-elim (λ y. record { it = i; twin = self i y; holds = y })
+        (λ y. let k = meets-out t (bitAnd u w) small (y .0) in record { it = k .0; twin = together (k .0) i (k .2) (y .1); holds = k .1 })
+        (gained-case _ t (bitAnd u w) i y)
+
+    pub one-in : (i : Var) → One P (In u) (In w) (In t) i → In (gained (meets t (bitAnd u w)) t (bitAnd u w)) i
+    one-in i a =
+        ⊎-elim (λ x. gained-keeps _ t (bitAnd u w) i (to-twin (a .it) i (x .0) (x .1) (a .holds)))
+        (λ x. gained-has _ t (bitAnd u w) i (meets-in t (bitAnd u w) (a .it) (a .holds) (x .0)) (x .1))
+        (cases (a .it) i (a .twin))
+
+  -- ---- labels: the group's is painted over it
+
+  -- the label of i in t is v, and v is one
+  abbrev L : List ℕ → Label → Var → Type 0
+  L t v i = Yes (eqb (row t i) v and neg (eqb v 0))
+
+  module _ (t : List ℕ) (v : Label) (to-twin : (i k : Var) → P (below i k) → P (below k i) → L t v i → L t v k) (self : (i : Var) → L t v i → W i i)
+      (l : ℕ) (lo : LabelOf t (bitAnd u w) l) (one : (i : Var) → G i → row t i ≢ 0 → row t i ≡ l) (r : List ℕ) (h : Painted t (bitAnd u w) l r) where
+    not-zero : (i : Var) (a : ℕ) → Yes (eqb a v and neg (eqb v 0)) → a ≢ 0
+    not-zero i a y z = clash (eq-yes (sym (is-eq (and-left _ y)) ∙ z)) (and-right _ y)
+
+    at : (i : Var) (a : ℕ) → row r i ≡ a → Yes (eqb (row r i) v and neg (eqb v 0)) → Yes (eqb a v and neg (eqb v 0))
+    at i a e y = subst (λ (k : ℕ). Yes (eqb k v and neg (eqb v 0))) e y
+
+    pub label-out : (i : Var) → L r v i → One P (In u) (In w) (L t v) i
+    label-out i y =
+        ⊎-elim
+        (λ g. let z = at i l (h .paints i ∙ pick-yes l (row t i) g) y in
+        let k = lo .some (not-zero i l z) in
+        record { it = k .0; twin = together (k .0) i (k .1) g; holds = subst (λ (a : ℕ). Yes (eqb a v and neg (eqb v 0))) (sym (k .2)) z })
+        (λ g. let z = at i (row t i) (h .paints i ∙ pick-no l (row t i) (λ q. clash q g)) y in record { it = i; twin = self i z; holds = z })
+        (yes-case (bit (bitAnd u w) i))
+
+    pub label-in : (i : Var) → One P (In u) (In w) (L t v) i → L r v i
+    label-in i a =
+        ⊎-elim
+        (λ x. let z = to-twin (a .it) i (x .0) (x .1) (a .holds) in ⊎-elim (λ g. painted i g z)
+        (λ g. subst (λ (k : ℕ). Yes (eqb k v and neg (eqb v 0))) (sym (h .paints i ∙ pick-no l (row t i) (λ q. clash q g))) z) (yes-case (bit (bitAnd u w) i)))
+        (λ x. subst (λ (k : ℕ). Yes (eqb k v and neg (eqb v 0))) (sym (h .paints i ∙ pick-yes l (row t i) (x .1)))
+        (subst (λ (k : ℕ). Yes (eqb k v and neg (eqb v 0))) (one (a .it) (x .0) (not-zero (a .it) _ (a .holds))) (a .holds)))
+        (cases (a .it) i (a .twin))
+      where
+        painted : (i : Var) → G i → L t v i → L r v i
+        painted i g z =
+            subst (λ (k : ℕ). Yes (eqb k v and neg (eqb v 0))) (sym (h .paints i ∙ pick-yes l (row t i) g))
+            (subst (λ (k : ℕ). Yes (eqb k v and neg (eqb v 0))) (one i g (not-zero i _ z)) z)
