@@ -5,3 +5,4 @@ mod Glue
 mod Reach
 mod Masks
 mod Shared
+mod Rounds

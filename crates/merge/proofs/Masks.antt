@@ -5,7 +5,8 @@ use mathlib.Core.Bool.{Bool, true, false, false≢true}
 use mathlib.Core.List.{List}
 use Prim.Native.Nat.{ℕ, _<_}
 use native.Mathlib.Nat.{le-trans}
-use lib.Bits.{bitOr}
+use native.Mathlib.Omega.{arith}
+use lib.Bits.{bitOr, or-lt}
 use Rattle.meaning.specs.Tree.{Var}
 use Rattle.meaning.specs.Constraint.{Fact, below, leaf}
 use Rattle.meaning.specs.Finite.{Yes, pick}
@@ -28,6 +29,11 @@ unfolding pick
 pick-in true w i y u = u
 pick-in false w i y u = absurd (false≢true y)
 
+pick-small : (t : Bool) (w : ℕ) → w < 65536 → pick t w 0 < 65536
+unfolding pick
+pick-small true w h = h
+pick-small false w h = omega arith
+
 -- the union of columns, from the table of columns
 pub union-columns : (t r : List ℕ) (rows a : ℕ) → rows < 65536 → Columns t r → Union r rows a → (i : ℕ) → In a i → (k : ℕ) × In rows k × Yes (bit (row t i) k)
 union-columns t r rows a small c u i y =
@@ -46,8 +52,10 @@ module _ (n : ℕ) (T : List Fact) (x : ℕ) (small : x < 65536) (f : Facts) (p 
 
   -- x with the unions of its rows of below and of above, and what is above a leaf's group
   module _ (w near far : ℕ) (uw : Union (f .below) x w) (un : Union (f .above) x near)
-      (uf : Union (f .above) (pick (meets (bitOr x near) (f .leaf)) (bitOr x w) 0) far)
-      (near-small : bitOr x near < 65536) (far-small : pick (meets (bitOr x near) (f .leaf)) (bitOr x w) 0 < 65536) where
+      (uf : Union (f .above) (pick (meets (bitOr x near) (f .leaf)) (bitOr x w) 0) far) where
+    far-small : pick (meets (bitOr x near) (f .leaf)) (bitOr x w) 0 < 65536
+    far-small = pick-small _ _ (or-lt 16 x w small (uw .small))
+
     near-is : (i : Var) → In (bitOr x near) i → Above (Held f) (In x) i
     unfolding has
     near-is i u = ⊎-elim (λ y. (i, y, itself i y)) (union-columns (f .below) (f .above) x near small (p .mirrored .ancestors) un i) (or-case x near i u)
@@ -64,7 +72,7 @@ module _ (n : ℕ) (T : List Fact) (x : ℕ) (small : x < 65536) (f : Facts) (p 
       up-is = λ i u. ⊎-elim (λ y. inl (near-is i y))
           (λ y. let a = union-columns (f .below) (f .above) _ far far-small (p .mirrored .ancestors) uf i y in
           let b = in-pick _ (bitOr x w) (a .0) (a .1) in
-          let e = meets-out _ _ near-small (b .0) in
+          let e = meets-out _ _ (or-lt 16 x near small (un .small)) (b .0) in
           inr ((e .0, near-is (e .0) (e .1), e .2), (a .0, b .1, a .2)))
           (or-case (bitOr x near) far i u);
       is-up = λ i a. or-l (bitOr x near) far i (is-near i a);

@@ -63,45 +63,59 @@ module _ (n : ℕ) (P : Fact → Type 0) (u w : ℕ) (s : Sharing n P) (c : Cut 
   abbrev R : List ℕ → Var → Var → Type 0
   R t i j = Yes (bit (row t i) j)
 
-  module _ (t : List ℕ) (to-left : (i j k : Var) → P (below i k) → P (below k i) → R t i j → R t k j) (to-right : (i j k : Var) → P (below j k) → P (below k j) → R t i j → R t i k)
-      (left-self : (i j : Var) → R t i j → W i i) (right-self : (i j : Var) → R t i j → W j j) (apart : (i j : Var) → G i → G j → ¬ R t i j)
-      (along : ℕ) (ua : Union t (bitAnd u w) along) (across : ℕ) (from : (i : Var) → In across i → (k : Var) × G k × R t i k) (to : (i k : Var) → G k → R t i k → In across i)
-      (r q : List ℕ) (hr : Raised t (bitAnd u w) along r) (hq : Raised r across (bitAnd u w) q) where
+  -- q is the table t so shared: the rows that hold one of the group are `across`
+  pub record Shares (t q : List ℕ) (across : ℕ) : Type 0 where
+    pub to-left : (i j k : Var) → P (below i k) → P (below k i) → R t i j → R t k j
+    pub to-right : (i j k : Var) → P (below j k) → P (below k j) → R t i j → R t i k
+    pub selves : (i j : Var) → R t i j → W i i × W j j
+    pub apart : (i j : Var) → G i → G j → ¬ R t i j
+    pub along : ℕ
+    pub is-along : Union t (bitAnd u w) along
+    pub from : (i : Var) → In across i → (k : Var) × G k × R t i k
+    pub to : (i k : Var) → G k → R t i k → In across i
+    pub half : List ℕ
+    pub rows : Raised t (bitAnd u w) along half
+    pub columns : Raised half across (bitAnd u w) q
+
+  module _ (t q : List ℕ) (across : ℕ) (h : Shares t q across) where
+    out : (i j : Var) → Yes (bit (row q i) j) → R t i j ⊎ (G i × In (h .along) j) ⊎ (In across i × G j)
+    out i j y = ⊎-elim (λ y. ⊎-elim inl (λ y. inr (inl y)) (raised-out t _ (h .along) (h .half) (h .rows) i j y)) (λ y. inr (inr y)) (raised-out (h .half) across _ q (h .columns) i j y)
+
+    up : (i j : Var) → Yes (bit (row (h .half) i) j) → Yes (bit (row q i) j)
+    up i j y = raised-keeps (h .half) across _ q (h .columns) i j y
+
     pub two-out : (i j : Var) → Yes (bit (row q i) j) → Two P (In u) (In w) (R t) i j
     two-out i j y =
         ⊎-elim
+        (λ y. record { left = i; right = j; left-twin = h .selves i j y .0; right-twin = h .selves i j y .1; holds = y })
         (λ y. ⊎-elim
-        (λ y. record { left = i; right = j; left-twin = left-self i j y; right-twin = right-self i j y; holds = y })
-        (λ y. let k = ua .from j (y .1) in
-        record { left = k .0; right = j; left-twin = together (k .0) i (k .1) (y .0); right-twin = right-self (k .0) j (k .2); holds = k .2 })
-        (raised-out t (bitAnd u w) along r hr i j y))
-        (λ y. let k = from i (y .0) in
-        record { left = i; right = k .0; left-twin = left-self i (k .0) (k .2); right-twin = together (k .0) j (k .1) (y .1); holds = k .2 })
-        (raised-out r across (bitAnd u w) q hq i j y)
+        (λ y. let k = h .is-along .from j (y .1) in
+        record { left = k .0; right = j; left-twin = together (k .0) i (k .1) (y .0); right-twin = h .selves (k .0) j (k .2) .1; holds = k .2 })
+        (λ y. let k = h .from i (y .0) in
+        record { left = i; right = k .0; left-twin = h .selves i (k .0) (k .2) .0; right-twin = together (k .0) j (k .1) (y .1); holds = k .2 })
+        y)
+        (out i j y)
 
     pub two-in : (i j : Var) → Two P (In u) (In w) (R t) i j → Yes (bit (row q i) j)
     two-in i j a =
         ⊎-elim
-        (λ x. let y = to-left (a .left) (a .right) i (x .0) (x .1) (a .holds) in ⊎-elim
-        (λ z. up (raised-keeps t (bitAnd u w) along r hr i j (to-right i (a .right) j (z .0) (z .1) y)))
-        (λ z. raised-has r across (bitAnd u w) q hq i j (to i (a .right) (z .0) y) (z .1))
+        (λ x. let y = h .to-left (a .left) (a .right) i (x .0) (x .1) (a .holds) in ⊎-elim
+        (λ z. up i j (raised-keeps t _ (h .along) (h .half) (h .rows) i j (h .to-right i (a .right) j (z .0) (z .1) y)))
+        (λ z. raised-has (h .half) across _ q (h .columns) i j (h .to i (a .right) (z .0) y) (z .1))
         (cases (a .right) j (a .right-twin)))
         (λ x. ⊎-elim
-        (λ z. up (raised-has t (bitAnd u w) along r hr i j (x .1) (ua .to (a .left) j (x .0) (to-right (a .left) (a .right) j (z .0) (z .1) (a .holds)))))
-        (λ z. absurd (apart (a .left) (a .right) (x .0) (z .0) (a .holds)))
+        (λ z. up i j (raised-has t _ (h .along) (h .half) (h .rows) i j (x .1)
+        (h .is-along .to (a .left) j (x .0) (h .to-right (a .left) (a .right) j (z .0) (z .1) (a .holds)))))
+        (λ z. absurd (h .apart (a .left) (a .right) (x .0) (z .0) (a .holds)))
         (cases (a .right) j (a .right-twin)))
         (cases (a .left) i (a .left-twin))
-      where
-        up : Yes (bit (row r i) j) → Yes (bit (row q i) j)
-        up y = raised-keeps r across (bitAnd u w) q hq i j y
 
-    -- the parents of the group are those that had a child in it
+    -- what holds one of the group afterwards held one before
     pub two-over : (i j : Var) → G j → Yes (bit (row q i) j) → In across i
     two-over i j g y =
-        ⊎-elim
-        (λ y. ⊎-elim (λ y. to i j g y) (λ y. let k = ua .from j (y .1) in absurd (apart (k .0) j (k .1) g (k .2))) (raised-out t (bitAnd u w) along r hr i j y))
-        (λ y. y .0)
-        (raised-out r across (bitAnd u w) q hq i j y)
+        ⊎-elim (λ y. h .to i j g y)
+        (λ y. ⊎-elim (λ y. let k = h .is-along .from j (y .1) in absurd (h .apart (k .0) j (k .1) g (k .2))) (λ y. y .0) y)
+        (out i j y)
 
   -- ---- a row of variables: the group is added if it is met
 
@@ -126,31 +140,34 @@ module _ (n : ℕ) (P : Fact → Type 0) (u w : ℕ) (s : Sharing n P) (c : Cut 
 
   module _ (t : List ℕ) (v : Label) (to-twin : (i k : Var) → P (below i k) → P (below k i) → L t v i → L t v k) (self : (i : Var) → L t v i → W i i)
       (l : ℕ) (lo : LabelOf t (bitAnd u w) l) (one : (i : Var) → G i → row t i ≢ 0 → row t i ≡ l) (r : List ℕ) (h : Painted t (bitAnd u w) l r) where
-    not-zero : (i : Var) (a : ℕ) → Yes (eqb a v and neg (eqb v 0)) → a ≢ 0
-    not-zero i a y z = clash (eq-yes (sym (is-eq (and-left _ y)) ∙ z)) (and-right _ y)
+    abbrev Is : ℕ → Type 0
+    Is a = Yes (eqb a v and neg (eqb v 0))
 
-    at : (i : Var) (a : ℕ) → row r i ≡ a → Yes (eqb (row r i) v and neg (eqb v 0)) → Yes (eqb a v and neg (eqb v 0))
-    at i a e y = subst (λ (k : ℕ). Yes (eqb k v and neg (eqb v 0))) e y
+    not-zero : (a : ℕ) → Is a → a ≢ 0
+    not-zero a y z = clash (eq-yes (sym (is-eq (and-left _ y)) ∙ z)) (and-right _ y)
+
+    inner : (i : Var) → G i → row r i ≡ l
+    inner i g = h .paints i ∙ pick-yes l (row t i) g
+
+    outer : (i : Var) → Yes (neg (bit (bitAnd u w) i)) → row r i ≡ row t i
+    outer i g = h .paints i ∙ pick-no l (row t i) (λ q. clash q g)
 
     pub label-out : (i : Var) → L r v i → One P (In u) (In w) (L t v) i
     label-out i y =
         ⊎-elim
-        (λ g. let z = at i l (h .paints i ∙ pick-yes l (row t i) g) y in
-        let k = lo .some (not-zero i l z) in
-        record { it = k .0; twin = together (k .0) i (k .1) g; holds = subst (λ (a : ℕ). Yes (eqb a v and neg (eqb v 0))) (sym (k .2)) z })
-        (λ g. let z = at i (row t i) (h .paints i ∙ pick-no l (row t i) (λ q. clash q g)) y in record { it = i; twin = self i z; holds = z })
+        (λ g. let z = subst Is (inner i g) y in
+        let k = lo .some (not-zero l z) in
+        record { it = k .0; twin = together (k .0) i (k .1) g; holds = subst Is (sym (k .2)) z })
+        (λ g. let z = subst Is (outer i g) y in record { it = i; twin = self i z; holds = z })
         (yes-case (bit (bitAnd u w) i))
+
+    shared : (i k : Var) → G i → G k → L t v k → L r v i
+    shared i k a b z = subst Is (sym (inner i a)) (subst Is (one k b (not-zero _ z)) z)
 
     pub label-in : (i : Var) → One P (In u) (In w) (L t v) i → L r v i
     label-in i a =
         ⊎-elim
-        (λ x. let z = to-twin (a .it) i (x .0) (x .1) (a .holds) in ⊎-elim (λ g. painted i g z)
-        (λ g. subst (λ (k : ℕ). Yes (eqb k v and neg (eqb v 0))) (sym (h .paints i ∙ pick-no l (row t i) (λ q. clash q g))) z) (yes-case (bit (bitAnd u w) i)))
-        (λ x. subst (λ (k : ℕ). Yes (eqb k v and neg (eqb v 0))) (sym (h .paints i ∙ pick-yes l (row t i) (x .1)))
-        (subst (λ (k : ℕ). Yes (eqb k v and neg (eqb v 0))) (one (a .it) (x .0) (not-zero (a .it) _ (a .holds))) (a .holds)))
+        (λ x. let z = to-twin (a .it) i (x .0) (x .1) (a .holds) in
+        ⊎-elim (λ g. shared i i g g z) (λ g. subst Is (sym (outer i g)) z) (yes-case (bit (bitAnd u w) i)))
+        (λ x. shared i (a .it) (x .1) (x .0) (a .holds))
         (cases (a .it) i (a .twin))
-      where
-        painted : (i : Var) → G i → L t v i → L r v i
-        painted i g z =
-            subst (λ (k : ℕ). Yes (eqb k v and neg (eqb v 0))) (sym (h .paints i ∙ pick-yes l (row t i) g))
-            (subst (λ (k : ℕ). Yes (eqb k v and neg (eqb v 0))) (one i g (not-zero i _ z)) z)
