@@ -1,3 +1,10 @@
+use Prim.Native.Nat.{_<_}
+use mathlib.Core.Path.{sym, _∙_}
+use mathlib.Core.Logic.{inl, inr, ⊎-elim}
+use mir.Val.{Fits}
+use mir.Syntax.{w16}
+use Rattle.merge.proofs.Rows.{or-yes, or-no, not-yes}
+use Rattle.merge.proofs.Rounds.{round-clash, round-well}
 use borrow.Author.Needs.{needs}
 use Rattle.merge.proofs.unify.Statement.{statement}
 use Rattle.merge.proofs.unify.Tie as tie
@@ -12,6 +19,15 @@ use Rattle.merge.proofs.raise_rows.Reads as raise-rows-reads
 use Rattle.merge.proofs.two_labels.Reads as two-labels-reads
 use Rattle.merge.proofs.union_rows.Reads as union-rows-reads
 use Rattle.merge.proofs.when.Reads as when-reads
+
+x-small : (c : tie.Start) → c .args .x < 65536
+x-small c = let h : Fits w16 (c .args .x) = search needs in h .fits
+
+root-small : (c : tie.Start) → c .args .f .root < 65536
+root-small c = let h : Fits w16 (c .args .f .root) = search needs in h .fits
+
+leaf-small : (c : tie.Start) → c .args .f .leaf < 65536
+leaf-small c = let h : Fits w16 (c .args .f .leaf) = search needs in h .fits
 
 -- src/lib.rt:143:17
 union-rows-requires : tie.Need-union-rows-requires
@@ -51,7 +67,10 @@ two-labels-requires c κs = search needs
 
 -- src/lib.rt:151:9
 returns : tie.Need-returns
-returns c = search needs
+returns c = let t = c .before in
+    round-clash _ _ _ _ _ _ (x-small (t .before .before .before .before .before .before .before .before .before .before .before .before .before .before .before)) (t .before .before .before .before .before .before .before .before .union-rows .ensures) (t .before .before .before .before .before .before .before .union-rows2 .ensures) (t .before .before .before .before .union-rows3 .ensures)
+    (rw (t .before .before .before .before .before .when .ensures, t .before .before .before .before .before .before .meet .ensures)) _ _ (t .before .before .before .union-rows4 .ensures) (t .before .before .label-of .ensures)
+    (⊎-elim (λ y. inl (sym (t .before .meet2 .ensures) ∙ y)) (λ y. inr (t .two-labels .ensures .two y)) (or-yes _ _ (c .if1 .taken)))
 
 -- src/lib.rt:153:9
 union-rows-requires-5 : tie.Need-union-rows-requires-5
@@ -119,7 +138,15 @@ apart-requires c κs = search needs
 
 -- src/lib.rt:134:1
 returns-2 : tie.Need-returns-2
-returns-2 c = search needs
+returns-2 c = let t = c .before .before .before .before .before .before .before .before .before .before .before .before .before .before .before .before .before in
+    let o = or-no _ _ (c .before .before .before .before .before .before .before .before .before .before .before .before .before .before .before .before .if1 .left) in
+    round-well _ _ _ _ _ _ (x-small (t .before .before .before .before .before .before .before .before .before .before .before .before .before .before .before)) (t .before .before .before .before .before .before .before .before .union-rows .ensures) (t .before .before .before .before .before .before .before .union-rows2 .ensures) (t .before .before .before .before .union-rows3 .ensures)
+    (rw (t .before .before .before .before .before .when .ensures, t .before .before .before .before .before .before .meet .ensures)) _ _ (t .before .before .before .union-rows4 .ensures) (t .before .before .label-of .ensures)
+    (λ y. not-yes (sym (t .before .meet2 .ensures) ∙ o .0) y) (t .two-labels .ensures .one (o .1))
+    (root-small (t .before .before .before .before .before .before .before .before .before .before .before .before .before .before .before)) (leaf-small (t .before .before .before .before .before .before .before .before .before .before .before .before .before .before .before))
+    _ _ (c .before .before .before .before .before .before .before .before .before .before .before .before .before .before .before .union-rows5 .ensures) (c .before .before .before .before .before .before .before .before .before .before .before .before .before .before .union-rows6 .ensures) _ _ _ _ _ _ _ _ _
+    (c .before .before .before .before .before .before .before .before .before .before .before .before .before .raise-rows .ensures) (c .before .before .before .before .before .before .before .before .before .before .before .before .raise-rows2 .ensures) (c .before .before .before .before .before .before .before .before .before .before .before .raise-rows3 .ensures) (c .before .before .before .before .before .before .before .before .before .before .raise-rows4 .ensures) (c .before .before .before .before .before .before .before .before .before .raise-rows5 .ensures) (c .before .before .before .before .before .before .before .before .raise-rows6 .ensures) (c .before .before .before .before .before .before .before .raise-rows7 .ensures) (c .before .before .before .before .before .before .raise-rows8 .ensures) (c .before .before .before .before .before .paint .ensures)
+    _ _ (rw (c .before .before .before .gain .ensures, c .before .before .before .before .meet3 .ensures)) (rw (c .before .gain2 .ensures, c .before .before .meet4 .ensures)) _ (c .apart .ensures)
 
 pub unify-spec : {M : Type 1} → statement M
 unify-spec =
