@@ -6,3 +6,4 @@ mod Reach
 mod Masks
 mod Shared
 mod Rounds
+pub mod Entered

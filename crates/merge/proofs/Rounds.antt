@@ -13,28 +13,28 @@ use lib.Dec.{eqb}
 use Rattle.meaning.specs.Tree.{Var, Label}
 use Rattle.meaning.specs.Constraint.{Fact, child, below, differ, root, leaf, label}
 use Rattle.meaning.specs.Settled.{Settled, Clash, differs, labels, one-parent, same-child, same-differ, same-label}
-use Rattle.meaning.specs.Finite.{Yes, pick, _and_, neg}
+use Rattle.meaning.specs.Finite.{Yes, neg, pick, one}
 use Rattle.meaning.proofs.Facts.{Within}
-use Rattle.meaning.proofs.Finite.{sum-lt}
-use Rattle.meaning.proofs.Tests.{and-both, no-neg, is-eq, eq-yes}
+use Rattle.meaning.proofs.Finite.{sum-le, sum-lt, one-le, one-lt}
+use Rattle.meaning.proofs.Tests.{clash, and-both, no-neg, is-eq, eq-yes}
 use Rattle.rowbits.specs.Bit.{bit}
 use Rattle.tables.specs.Tables.{row, has, Mirrored}
 use Rattle.tables.specs.declared.Facts.{Facts}
 use Rattle.merge.specs.declared.Round.{Round}
 use Rattle.merge.specs.Rows.{gained, meets, Raised, Union, Gap, Apart, LabelOf, TwoLabels, Painted}
-use Rattle.merge.specs.Merging.{Sharing, Awaits, held, waits, In, Held, Pending, weight, RoundOf}
-use Rattle.merge.proofs.Rows.{in-both, both-in, none-in, meets-in, meets-out, in-row, gained-le, gained-lt, or-l}
+use Rattle.merge.specs.Merging.{Sharing, Awaits, held, waits, In, Held, Pending, lacking, RoundOf}
+use Rattle.merge.proofs.Rows.{in-both, both-in, none-in, meets-in, meets-out, in-row, or-l}
 use Rattle.merge.proofs.Glue.{Cut, Below, Twin, Two, Glued, Over, glued-sharing, glued-apart, arrived, glued-parent, glued-sound}
 use Rattle.merge.proofs.Reach.{Reach, within, ends, cut, glue}
 use Rattle.merge.proofs.Masks.{reach, union-columns, columns-union}
-use Rattle.merge.proofs.Shared.{columns-raised, Shares, two-out, two-in, two-over, one-out, one-in, label-out, label-in, below-out, below-in}
+use Rattle.merge.proofs.Shared.{raised-keeps, raised-has, columns-raised, Shares, two-out, two-in, two-over, one-out, one-in, label-out, label-in, below-out, below-in}
 
 label-held : (f : Facts) (x : Var) (l : Label) → l ≢ 0 → row (f .label) x ≡ l → Held f (label x l)
 unfolding has
 label-held f x l z e = and-both (eq-yes e) (no-neg (λ u. z (is-eq u)))
 
 -- a set of facts and another one that has the same
-sharing-same : (n : ℕ) (P Q : Fact → Type 0) → ((φ : Fact) → P φ → Q φ) → ((φ : Fact) → Q φ → P φ) → Sharing n P → Sharing n Q
+pub sharing-same : (n : ℕ) (P Q : Fact → Type 0) → ((φ : Fact) → P φ → Q φ) → ((φ : Fact) → Q φ → P φ) → Sharing n P → Sharing n Q
 sharing-same n P Q to from s = record {
   child-below = λ x y a. to _ (s .child-below x y (from _ a));
   child-differ = λ x y a. to _ (s .child-differ x y (from _ a));
@@ -211,14 +211,14 @@ module _ (n : ℕ) (T : List Fact) (f : Facts) (x u w : ℕ) (p : Pending n T x 
 
 -- ---- what is still apart has to become the same, and nothing else
 
+pub none-left : (f : Facts) (φ : Fact) → Awaits (In 0) (Held f) φ → Held f φ
+none-left f φ (held y) = y
+none-left f φ (waits {x = i} y z) = none-in i y
+
 pub narrow : (n : ℕ) (T : List Fact) (f : Facts) (x r : ℕ) → Apart (f .below) x r → Pending n T x f → Pending n T r f
 unfolding has
 narrow n T f x r a p = go (ℕ-discrete r 0)
   where
-    none-left : r ≡ 0 → (φ : Fact) → Awaits (In r) (Held f) φ → Held f φ
-    none-left e φ (held y) = y
-    none-left e φ (waits {x = i} y z) = none-in i (subst (λ (k : ℕ). In k i) e y)
-
     all-there : r ≡ 0 → (φ : Fact) → Awaits (In x) (Held f) φ → Held f φ
     all-there e φ (held y) = y
     all-there e φ (waits {x = i} {y = j} y z) = a .none e i j y z
@@ -228,7 +228,7 @@ narrow n T f x r a p = go (ℕ-discrete r 0)
     go (yes e) = record {
       few = p .few;
       inside = p .inside;
-      sound = λ φ y. p .sound φ (held (none-left e φ y));
+      sound = λ φ y. p .sound φ (held (none-left f φ (subst (λ (k : ℕ). Awaits (In k) (Held f) φ) e y)));
       complete = λ φ h. held (all-there e φ (p .complete φ h));
       sharing = p .sharing;
       one-parent = λ i j k y z. held (all-there e (below i j) (p .one-parent i j k y z));
@@ -237,14 +237,15 @@ narrow n T f x r a p = go (ℕ-discrete r 0)
     }
 
 -- a gap among the rows that were raised over each other is filled
-pub heavier : (t : List ℕ) (x u w : ℕ) (r : List ℕ) → x < 65536 → ((i : ℕ) → In x i → In u i × In w i) → Raised t u w r → Gap t x → weight t < weight r
-unfolding weight
-heavier t x u w r small ends h g =
-    sum-lt 16 (row t) (row r)
-    (λ k _. subst (λ (v : ℕ). row t k ≤ v) (sym (h .rises k)) (gained-le (bit u k) (row t k) w))
-    (g .at) (in-row x (g .at) small (g .at-in))
-    (subst (λ (v : ℕ). row t (g .at) < v) (sym (h .rises (g .at)))
-    (gained-lt (bit u (g .at)) (row t (g .at)) w (g .lacks) (ends (g .at) (g .at-in) .0) (ends (g .lacks) (g .lacks-in) .1) (g .missing)))
+fewer : (t : List ℕ) (x u w : ℕ) (r : List ℕ) → x < 65536 → ((i : ℕ) → In x i → In u i × In w i) → Raised t u w r → Gap t x → lacking r < lacking t
+unfolding lacking
+fewer t x u w r small ends h g =
+    sum-lt 16 _ _ (λ i _. sum-le 16 _ _ (λ j _. less i j)) (g .at) (in-row x (g .at) small (g .at-in))
+    (sum-lt 16 _ _ (λ j _. less (g .at) j) (g .lacks) (in-row x (g .lacks) small (g .lacks-in))
+    (one-lt _ _ (no-neg (λ z. clash (raised-has t u w r h (g .at) (g .lacks) (ends (g .at) (g .at-in) .0) (ends (g .lacks) (g .lacks-in) .1)) z)) (no-neg (g .missing))))
+  where
+    less : (i j : ℕ) → one (neg (bit (row r i) j)) ≤ one (neg (bit (row t i) j))
+    less i j = one-le _ _ (λ z. no-neg (λ y. clash (raised-keeps t u w r h i j y) z))
 
 -- ---- the round
 
@@ -268,7 +269,7 @@ module _ (f : Facts) (x w near far far-of : ℕ) (small : x < 65536) (uw : Union
       clashes = λ _ n T p. ⊎-elim (clash-differs n T f x U D p (reached n T p) d ud) (λ y. clash-labels n T f x U D p (reached n T p) l lo (y .0) (y .1) (y .2) (y .3)) h;
       goes-on = λ e. absurd (false≢true (sym e));
       gap = λ z. absurd (z refl);
-      grows = λ e. absurd (false≢true (sym e));
+      falls = λ e. absurd (false≢true (sym e));
     }
 
     module _ (no-meet : ¬ Yes (meets d M)) (one : (i : Var) → In M i → row (f .label) i ≢ 0 → row (f .label) i ≡ l) (root-small : f .root < 65536) (leaf-small : f .leaf < 65536)
@@ -291,5 +292,5 @@ module _ (f : Facts) (x w near far far-of : ℕ) (small : x < 65536) (uw : Union
             (glued-pending n T f x U D p (reached n T p) d l ud lo no-meet one M-small root-small leaf-small a b ua ub
             belows aboves half children flah parents third differs' labels' h-below h-above h-half h-child h-flah h-parent h-third h-differ h-label roots leaves h-root h-leaf);
         gap = λ z. let h = h-next .some z in subst (λ (k : ℕ). Gap belows k) (sym (h .0)) (h .1);
-        grows = λ _. heavier (f .below) x U D belows small (λ i y. (or-l (bitOr x near) far i (or-l x near i y), or-l x w i y)) h-below;
+        falls = λ _. fewer (f .below) x U D belows small (λ i y. (or-l (bitOr x near) far i (or-l x near i y), or-l x w i y)) h-below;
       }

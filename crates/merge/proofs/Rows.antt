@@ -98,15 +98,6 @@ pub gained-no : (a b : ℕ) → gained false a b ≡ a
 unfolding gained pick
 gained-no a b = or-zero-r a
 
-pub gained-le : (t : Bool) (a b : ℕ) → a ≤ gained t a b
-unfolding gained
-gained-le t a b = let p = or-add-and a (pick t b 0) in let q = and-le-r a (pick t b 0) in omega arith
-
--- a number more makes the row larger
-pub gained-lt : (t : Bool) (a b i : ℕ) → Yes t → Yes (bit b i) → ¬ Yes (bit a i) → a < gained t a b
-gained-lt t a b i s u n =
-    ⊎-elim (λ e. absurd (n (subst (λ (k : ℕ). Yes (bit k i)) (sym e) (gained-has t a b i s u)))) (λ l. l) (eq-or-lt-of-le (gained-le t a b))
-
 -- ---- some number in a row
 
 next : (a i : ℕ) → Yes (eqb (a / 2 / 2 ^ i % 2) 1) → Yes (eqb (a / 2 ^ suc i % 2) 1)

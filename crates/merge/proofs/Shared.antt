@@ -23,10 +23,10 @@ use Rattle.merge.proofs.Glue.{Cut, Mid, Twin, One, Two, mid-twin, twin-
 raised-out : (t : List ℕ) (rows by : ℕ) (r : List ℕ) → Raised t rows by r → (i j : ℕ) → Yes (bit (row r i) j) → Yes (bit (row t i) j) ⊎ (In rows i × In by j)
 raised-out t rows by r h i j u = gained-case (bit rows i) (row t i) by j (subst (λ (k : ℕ). Yes (bit k j)) (h .rises i) u)
 
-raised-keeps : (t : List ℕ) (rows by : ℕ) (r : List ℕ) → Raised t rows by r → (i j : ℕ) → Yes (bit (row t i) j) → Yes (bit (row r i) j)
+pub raised-keeps : (t : List ℕ) (rows by : ℕ) (r : List ℕ) → Raised t rows by r → (i j : ℕ) → Yes (bit (row t i) j) → Yes (bit (row r i) j)
 raised-keeps t rows by r h i j u = subst (λ (k : ℕ). Yes (bit k j)) (sym (h .rises i)) (gained-keeps (bit rows i) (row t i) by j u)
 
-raised-has : (t : List ℕ) (rows by : ℕ) (r : List ℕ) → Raised t rows by r → (i j : ℕ) → In rows i → In by j → Yes (bit (row r i) j)
+pub raised-has : (t : List ℕ) (rows by : ℕ) (r : List ℕ) → Raised t rows by r → (i j : ℕ) → In rows i → In by j → Yes (bit (row r i) j)
 raised-has t rows by r h i j u v = subst (λ (k : ℕ). Yes (bit k j)) (sym (h .rises i)) (gained-has (bit rows i) (row t i) by j u v)
 
 -- a table and its columns stay so if both are raised

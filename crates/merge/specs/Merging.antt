@@ -8,7 +8,7 @@ use Rattle.rowbits.specs.Bit.{bit}
 use Rattle.meaning.specs.Tree.{Var, Label}
 use Rattle.meaning.specs.Constraint.{Fact, child, below, differ, root, leaf, label}
 use Rattle.meaning.specs.Settled.{Settled, Clash}
-use Rattle.meaning.specs.Finite.{Yes, sum}
+use Rattle.meaning.specs.Finite.{Yes, neg, sum, one}
 use Rattle.meaning.proofs.Facts.{Inside}
 use Rattle.tables.specs.Tables.{row, has, Mirrored, Ready}
 use Rattle.tables.specs.declared.Facts.{Facts}
@@ -54,15 +54,16 @@ pub record Pending (n : ℕ) (T : List Fact) (x : ℕ) (f : Facts) : Type 0 wher
   pub apart : (y : Var) → ¬ Held f (differ y y)
   pub mirrored : Mirrored f
 
--- grows with each group that is merged
-unfoldable pub weight : List ℕ → ℕ
-weight t = sum 16 (row t)
+-- how many pairs a table lacks
+unfoldable pub lacking : List ℕ → ℕ
+lacking t = sum 16 (λ i. sum 16 (λ j. one (neg (bit (row t i) j))))
 
 pub record RoundOf (f : Facts) (x : ℕ) (r : Round) : Type 0 where
   pub clashes : r .clash ≡ true → (n : ℕ) (T : List Fact) → Pending n T x f → Clash n T
   pub goes-on : r .clash ≡ false → (n : ℕ) (T : List Fact) → Pending n T x f → Pending n T (r .next) (r .facts)
   pub gap : r .next ≢ 0 → Gap (r .facts .below) (r .next)
-  pub grows : r .clash ≡ false → Gap (f .below) x → weight (f .below) < weight (r .facts .below)
+  -- with each group that is merged below lacks less
+  pub falls : r .clash ≡ false → Gap (f .below) x → lacking (r .facts .below) < lacking (f .below)
 
 -- below(a,b) entered, where below(b,a) follows: it holds already, or a leaf is at or above a
 pub record MergedOf (n : ℕ) (f : Facts) (a b : Var) (r : Merged) : Type 0 where
