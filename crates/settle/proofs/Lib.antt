@@ -1,0 +1,6 @@
+mod Helpers
+mod Chain
+mod Grown
+mod Visit
+mod Passing
+mod Final
