@@ -21,7 +21,7 @@ use Rattle.tables.specs.declared.Facts.{Facts}
 use Rattle.merge.specs.declared.Merged.{Merged}
 use Rattle.merge.specs.Rows.{Apart}
 use Rattle.merge.specs.Merging.{Sharing, Awaits, held, waits, In, Held, Pending, MergedOf}
-use Rattle.merge.proofs.Rows.{or-case, or-l, or-r, one-is, one-has}
+use Rattle.tables.proofs.Bits.{or-case, or-l, or-r, one-is, one-has}
 use Rattle.merge.proofs.Rounds.{sharing-same, none-left, narrow}
 
 sharing-of : {n : ℕ} {P : Fact → Type 0} → Rules n P → Sharing n P

@@ -1,5 +1,5 @@
 -- What a caller cites stands in Entered: when below(b,a) follows.
-mod Rows
+mod Tested
 mod Loops
 mod Glue
 mod Reach

@@ -15,39 +15,17 @@ use Rattle.meaning.specs.Finite.{Yes, neg, pick}
 use Rattle.meaning.proofs.Tests.{yes-case, clash, is-eq, eq-yes, pick-yes, pick-no}
 use Rattle.rowbits.specs.Bit.{bit}
 use Rattle.tables.specs.Tables.{row}
-use Rattle.merge.specs.Rows.{gained, Raised, Union, Gap, Apart, LabelOf, TwoLabels, Painted}
-use Rattle.merge.proofs.Rows.{or-yes, yes-or, or-no, and-yes, yes-and, not-eq, eq-not, not-yes, none-in, gained-keeps, gained-has, gained-case, gained-no, some-in, in-row, lack-is, is-lack}
+use Rattle.tables.specs.Rows.{gained, without}
+use Rattle.tables.proofs.Bits.{none-in, gained-up, gained-has, gained-case, some-in, in-row, without-in, without-out}
+use Rattle.tables.proofs.Loops.{below-cases, Rowing}
+use Rattle.merge.specs.Rows.{Union, Gap, Apart, LabelOf, TwoLabels, Painted}
+use Rattle.merge.proofs.Tested.{or-yes, or-no, and-yes, yes-and, not-eq, eq-not, not-yes}
 
-pub below-cases : {k y : ℕ} → k < y + 1 → (k ≡ y) ⊎ (k < y)
-below-cases {k} {y} h = go (ℕ-discrete k y)
-  where
-    go : Dec (k ≡ y) → (k ≡ y) ⊎ (k < y)
-    go (yes e) = inl e
-    go (no e) = inr (omega arith)
-
--- ---- each row changed to a function of its number and of itself
-
-pub record Rowing (new : ℕ → ℕ → ℕ) (t : List ℕ) (x : ℕ) (a : List ℕ) : Type 0 where
-  pub long : length a ≡ 16
-  pub done : (k : ℕ) → k < x → row a k ≡ new k (row t k)
-  pub rest : (k : ℕ) → x ≤ k → row a k ≡ row t k
-
-pub rowing-none : (new : ℕ → ℕ → ℕ) (t : List ℕ) → length t ≡ 16 → Rowing new t 0 t
-rowing-none new t h = record { long = h; done = λ k l. absurd (not-suc-le-zero l); rest = λ k l. refl }
-
-pub rowing-more : (new : ℕ → ℕ → ℕ) (t : List ℕ) (x : ℕ) (a : List ℕ) (v : ℕ) → x < 16 → v ≡ new x (row a x) → Rowing new t x a → Rowing new t (x + 1) (set a x v)
-rowing-more new t x a v h e r = record {
-  long = length-set a x v ∙ r .long;
-  done = λ k l. ⊎-elim
-      (λ q. subst (λ (i : ℕ). row (set a x v) i ≡ new i (row t i)) (sym q)
-      (getD-set-same a x v 0 (rw (r .long) h) ∙ e ∙ ap (new x) (r .rest x (le-refl _))))
-      (λ m. getD-set-other a x k v 0 (λ q. omega arith) ∙ r .done k m) (below-cases l);
-  rest = λ k l. getD-set-other a x k v 0 (λ q. omega arith) ∙ r .rest k (omega arith);
-}
+-- ---- rows changed
 
 -- where the rows named change, all rows are as they should be
 pub rowing-all : (new : Bool → ℕ → ℕ) → ((v : ℕ) → new false v ≡ v) → (rows : ℕ) → rows < 65536 → (t : List ℕ) (x : ℕ) (a : List ℕ) → 16 ≤ x → x ≤ 16
-    → Rowing (λ k. new (bit rows k)) t x a → (i : ℕ) → row a i ≡ new (bit rows i) (row t i)
+    → Rowing (λ k. new (bit rows k)) 16 t x a → (i : ℕ) → row a i ≡ new (bit rows i) (row t i)
 rowing-all new same rows small t x a h h2 w i = go (decLt i 16)
   where
     out : (b : Bool) → bit rows i ≡ b → 16 ≤ i → row t i ≡ new b (row t i)
@@ -58,10 +36,7 @@ rowing-all new same rows small t x a h h2 w i = go (decLt i 16)
     go (yes l) = w .done i (le-trans l h)
     go (no l) = w .rest i (omega arith) ∙ out (bit rows i) refl (omega arith)
 
-pub was-raised : (t : List ℕ) (rows by x : ℕ) (r : List ℕ) → rows < 65536 → 16 ≤ x → x ≤ 16 → Rowing (λ k v. gained (bit rows k) v by) t x r → Raised t rows by r
-was-raised t rows by x r small h h2 w = record { rises = rowing-all (λ b v. gained b v by) (λ v. gained-no v by) rows small t x r h h2 w }
-
-pub was-painted : (t : List ℕ) (rows l x : ℕ) (r : List ℕ) → rows < 65536 → 16 ≤ x → x ≤ 16 → Rowing (λ k v. pick (bit rows k) l v) t x r → Painted t rows l r
+pub was-painted : (t : List ℕ) (rows l x : ℕ) (r : List ℕ) → rows < 65536 → 16 ≤ x → x ≤ 16 → Rowing (λ k v. pick (bit rows k) l v) 16 t x r → Painted t rows l r
 unfolding pick
 was-painted t rows l x r small h h2 w = record { paints = rowing-all (λ b v. pick b l v) (λ v. refl) rows small t x r h h2 w }
 
@@ -79,7 +54,7 @@ gathered-more h rows x a b e g = record {
   from = λ j u. ⊎-elim (g .from j) (λ w. (x, w .0, w .1)) (gained-case (bit rows x) a (h x) j (subst (λ (k : ℕ). Yes (bit k j)) e u));
   to = λ i j l u v. subst (λ (k : ℕ). Yes (bit k j)) (sym e) (⊎-elim
       (λ q. gained-has (bit rows x) a (h x) j (subst (λ (k : ℕ). Yes (bit rows k)) q u) (subst (λ (k : ℕ). Yes (bit (h k) j)) q v))
-      (λ m. gained-keeps (bit rows x) a (h x) j (g .to i j m u v)) (below-cases l));
+      (λ m. gained-up (bit rows x) a (h x) .kept j (g .to i j m u v)) (below-cases l));
 }
 
 pub no-union : (t : List ℕ) (rows : ℕ) → rows ≡ 0 → Union t rows 0
@@ -92,25 +67,21 @@ no-union t rows e = record {
 pub is-union : (t : List ℕ) (rows x a : ℕ) → rows < 65536 → a < 65536 → 16 ≤ x → Gathered (row t) rows x a → Union t rows a
 is-union t rows x a small s l g = record { small = s; from = g .from; to = λ i j u v. g .to i j (le-trans (in-row rows i small u) l) u v }
 
--- what the row v lacks of the rows named
-abbrev pub lack : ℕ → ℕ → ℕ
-lack rows v = bitXor (bitOr rows v) v
-
 pub not-apart : (t : List ℕ) (rows : ℕ) → rows ≡ 0 → Apart t rows 0
 not-apart t rows e = record { none = λ _ i j u. none-in i (subst (λ (k : ℕ). Yes (bit k i)) e u); some = λ n. absurd (n refl) }
 
-module _ (t : List ℕ) (rows x a : ℕ) (small : rows < 65536) (s : a < 65536) (l : 16 ≤ x) (g : Gathered (λ i. lack rows (row t i)) rows x a) where
+module _ (t : List ℕ) (rows x a : ℕ) (small : rows < 65536) (s : a < 65536) (l : 16 ≤ x) (g : Gathered (λ i. without rows (row t i)) rows x a) where
   gap : a ≢ 0 → Gap t rows
   gap z =
       let w = some-in a s z in
       let v = g .from (w .0) (w .1) in
-      let k = lack-is rows (row t (v .0)) (w .0) (v .2) in
+      let k = without-out rows (row t (v .0)) (w .0) (in-row a (w .0) s (w .1)) (v .2) in
       record { at = v .0; lacks = w .0; at-in = v .1; lacks-in = k .0; missing = k .1 }
 
   whole : a ≡ 0 → (i j : ℕ) → Yes (bit rows i) → Yes (bit rows j) → Yes (bit (row t i) j)
   whole e i j u v =
       ⊎-elim (λ y. y)
-      (λ y. none-in j (subst (λ (k : ℕ). Yes (bit k j)) e (g .to i j (le-trans (in-row rows i small u) l) u (is-lack rows (row t i) j v (λ q. clash q y)))))
+      (λ y. none-in j (subst (λ (k : ℕ). Yes (bit k j)) e (g .to i j (le-trans (in-row rows i small u) l) u (without-in rows (row t i) j (in-row rows j small v) v (λ q. clash q y)))))
       (yes-case (bit (row t i) j))
 
   pub is-apart : (r : ℕ) → r ≡ pick (not (eqb a 0)) rows 0 → Apart t rows r

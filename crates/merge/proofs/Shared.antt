@@ -4,7 +4,9 @@ use mathlib.Core.Path.{_≡_, refl, sym, _∙_, subst}
 use mathlib.Core.Logic.{_≢_, _⊎_, inl, inr, ⊎-elim}
 use mathlib.Core.Bool.{Bool, true, false}
 use mathlib.Core.List.{List}
-use Prim.Native.Nat.{ℕ, _<_}
+use Prim.Native.Nat.{ℕ, _<_, _≤_}
+use native.Mathlib.Decide.{decLt}
+use native.Mathlib.Omega.{arith}
 use lib.Dec.{eqb}
 use lib.Bits.{bitOr, bitAnd}
 use Rattle.meaning.specs.Tree.{Var, Label}
@@ -13,24 +15,44 @@ use Rattle.meaning.specs.Finite.{Yes, _and_, neg, pick}
 use Rattle.meaning.proofs.Tests.{clash, yes-case, yes-eq, and-left, and-right, and-both, is-eq, eq-yes, pick-yes, pick-no}
 use Rattle.rowbits.specs.Bit.{bit}
 use Rattle.tables.specs.Tables.{row, Columns}
-use Rattle.merge.specs.Rows.{gained, meets, Raised, Union, LabelOf, TwoLabels, Painted}
+use Rattle.tables.proofs.Helpers.{gain-off}
+use Rattle.tables.specs.Rows.{gained, meets, Raised}
+use Rattle.tables.proofs.Bits.{in-both, both-in, gained-up, gained-has, gained-case, meets-in, meets-out, in-row}
+use Rattle.merge.specs.Rows.{Union, LabelOf, Painted}
 use Rattle.merge.specs.Merging.{Sharing, In}
-use Rattle.merge.proofs.Rows.{in-both, both-in, gained-keeps, gained-has, gained-case, meets-in, meets-out}
 use Rattle.merge.proofs.Glue.{Cut, Mid, Twin, One, Two, mid-twin, twin-cases}
 
 -- ---- a raised table
 
-raised-out : (t : List ℕ) (rows by : ℕ) (r : List ℕ) → Raised t rows by r → (i j : ℕ) → Yes (bit (row r i) j) → Yes (bit (row t i) j) ⊎ (In rows i × In by j)
-raised-out t rows by r h i j u = gained-case (bit rows i) (row t i) by j (subst (λ (k : ℕ). Yes (bit k j)) (h .rises i) u)
+pub record Rises (t : List ℕ) (rows by : ℕ) (r : List ℕ) : Type 0 where
+  pub at : (i : ℕ) → row r i ≡ gained (bit rows i) (row t i) by
 
-pub raised-keeps : (t : List ℕ) (rows by : ℕ) (r : List ℕ) → Raised t rows by r → (i j : ℕ) → Yes (bit (row t i) j) → Yes (bit (row r i) j)
-raised-keeps t rows by r h i j u = subst (λ (k : ℕ). Yes (bit k j)) (sym (h .rises i)) (gained-keeps (bit rows i) (row t i) by j u)
+-- past the last row there is nothing to raise
+pub rises : {t : List ℕ} {rows by : ℕ} {r : List ℕ} → rows < 65536 → Raised t rows by r → Rises t rows by r
+rises {t} {rows} {by} {r} small h = record { at = λ i. go i (decLt i 16) }
+  where
+    out : (i : ℕ) (b : Bool) → bit rows i ≡ b → 16 ≤ i → row t i ≡ gained b (row t i) by
+    out i true e l = absurd (let k = in-row rows i small e in omega arith)
+    out i false e l = gain-off false (row t i) by refl
 
-pub raised-has : (t : List ℕ) (rows by : ℕ) (r : List ℕ) → Raised t rows by r → (i j : ℕ) → In rows i → In by j → Yes (bit (row r i) j)
-raised-has t rows by r h i j u v = subst (λ (k : ℕ). Yes (bit k j)) (sym (h .rises i)) (gained-has (bit rows i) (row t i) by j u v)
+    go : (i : ℕ) → Dec (i < 16) → row r i ≡ gained (bit rows i) (row t i) by
+    go i (yes l) = h .within i l
+    go i (no l) = h .beyond i (omega arith) ∙ out i (bit rows i) refl (omega arith)
+
+pub raised-out : (t : List ℕ) (rows by : ℕ) (r : List ℕ) → Rises t rows by r → (i j : ℕ) → Yes (bit (row r i) j) → Yes (bit (row t i) j) ⊎ (In rows i × In by j)
+raised-out t rows by r h i j u = gained-case (bit rows i) (row t i) by j (subst (λ (k : ℕ). Yes (bit k j)) (h .at i) u)
+
+pub raised-keeps : (t : List ℕ) (rows by : ℕ) (r : List ℕ) → Rises t rows by r → (i j : ℕ) → Yes (bit (row t i) j) → Yes (bit (row r i) j)
+raised-keeps t rows by r h i j u = subst (λ (k : ℕ). Yes (bit k j)) (sym (h .at i)) (gained-up (bit rows i) (row t i) by .kept j u)
+
+pub raised-has : (t : List ℕ) (rows by : ℕ) (r : List ℕ) → Rises t rows by r → (i j : ℕ) → In rows i → In by j → Yes (bit (row r i) j)
+raised-has t rows by r h i j u v = subst (λ (k : ℕ). Yes (bit k j)) (sym (h .at i)) (gained-has (bit rows i) (row t i) by j u v)
+
+pub raised-in : (t : List ℕ) (rows by : ℕ) (r : List ℕ) → Rises t rows by r → (i j : ℕ) → Yes (bit (row t i) j) ⊎ (In rows i × In by j) → Yes (bit (row r i) j)
+raised-in t rows by r h i j y = ⊎-elim (raised-keeps t rows by r h i j) (λ z. raised-has t rows by r h i j (z .0) (z .1)) y
 
 -- a table and its columns stay so if both are raised
-pub columns-raised : (t r : List ℕ) (rows by : ℕ) (t' r' : List ℕ) → Columns t r → Raised t rows by t' → Raised r by rows r' → Columns t' r'
+pub columns-raised : (t r : List ℕ) (rows by : ℕ) (t' r' : List ℕ) → Columns t r → Rises t rows by t' → Rises r by rows r' → Columns t' r'
 columns-raised t r rows by t' r' c h k x y lx ly =
     yes-eq _ _
     (λ u. ⊎-elim (λ a. raised-keeps t rows by t' h x y (sym (c x y lx ly) ∙ a)) (λ a. raised-has t rows by t' h x y (a .1) (a .0)) (raised-out r by rows r' k y x u))
@@ -49,15 +71,6 @@ module _ (n : ℕ) (P : Fact → Type 0) (u w : ℕ) (s : Sharing n P) (c : Cut 
   cases : (i j : Var) → W i j → (P (below i j) × P (below j i)) ⊎ (G i × G j)
   cases i j t = ⊎-elim inl (λ p. inr (both-in u w i (p .0 .0) (p .0 .1), both-in u w j (p .1 .0) (p .1 .1))) (twin-cases n P (In u) (In w) s c t)
 
-  -- ---- below
-
-  pub below-out : (t r : List ℕ) → Raised t u w r → (i j : Var) → Yes (bit (row r i) j) → Yes (bit (row t i) j) ⊎ (In u i × In w j)
-  below-out t r h i j y = raised-out t u w r h i j y
-
-  pub below-in : (t r : List ℕ) → Raised t u w r → (i j : Var) → Yes (bit (row t i) j) ⊎ (In u i × In w j) → Yes (bit (row r i) j)
-  below-in t r h i j (inl y) = raised-keeps t u w r h i j y
-  below-in t r h i j (inr y) = raised-has t u w r h i j (y .0) (y .1)
-
   -- ---- a table of two variables: the group's rows gain what they hold together, and the rows that hold one of the group gain it all
 
   abbrev R : List ℕ → Var → Var → Type 0
@@ -74,8 +87,8 @@ module _ (n : ℕ) (P : Fact → Type 0) (u w : ℕ) (s : Sharing n P) (c : Cut 
     pub from : (i : Var) → In across i → (k : Var) × G k × R t i k
     pub to : (i k : Var) → G k → R t i k → In across i
     pub half : List ℕ
-    pub rows : Raised t (bitAnd u w) along half
-    pub columns : Raised half across (bitAnd u w) q
+    pub rows : Rises t (bitAnd u w) along half
+    pub columns : Rises half across (bitAnd u w) q
 
   module _ (t q : List ℕ) (across : ℕ) (h : Shares t q across) where
     out : (i j : Var) → Yes (bit (row q i) j) → R t i j ⊎ (G i × In (h .along) j) ⊎ (In across i × G j)
@@ -128,7 +141,7 @@ module _ (n : ℕ) (P : Fact → Type 0) (u w : ℕ) (s : Sharing n P) (c : Cut 
 
     pub one-in : (i : Var) → One P (In u) (In w) (In t) i → In (gained (meets t (bitAnd u w)) t (bitAnd u w)) i
     one-in i a =
-        ⊎-elim (λ x. gained-keeps _ t (bitAnd u w) i (to-twin (a .it) i (x .0) (x .1) (a .holds)))
+        ⊎-elim (λ x. gained-up _ t (bitAnd u w) .kept i (to-twin (a .it) i (x .0) (x .1) (a .holds)))
         (λ x. gained-has _ t (bitAnd u w) i (meets-in t (bitAnd u w) (a .it) (a .holds) (x .0)) (x .1))
         (cases (a .it) i (a .twin))
 

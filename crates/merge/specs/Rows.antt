@@ -1,4 +1,4 @@
--- What the helpers on rows compute. A row is a set of numbers below 16, a table sixteen rows.
+-- What the helpers on rows compute: unions and gaps of the rows named by a row, and their labels.
 use mathlib.Core.Path.{_≡_}
 use mathlib.Core.Logic.{_≢_, _⊎_}
 use mathlib.Core.Bool.{Bool, true, false}
@@ -9,18 +9,6 @@ use lib.Bits.{bitOr, bitAnd}
 use Rattle.meaning.specs.Finite.{Yes, neg, pick}
 use Rattle.rowbits.specs.Bit.{bit}
 use Rattle.tables.specs.Tables.{row}
-
--- a row, with another one added where the test holds
-unfoldable pub gained : Bool → ℕ → ℕ → ℕ
-gained t row more = bitOr row (pick t more 0)
-
--- two rows have a number in common
-unfoldable pub meets : ℕ → ℕ → Bool
-meets a b = neg (eqb (bitAnd a b) 0)
-
--- a row added to each of the rows named
-pub record Raised (t : List ℕ) (rows by : ℕ) (r : List ℕ) : Type 0 where
-  pub rises : (i : ℕ) → row r i ≡ gained (bit rows i) (row t i) by
 
 -- what the rows named hold together
 pub record Union (t : List ℕ) (rows r : ℕ) : Type 0 where

@@ -1,33 +1,11 @@
 // Entering below(a, b) where it makes variables the same: groups of variables are merged row by row, upwards, parents after children.
 ghost use mathlib.Core.Path.{_≡_};
-ghost use Prim.Native.Nat.{_<_, _≤_, _^_};
+ghost use Prim.Native.Nat.{_<_, _≤_};
 ghost use Rattle.meaning.specs.Finite.{pick};
-ghost use Rattle.merge.specs.Rows.{gained, meets, Raised, Union, Apart, LabelOf, TwoLabels, Painted};
+ghost use Rattle.merge.specs.Rows.{Union, Apart, LabelOf, TwoLabels, Painted};
 ghost use Rattle.merge.specs.Merging.{RoundOf, MergedOf};
 use tables::Facts;
 use ids::Var;
-
-fn one(y: usize) -> u16
-    requires { ⌜ y < 16 ⌝ }
-    ensures { λ r. ⌜ r ≡ 2 ^ y ⌝ }
-{
-    1 << y
-}
-
-fn when(t: bool, more: u16) -> u16
-    ensures { λ r. ⌜ r ≡ pick t more 0 ⌝ }
-{
-    if t {
-        return more;
-    }
-    0
-}
-
-fn gain(t: bool, row: u16, more: u16) -> u16
-    ensures { λ r. ⌜ r ≡ gained t row more ⌝ }
-{
-    row | when(t, more)
-}
 
 fn choose(t: bool, l: u8, m: u8) -> u8
     ensures { λ r. ⌜ r ≡ pick t l m ⌝ }
@@ -36,24 +14,6 @@ fn choose(t: bool, l: u8, m: u8) -> u8
         return l;
     }
     m
-}
-
-fn meet(a: u16, b: u16) -> bool
-    ensures { λ r. ⌜ r ≡ meets a b ⌝ }
-{
-    a & b != 0
-}
-
-// A row added to each of the rows named.
-fn raise_rows(t: [u16; 16], rows: u16, by: u16) -> [u16; 16]
-    ensures { λ r. ⌜ Raised t rows by r ⌝ }
-{
-    let mut a = t;
-    for x in 0usize..16 {
-        let v = a[x];
-        a[x] = gain(rowbits::has(rows, x), v, by);
-    }
-    a
 }
 
 // What the rows named hold together.
@@ -66,7 +26,7 @@ fn union_rows(t: [u16; 16], rows: u16) -> u16
     }
     for x in 0usize..16 {
         let v = t[x];
-        a = gain(rowbits::has(rows, x), a, v);
+        a = tables::gain(rowbits::has(rows, x), a, v);
     }
     a
 }
@@ -81,9 +41,9 @@ fn apart(t: [u16; 16], rows: u16) -> u16
     }
     for x in 0usize..16 {
         let v = t[x];
-        a = gain(rowbits::has(rows, x), a, (rows | v) ^ v);
+        a = tables::gain(rowbits::has(rows, x), a, tables::except(rows, v));
     }
-    when(a != 0, rows)
+    tables::when(a != 0, rows)
 }
 
 // A label of the variables named, or 0 where none has one.
@@ -142,24 +102,24 @@ pub fn unify(f: Facts, x: u16) -> Round
     let label = f.label;
     let w = x | union_rows(below, x);
     let near = x | union_rows(above, x);
-    let far = union_rows(above, when(meet(near, f.leaf), w));
+    let far = union_rows(above, tables::when(tables::meet(near, f.leaf), w));
     let u = near | far;
     let m = u & w;
     let d = union_rows(differ, m);
     let l = label_of(label, m);
-    if meet(d, m) | two_labels(label, m, l) {
+    if tables::meet(d, m) | two_labels(label, m, l) {
         return Round { clash: true, next: 0, facts: f };
     }
     let c = union_rows(child, m);
     let p = union_rows(parent, m);
-    let belows = raise_rows(below, u, w);
-    let aboves = raise_rows(above, w, u);
-    let children = raise_rows(raise_rows(child, m, c), p, m);
-    let parents = raise_rows(raise_rows(parent, c, m), m, p);
-    let differs = raise_rows(raise_rows(differ, m, d), d, m);
+    let belows = tables::raise(below, u, w);
+    let aboves = tables::raise(above, w, u);
+    let children = tables::raise(tables::raise(child, m, c), p, m);
+    let parents = tables::raise(tables::raise(parent, c, m), m, p);
+    let differs = tables::raise(tables::raise(differ, m, d), d, m);
     let labels = paint(label, m, l);
-    let root = gain(meet(f.root, m), f.root, m);
-    let leaf = gain(meet(f.leaf, m), f.leaf, m);
+    let root = tables::gain(tables::meet(f.root, m), f.root, m);
+    let leaf = tables::gain(tables::meet(f.leaf, m), f.leaf, m);
     let next = apart(belows, p);
     Round { clash: false, next, facts: Facts { child: children, parent: parents, below: belows, above: aboves, differ: differs, root, label: labels, leaf } }
 }
@@ -176,7 +136,7 @@ pub fn enter_same(f: Facts, n: usize, a: Var, b: Var) -> Merged
 {
     let below = f.below;
     let mut g = f;
-    let mut x = apart(below, one(a.0 as usize) | one(b.0 as usize));
+    let mut x = apart(below, tables::one(a.0 as usize) | tables::one(b.0 as usize));
     while x != 0 {
         let r = unify(g, x);
         if r.clash {

@@ -4,7 +4,8 @@ use mir.Val.{Fits}
 use mir.Syntax.{w16}
 use Rattle.rowbits.specs.Bit.{bit}
 use Rattle.tables.specs.Tables.{row}
-use Rattle.merge.proofs.Loops.{Rowing, rowing-none, rowing-more, was-painted}
+use Rattle.tables.proofs.Loops.{Rowing, rowing-none, rowing-more}
+use Rattle.merge.proofs.Loops.{was-painted}
 use Rattle.meaning.specs.Finite.{pick}
 use borrow.Author.Needs.{needs}
 use Rattle.merge.proofs.paint.Statement.{statement}
@@ -15,14 +16,14 @@ use Rattle.merge.proofs.choose.Reads as choose-reads
 use Rattle.rowbits.proofs.has.Reads as has-reads
 
 abbrev Inv-loop : tie.InvT-loop
-Inv-loop rows l a₀ x₀ a x = (x ≤ 16) × Rowing (λ k v. pick (bit rows k) l v) a₀ x a
+Inv-loop rows l a₀ x₀ a x = (x ≤ 16) × Rowing (λ k v. pick (bit rows k) l v) 16 a₀ x a
 
 abbrev μ-loop : tie.MeasureT-loop
 μ-loop rows l a₀ x₀ a x = 16 - x
 
 -- src/lib.rt:118:5
 loop-holds : tie.Need-loop-holds Inv-loop μ-loop
-loop-holds c = (search needs, rowing-none _ _ (search needs))
+loop-holds c = (search needs, rowing-none _ _ _ (search needs))
 
 -- src/lib.rt:119:17
 array-read-v : tie.Need-array-read-v Inv-loop μ-loop
@@ -50,7 +51,7 @@ loop-less c = search needs
 
 -- src/lib.rt:118:5
 loop-again : tie.Need-loop-again Inv-loop μ-loop
-loop-again c = (search needs, rowing-more _ _ _ _ _ (search needs) (rw (c .choose .ensures, c .before .has .ensures)) (c .before .before .before .loop .inv .1))
+loop-again c = (search needs, rowing-more _ _ _ _ _ _ (search needs) (rw (c .choose .ensures, c .before .has .ensures)) (c .before .before .before .loop .inv .1))
 
 -- src/lib.rt:114:1
 returns : tie.Need-returns Inv-loop μ-loop
