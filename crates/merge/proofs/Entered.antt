@@ -1,27 +1,29 @@
 -- From settled tables to tables in which a and b have yet to become the same, and from tables in which nothing has to any more back to settled
--- ones. A caller cites `back-held` or `back-leaf`: when below(b,a) follows from below(a,b).
+-- ones. A caller cites `back-tested`: when below(b,a) follows from below(a,b).
 use mathlib.Core.Path.{_≡_, refl, sym, _∙_, subst}
 use mathlib.Core.Logic.{_⊎_, inl, inr, ⊎-elim}
 use mathlib.Core.Bool.{true, false, false≢true}
 use mathlib.Core.List.{List, _∷_, List·Memᴰ, List·Memᴰ·head, List·Memᴰ·tail, List·Memᴰ·cases-cons}
 use Prim.Native.Nat.{ℕ, _^_, _<_, _≤_}
+use native.Mathlib.Nat.{le-trans}
 use lib.Bits.{bitOr}
 use Rattle.meaning.specs.Tree.{Var}
-use Rattle.meaning.specs.Constraint.{Fact, child, below, differ, root, leaf, label}
+use Rattle.meaning.specs.Constraint.{Fact, child, below, leaf}
 use Rattle.meaning.specs.Settled.{Settled, given, chain, leaf-below, self-below, one-parent, Clash, differs, labels}
 use Rattle.meaning.specs.Finite.{Yes}
 use Rattle.meaning.specs.ReadOff.{Decides}
 use Rattle.meaning.proofs.Rules.{Rules}
 use Rattle.meaning.proofs.Least.{settled-mono, settled-rules}
-use Rattle.meaning.proofs.Facts.{Within, Inside}
+use Rattle.meaning.proofs.Facts.{Within}
 use Rattle.meaning.proofs.Tests.{is-eq, and-left}
 use Rattle.theory.proofs.Closure.{rules-decide}
-use Rattle.tables.specs.Tables.{has, Ready}
+use Rattle.rowbits.specs.Bit.{bit}
+use Rattle.tables.specs.Tables.{row, has, Ready}
+use Rattle.tables.specs.Rows.{meets}
 use Rattle.tables.specs.declared.Facts.{Facts}
-use Rattle.merge.specs.declared.Merged.{Merged}
 use Rattle.merge.specs.Rows.{Apart}
 use Rattle.merge.specs.Merging.{Sharing, Awaits, held, waits, In, Held, Pending, MergedOf}
-use Rattle.tables.proofs.Bits.{or-case, or-l, or-r, one-is, one-has}
+use Rattle.tables.proofs.Bits.{or-case, or-l, or-r, one-is, one-has, meets-out, in-row}
 use Rattle.merge.proofs.Rounds.{sharing-same, none-left, narrow}
 
 sharing-of : {n : ℕ} {P : Fact → Type 0} → Rules n P → Sharing n P
@@ -142,3 +144,13 @@ module _ (n : ℕ) (f : Facts) (a b : Var) (few : n ≤ 16) (ha : a < n) (hb : b
     kept = λ e. absurd (false≢true e);
     settles = λ _ S r back. done n _ g (k _ (begun S r back));
   }
+
+-- what a caller tests: below(b,a) is held, or a leaf is at or above a
+pub back-tested : (n : ℕ) (S : List Fact) (f : Facts) (a b : Var) → n ≤ 16 → a < n → row (f .above) a < 65536 → Ready n S f
+    → Yes (bit (row (f .below) b) a) ⊎ Yes (meets (row (f .above) a) (f .leaf)) → Settled n (below a b ∷ S) (below b a)
+unfolding has
+back-tested n S f a b few ha small r t =
+    ⊎-elim (λ y. back-held n S a b (r .decides .sound {f = below b a} y))
+    (λ y. let k = meets-out (row (f .above) a) (f .leaf) small y in
+    back-leaf n S a b (k .0) (r .decides .sound {f = leaf (k .0)} (k .2))
+    (r .decides .sound {f = below (k .0) a} (sym (r .mirrored .ancestors (k .0) a (in-row _ (k .0) small (k .1)) (le-trans ha few)) ∙ k .1))) t

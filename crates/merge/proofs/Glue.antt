@@ -4,7 +4,7 @@
 use mathlib.Core.Logic.{_⊎_, inl, inr, ⊎-elim}
 use mathlib.Core.List.{List}
 use Prim.Native.Nat.{ℕ}
-use Rattle.meaning.specs.Tree.{Var, Label}
+use Rattle.meaning.specs.Tree.{Var}
 use Rattle.meaning.specs.Constraint.{Fact, child, below, differ, root, leaf, label}
 use Rattle.meaning.specs.Settled.{Settled, chain, same-parent, same-child, same-differ, same-root, same-leaf, same-label, differ-back}
 use Rattle.meaning.proofs.Facts.{Within}

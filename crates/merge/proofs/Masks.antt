@@ -1,6 +1,6 @@
 -- The masks of a round reach what has to be glued.
-use mathlib.Core.Path.{_≡_, refl, sym, _∙_}
-use mathlib.Core.Logic.{_⊎_, inl, inr, ⊎-elim}
+use mathlib.Core.Path.{refl, sym, _∙_}
+use mathlib.Core.Logic.{inl, inr, ⊎-elim}
 use mathlib.Core.Bool.{Bool, true, false, false≢true}
 use mathlib.Core.List.{List}
 use Prim.Native.Nat.{ℕ, _<_}
@@ -18,7 +18,7 @@ use Rattle.tables.specs.Rows.{meets}
 use Rattle.tables.proofs.Bits.{or-case, or-l, or-r, none-in, meets-in, meets-out, in-row}
 use Rattle.merge.specs.Rows.{Union}
 use Rattle.merge.specs.Merging.{In, Held, held, waits, Pending}
-use Rattle.merge.proofs.Reach.{Above, Under, Leafy, Reach}
+use Rattle.merge.proofs.Reach.{Above, Reach}
 
 in-pick : (t : Bool) (w i : ℕ) → In (pick t w 0) i → Yes t × In w i
 unfolding pick

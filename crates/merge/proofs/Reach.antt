@@ -1,6 +1,6 @@
 -- What has to be glued where the variables of X have to be the same: what is at or above X over what is at or below it; and, where a leaf is
 -- at or above X, all that is above what is at or below X. This is a cut, and gluing there gives only what is settled.
-use mathlib.Core.Logic.{_⊎_, inl, inr, ⊎-elim}
+use mathlib.Core.Logic.{_⊎_, ⊎-elim}
 use mathlib.Core.List.{List}
 use Prim.Native.Nat.{ℕ}
 use Rattle.meaning.specs.Tree.{Var}

@@ -8,11 +8,11 @@ use Prim.Native.Nat.{ℕ, _<_, _≤_}
 use native.Mathlib.Decide.{decLt}
 use native.Mathlib.Omega.{arith}
 use lib.Dec.{eqb}
-use lib.Bits.{bitOr, bitAnd}
+use lib.Bits.{bitAnd}
 use Rattle.meaning.specs.Tree.{Var, Label}
 use Rattle.meaning.specs.Constraint.{Fact, below}
-use Rattle.meaning.specs.Finite.{Yes, _and_, neg, pick}
-use Rattle.meaning.proofs.Tests.{clash, yes-case, yes-eq, and-left, and-right, and-both, is-eq, eq-yes, pick-yes, pick-no}
+use Rattle.meaning.specs.Finite.{Yes, _and_, neg}
+use Rattle.meaning.proofs.Tests.{clash, yes-case, yes-eq, and-left, and-right, is-eq, eq-yes, pick-yes, pick-no}
 use Rattle.rowbits.specs.Bit.{bit}
 use Rattle.tables.specs.Tables.{row, Columns}
 use Rattle.tables.proofs.Helpers.{gain-off}
@@ -20,7 +20,7 @@ use Rattle.tables.specs.Rows.{gained, meets, Raised}
 use Rattle.tables.proofs.Bits.{in-both, both-in, gained-up, gained-has, gained-case, meets-in, meets-out, in-row}
 use Rattle.merge.specs.Rows.{Union, LabelOf, Painted}
 use Rattle.merge.specs.Merging.{Sharing, In}
-use Rattle.merge.proofs.Glue.{Cut, Mid, Twin, One, Two, mid-twin, twin-cases}
+use Rattle.merge.proofs.Glue.{Cut, Twin, One, Two, mid-twin, twin-cases}
 
 -- ---- a raised table
 

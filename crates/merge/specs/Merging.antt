@@ -32,7 +32,7 @@ pub record Sharing (n : ℕ) (P : Fact → Type 0) : Type 0 where
   pub same-leaf : (x u : Var) → P (below x u) → P (below u x) → P (leaf x) → P (leaf u)
   pub same-label : (x u : Var) (l : Label) → P (below x u) → P (below u x) → P (label x l) → P (label u l)
 
--- a fact that is held, or that two variables of X wait to be the same
+-- a fact that is held, or that two variables of X wait for
 pub data Awaits (X : Var → Type 0) (P : Fact → Type 0) : Fact → Type 0 where
   held : {φ : Fact} → P φ → Awaits X P φ
   waits : {x y : Var} → X x → X y → Awaits X P (below x y)
@@ -43,7 +43,8 @@ In row x = Yes (bit row x)
 abbrev pub Held : Facts → Fact → Type 0
 Held f φ = Yes (has f φ)
 
--- Once the variables of x are the same, the tables settle T, as far as only parents can lack to be the same.
+-- The tables hold what is settled of T, and are closed but for this: the variables of x have yet to become the same, among them any two
+-- parents of one variable that are not.
 pub record Pending (n : ℕ) (T : List Fact) (x : ℕ) (f : Facts) : Type 0 where
   pub few : n ≤ 16
   pub inside : Inside n T
@@ -65,7 +66,7 @@ pub record RoundOf (f : Facts) (x : ℕ) (r : Round) : Type 0 where
   -- with each group that is merged below lacks less
   pub falls : r .clash ≡ false → Gap (f .below) x → lacking (r .facts .below) < lacking (f .below)
 
--- below(a,b) entered, where below(b,a) follows: it holds already, or a leaf is at or above a
+-- below(a,b) entered, where below(b,a) follows from it: below(b,a) is settled already, or a leaf is at or above a
 pub record MergedOf (n : ℕ) (f : Facts) (a b : Var) (r : Merged) : Type 0 where
   pub clashes : r .clash ≡ true → (S : List Fact) → Ready n S f → Settled n (below a b ∷ S) (below b a) → Clash n (below a b ∷ S)
   pub kept : r .clash ≡ true → r .facts ≡ f

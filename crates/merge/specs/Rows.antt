@@ -1,12 +1,10 @@
 -- What the helpers on rows compute: unions and gaps of the rows named by a row, and their labels.
 use mathlib.Core.Path.{_≡_}
-use mathlib.Core.Logic.{_≢_, _⊎_}
+use mathlib.Core.Logic.{_≢_}
 use mathlib.Core.Bool.{Bool, true, false}
 use mathlib.Core.List.{List}
 use Prim.Native.Nat.{ℕ, _<_}
-use lib.Dec.{eqb}
-use lib.Bits.{bitOr, bitAnd}
-use Rattle.meaning.specs.Finite.{Yes, neg, pick}
+use Rattle.meaning.specs.Finite.{Yes, pick}
 use Rattle.rowbits.specs.Bit.{bit}
 use Rattle.tables.specs.Tables.{row}
 

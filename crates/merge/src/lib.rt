@@ -1,11 +1,11 @@
-// Entering below(a, b) where it makes variables the same: groups of variables are merged row by row, upwards, parents after children.
+// Entering below(a, b) where it makes variables the same: their group is merged by rows, then that of its parents, and so on upwards.
 ghost use mathlib.Core.Path.{_≡_};
 ghost use Prim.Native.Nat.{_<_, _≤_};
 ghost use Rattle.meaning.specs.Finite.{pick};
 ghost use Rattle.merge.specs.Rows.{Union, Apart, LabelOf, TwoLabels, Painted};
 ghost use Rattle.merge.specs.Merging.{RoundOf, MergedOf};
-use tables::Facts;
 use ids::Var;
+use tables::Facts;
 
 fn choose(t: bool, l: u8, m: u8) -> u8
     ensures { λ r. ⌜ r ≡ pick t l m ⌝ }
@@ -31,7 +31,7 @@ fn union_rows(t: [u16; 16], rows: u16) -> u16
     a
 }
 
-// The rows named, if one of them lacks one of them; else none.
+// The rows named, if one of them lacks one of them; else no row.
 fn apart(t: [u16; 16], rows: u16) -> u16
     ensures { λ r. ⌜ Apart t rows r ⌝ }
 {
@@ -70,7 +70,7 @@ fn two_labels(t: [u8; 16], rows: u16, l: u8) -> bool
     a
 }
 
-// The label of each of the variables named.
+// The label l given to each of the variables named.
 fn paint(t: [u8; 16], rows: u16, l: u8) -> [u8; 16]
     ensures { λ r. ⌜ Painted t rows l r ⌝ }
 {
@@ -82,16 +82,16 @@ fn paint(t: [u8; 16], rows: u16, l: u8) -> [u8; 16]
     a
 }
 
-// One round: the tables with the variables of x made the same, and the variables that have to become the same next.
-pub struct Round {
-    pub clash: bool,
-    pub next: u16,
-    pub facts: Facts,
+// The tables after a round, and the variables that have to become the same in the next one.
+struct Round {
+    clash: bool,
+    next: u16,
+    facts: Facts,
 }
 
-// u is what is at or above x and w what is at or below it: all between becomes one group, m. A leaf at or above x makes all of w the same.
-// Then the group shares every fact. Its parents have to be the same, which is left to the next round.
-pub fn unify(f: Facts, x: u16) -> Round
+// One round: the variables of x become the same. All that is at or above one of them and at or below one becomes one group, and shares every
+// fact; a leaf at or above x is the same as all below it, so that these join the group. The parents of the group are left to the next round.
+fn unify(f: Facts, x: u16) -> Round
     ensures { λ r. ⌜ RoundOf f x r ⌝ }
 {
     let below = f.below;
@@ -100,28 +100,45 @@ pub fn unify(f: Facts, x: u16) -> Round
     let parent = f.parent;
     let differ = f.differ;
     let label = f.label;
-    let w = x | union_rows(below, x);
+    let down = x | union_rows(below, x);
     let near = x | union_rows(above, x);
-    let far = union_rows(above, tables::when(tables::meet(near, f.leaf), w));
-    let u = near | far;
-    let m = u & w;
-    let d = union_rows(differ, m);
-    let l = label_of(label, m);
-    if tables::meet(d, m) | two_labels(label, m, l) {
-        return Round { clash: true, next: 0, facts: f };
+    let far = union_rows(above, tables::when(tables::meet(near, f.leaf), down));
+    let up = near | far;
+    let group = up & down;
+    let others = union_rows(differ, group);
+    let shown = label_of(label, group);
+    if tables::meet(others, group) | two_labels(label, group, shown) {
+        return Round {
+            clash: true,
+            next: 0,
+            facts: f,
+        };
     }
-    let c = union_rows(child, m);
-    let p = union_rows(parent, m);
-    let belows = tables::raise(below, u, w);
-    let aboves = tables::raise(above, w, u);
-    let children = tables::raise(tables::raise(child, m, c), p, m);
-    let parents = tables::raise(tables::raise(parent, c, m), m, p);
-    let differs = tables::raise(tables::raise(differ, m, d), d, m);
-    let labels = paint(label, m, l);
-    let root = tables::gain(tables::meet(f.root, m), f.root, m);
-    let leaf = tables::gain(tables::meet(f.leaf, m), f.leaf, m);
-    let next = apart(belows, p);
-    Round { clash: false, next, facts: Facts { child: children, parent: parents, below: belows, above: aboves, differ: differs, root, label: labels, leaf } }
+    let children = union_rows(child, group);
+    let parents = union_rows(parent, group);
+    let new_below = tables::raise(below, up, down);
+    let new_above = tables::raise(above, down, up);
+    let new_child = tables::raise(tables::raise(child, group, children), parents, group);
+    let new_parent = tables::raise(tables::raise(parent, children, group), group, parents);
+    let new_differ = tables::raise(tables::raise(differ, group, others), others, group);
+    let new_label = paint(label, group, shown);
+    let root = tables::gain(tables::meet(f.root, group), f.root, group);
+    let leaf = tables::gain(tables::meet(f.leaf, group), f.leaf, group);
+    let next = apart(new_below, parents);
+    Round {
+        clash: false,
+        next,
+        facts: Facts {
+            child: new_child,
+            parent: new_parent,
+            below: new_below,
+            above: new_above,
+            differ: new_differ,
+            root,
+            label: new_label,
+            leaf,
+        },
+    }
 }
 
 pub struct Merged {
@@ -129,7 +146,7 @@ pub struct Merged {
     pub facts: Facts,
 }
 
-// Settled tables without a clash, with below(a, b) entered and settled again, where below(b, a) then follows. On a clash they are as they were.
+// Settled tables with below(a, b), settled again, where below(b, a) follows from it. With a clash they come back as they went in.
 pub fn enter_same(f: Facts, n: usize, a: Var, b: Var) -> Merged
     requires { ⌜ (a .0 < n) × (b .0 < n) × (n ≤ 16) ⌝ }
     ensures { λ r. ⌜ MergedOf n f (a .0) (b .0) r ⌝ }
@@ -140,10 +157,16 @@ pub fn enter_same(f: Facts, n: usize, a: Var, b: Var) -> Merged
     while x != 0 {
         let r = unify(g, x);
         if r.clash {
-            return Merged { clash: true, facts: f };
+            return Merged {
+                clash: true,
+                facts: f,
+            };
         }
         g = r.facts;
         x = r.next;
     }
-    Merged { clash: false, facts: g }
+    Merged {
+        clash: false,
+        facts: g,
+    }
 }

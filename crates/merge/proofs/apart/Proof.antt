@@ -1,20 +1,13 @@
-use Prim.Native.Nat.{ℕ, _<_, _≤_, _-_}
-use lib.ListN.{getD}
+-- `merge::apart` meets its contract: it gathers what each row named lacks of them, which is nothing exactly if there is no gap.
+use Prim.Native.Nat.{_<_, _≤_, _-_}
 use mir.Val.{Fits}
 use mir.Syntax.{w16}
-use Rattle.rowbits.specs.Bit.{bit}
 use Rattle.tables.specs.Tables.{row}
 use Rattle.tables.specs.Rows.{without}
 use Rattle.merge.proofs.Loops.{Gathered, gathered-none, gathered-more, not-apart, is-apart}
 use borrow.Author.Needs.{needs}
 use Rattle.merge.proofs.apart.Statement.{statement}
 use Rattle.merge.proofs.apart.Tie as tie
-use Rattle.merge.proofs.apart.Reads as reads
-use Rattle.merge.proofs.apart.Lts as lts
-use Rattle.rowbits.proofs.has.Reads as has-reads
-use Rattle.tables.proofs.except.Reads as except-reads
-use Rattle.tables.proofs.gain.Reads as gain-reads
-use Rattle.tables.proofs.when.Reads as when-reads
 
 abbrev Inv-loop : tie.InvT-loop
 Inv-loop rows t a₀ x₀ a x = (x ≤ 16) × (a < 65536) × Gathered (λ i. without rows (row t i)) rows x a
@@ -22,51 +15,39 @@ Inv-loop rows t a₀ x₀ a x = (x ≤ 16) × (a < 65536) × Gathered (λ i. wit
 abbrev μ-loop : tie.MeasureT-loop
 μ-loop rows t a₀ x₀ a x = 16 - x
 
--- src/lib.rt:40:9
 returns : tie.Need-returns Inv-loop μ-loop
 returns c = not-apart _ _ (c .if1 .taken)
 
--- src/lib.rt:42:5
 loop-holds : tie.Need-loop-holds Inv-loop μ-loop
 loop-holds c = (search needs, search needs, gathered-none _ _)
 
--- src/lib.rt:43:17
 mul-v : tie.Need-mul-v Inv-loop μ-loop
 mul-v c = search needs
 
--- src/lib.rt:43:17
 array-read-v : tie.Need-array-read-v Inv-loop μ-loop
 array-read-v c = search needs
 
--- src/lib.rt:44:26
 has-requires : tie.Need-has-requires Inv-loop μ-loop
 has-requires c κs = search needs
 
--- src/lib.rt:44:52
 except-requires : tie.Need-except-requires Inv-loop μ-loop
 except-requires c κs = search needs
 
--- src/lib.rt:44:9
 gain-requires : tie.Need-gain-requires Inv-loop μ-loop
 gain-requires c κs = search needs
 
--- src/lib.rt:42:9
 add-x : tie.Need-add-x Inv-loop μ-loop
 add-x c = search needs
 
--- src/lib.rt:42:5
 loop-less : tie.Need-loop-less Inv-loop μ-loop
 loop-less c = search needs
 
--- src/lib.rt:42:5
 loop-again : tie.Need-loop-again Inv-loop μ-loop
 loop-again c = (search needs, (let h : Fits w16 (c .gain .result) = search needs in h .fits), gathered-more _ _ _ _ _ (rw (c .gain .ensures, c .before .before .has .ensures, c .before .except .ensures)) (c .before .before .before .before .loop .inv .2))
 
--- src/lib.rt:46:5
 when-requires : tie.Need-when-requires Inv-loop μ-loop
 when-requires c κs = search needs
 
--- src/lib.rt:35:1
 returns-2 : tie.Need-returns-2 Inv-loop μ-loop
 returns-2 c = is-apart _ _ _ _ (let h : Fits w16 (c .before .before .before .before .args .rows) = search needs in h .fits) (c .before .before .loop .inv .1) (search needs) (c .before .before .loop .inv .2) _ (c .when .ensures)
 

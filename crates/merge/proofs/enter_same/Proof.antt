@@ -1,3 +1,5 @@
+-- `merge::enter_same` meets its contract. The invariant: whatever was pending at the start is pending now, and the variables of x are not yet the
+-- same. Each round fills a gap of below, so that it ends.
 use mathlib.Core.Path.{sym, subst}
 use mathlib.Core.Logic.{_≢_}
 use mathlib.Core.List.{List}
@@ -9,11 +11,6 @@ use Rattle.merge.proofs.Entered.{merged-clash, merged-well}
 use borrow.Author.Needs.{needs}
 use Rattle.merge.proofs.enter_same.Statement.{statement}
 use Rattle.merge.proofs.enter_same.Tie as tie
-use Rattle.merge.proofs.enter_same.Reads as reads
-use Rattle.merge.proofs.enter_same.Lts as lts
-use Rattle.merge.proofs.apart.Reads as apart-reads
-use Rattle.merge.proofs.unify.Reads as unify-reads
-use Rattle.tables.proofs.one.Reads as one-reads
 
 abbrev Inv-loop : tie.InvT-loop
 Inv-loop f n g₀ x₀ g x = ((T : List Fact) → Pending n T x₀ g₀ → Pending n T x g) × (x ≢ 0 → Gap (g .below) x)
@@ -21,35 +18,27 @@ Inv-loop f n g₀ x₀ g x = ((T : List Fact) → Pending n T x₀ g₀ → Pend
 abbrev μ-loop : tie.MeasureT-loop
 μ-loop f n g₀ x₀ g x = lacking (g .below)
 
--- src/lib.rt:139:42
 cast-one : tie.Need-cast-one Inv-loop μ-loop
 cast-one c = search needs
 
--- src/lib.rt:139:30
 one-requires : tie.Need-one-requires Inv-loop μ-loop
 one-requires c κs = search needs
 
--- src/lib.rt:139:70
 cast-one-2 : tie.Need-cast-one-2 Inv-loop μ-loop
 cast-one-2 c = search needs
 
--- src/lib.rt:139:58
 one-requires-2 : tie.Need-one-requires-2 Inv-loop μ-loop
 one-requires-2 c κs = search needs
 
--- src/lib.rt:139:9
 apart-requires : tie.Need-apart-requires Inv-loop μ-loop
 apart-requires c κs = search needs
 
--- src/lib.rt:140:5
 loop-holds : tie.Need-loop-holds Inv-loop μ-loop
 loop-holds c = ((λ T p. p), λ z. let h = c .apart .ensures .some z in subst (Gap _) (sym (h .0)) (h .1))
 
--- src/lib.rt:141:13
 unify-requires : tie.Need-unify-requires Inv-loop μ-loop
 unify-requires c κs = search needs
 
--- src/lib.rt:143:13
 returns : tie.Need-returns Inv-loop μ-loop
 returns c = let u = c .before in
     let l = u .before .before in
@@ -58,15 +47,12 @@ returns c = let u = c .before in
     (rw (← s .before .before .before .one .ensures, ← s .before .one2 .ensures) (s .apart .ensures))
     (λ T p. u .unify .ensures .clashes (c .if1 .taken) _ T (l .loop .inv .0 T p))
 
--- src/lib.rt:140:5
 loop-less : tie.Need-loop-less Inv-loop μ-loop
 loop-less c = let u = c .before .before in u .unify .ensures .falls (c .before .if1 .left) (u .before .before .loop .inv .1 (u .before .loop-test .taken))
 
--- src/lib.rt:140:5
 loop-again : tie.Need-loop-again Inv-loop μ-loop
 loop-again c = let u = c .before .before in ((λ T p. u .unify .ensures .goes-on (c .before .if1 .left) _ T (u .before .before .loop .inv .0 T p)), u .unify .ensures .gap)
 
--- src/lib.rt:133:1
 returns-2 : tie.Need-returns-2 Inv-loop μ-loop
 returns-2 c = let l = c .before in
     let s = l .before in

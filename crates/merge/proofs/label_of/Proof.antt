@@ -1,17 +1,11 @@
-use Prim.Native.Nat.{ℕ, _<_, _≤_, _-_}
-use lib.ListN.{getD}
+-- `merge::label_of` meets its contract: after x rows it holds the last label of those named, or 0 if they had none.
+use Prim.Native.Nat.{_≤_, _-_}
 use mir.Val.{Fits}
 use mir.Syntax.{w16}
-use Rattle.rowbits.specs.Bit.{bit}
-use Rattle.tables.specs.Tables.{row}
 use Rattle.merge.proofs.Loops.{LabelSoFar, label-none, label-more, is-label-of}
 use borrow.Author.Needs.{needs}
 use Rattle.merge.proofs.label_of.Statement.{statement}
 use Rattle.merge.proofs.label_of.Tie as tie
-use Rattle.merge.proofs.label_of.Reads as reads
-use Rattle.merge.proofs.label_of.Lts as lts
-use Rattle.merge.proofs.choose.Reads as choose-reads
-use Rattle.rowbits.proofs.has.Reads as has-reads
 
 abbrev Inv-loop : tie.InvT-loop
 Inv-loop rows t a₀ x₀ a x = (x ≤ 16) × LabelSoFar t rows x a
@@ -19,35 +13,27 @@ Inv-loop rows t a₀ x₀ a x = (x ≤ 16) × LabelSoFar t rows x a
 abbrev μ-loop : tie.MeasureT-loop
 μ-loop rows t a₀ x₀ a x = 16 - x
 
--- src/lib.rt:94:5
 loop-holds : tie.Need-loop-holds Inv-loop μ-loop
 loop-holds c = (search needs, label-none _ _)
 
--- src/lib.rt:95:17
 array-read-v : tie.Need-array-read-v Inv-loop μ-loop
 array-read-v c = search needs
 
--- src/lib.rt:96:20
 has-requires : tie.Need-has-requires Inv-loop μ-loop
 has-requires c κs = search needs
 
--- src/lib.rt:96:9
 choose-requires : tie.Need-choose-requires Inv-loop μ-loop
 choose-requires c κs = search needs
 
--- src/lib.rt:94:9
 add-x : tie.Need-add-x Inv-loop μ-loop
 add-x c = search needs
 
--- src/lib.rt:94:5
 loop-less : tie.Need-loop-less Inv-loop μ-loop
 loop-less c = search needs
 
--- src/lib.rt:94:5
 loop-again : tie.Need-loop-again Inv-loop μ-loop
 loop-again c = (search needs, label-more _ _ _ _ _ (rw (c .choose .ensures, c .before .has .ensures)) (c .before .before .before .loop .inv .1))
 
--- src/lib.rt:90:1
 returns : tie.Need-returns Inv-loop μ-loop
 returns c = is-label-of _ _ _ _ (let h : Fits w16 (c .before .before .args .rows) = search needs in h .fits) (search needs) (c .before .loop .inv .1)
 

@@ -1,16 +1,11 @@
-use Prim.Native.Nat.{ℕ, _<_, _≤_, _-_}
-use lib.ListN.{getD}
+-- `merge::two_labels` meets its contract: after x rows it says whether one of those named had another label.
+use Prim.Native.Nat.{_≤_, _-_}
 use mir.Val.{Fits}
 use mir.Syntax.{w16}
-use Rattle.rowbits.specs.Bit.{bit}
-use Rattle.tables.specs.Tables.{row}
 use Rattle.merge.proofs.Loops.{TwoSoFar, two-none, two-more, is-two}
 use borrow.Author.Needs.{needs}
 use Rattle.merge.proofs.two_labels.Statement.{statement}
 use Rattle.merge.proofs.two_labels.Tie as tie
-use Rattle.merge.proofs.two_labels.Reads as reads
-use Rattle.merge.proofs.two_labels.Lts as lts
-use Rattle.rowbits.proofs.has.Reads as has-reads
 
 abbrev Inv-loop : tie.InvT-loop
 Inv-loop rows l t a₀ x₀ a x = (x ≤ 16) × TwoSoFar t rows l x a
@@ -18,31 +13,24 @@ Inv-loop rows l t a₀ x₀ a x = (x ≤ 16) × TwoSoFar t rows l x a
 abbrev μ-loop : tie.MeasureT-loop
 μ-loop rows l t a₀ x₀ a x = 16 - x
 
--- src/lib.rt:99:5
 loop-holds : tie.Need-loop-holds Inv-loop μ-loop
 loop-holds c = (search needs, two-none _ _ _)
 
--- src/lib.rt:100:17
 array-read-v : tie.Need-array-read-v Inv-loop μ-loop
 array-read-v c = search needs
 
--- src/lib.rt:101:18
 has-requires : tie.Need-has-requires Inv-loop μ-loop
 has-requires c κs = search needs
 
--- src/lib.rt:99:9
 add-x : tie.Need-add-x Inv-loop μ-loop
 add-x c = search needs
 
--- src/lib.rt:99:5
 loop-less : tie.Need-loop-less Inv-loop μ-loop
 loop-less c = search needs
 
--- src/lib.rt:99:5
 loop-again : tie.Need-loop-again Inv-loop μ-loop
 loop-again c = (search needs, rw (c .has .ensures) (two-more _ _ _ _ _ (c .before .before .loop .inv .1)))
 
--- src/lib.rt:95:1
 returns : tie.Need-returns Inv-loop μ-loop
 returns c = is-two _ _ _ _ _ (let h : Fits w16 (c .before .before .args .rows) = search needs in h .fits) (search needs) (c .before .loop .inv .1)
 

@@ -1,3 +1,4 @@
+-- `merge::unify` meets its contract: what its helpers ensure is what a round has to have made (proofs/Rounds.antt).
 use Prim.Native.Nat.{_<_}
 use mathlib.Core.Path.{sym, _∙_}
 use mathlib.Core.Logic.{inl, inr, ⊎-elim}
@@ -8,17 +9,6 @@ use Rattle.merge.proofs.Rounds.{round-clash, round-well}
 use borrow.Author.Needs.{needs}
 use Rattle.merge.proofs.unify.Statement.{statement}
 use Rattle.merge.proofs.unify.Tie as tie
-use Rattle.merge.proofs.unify.Reads as reads
-use Rattle.merge.proofs.unify.Lts as lts
-use Rattle.merge.proofs.apart.Reads as apart-reads
-use Rattle.merge.proofs.label_of.Reads as label-of-reads
-use Rattle.merge.proofs.paint.Reads as paint-reads
-use Rattle.merge.proofs.two_labels.Reads as two-labels-reads
-use Rattle.merge.proofs.union_rows.Reads as union-rows-reads
-use Rattle.tables.proofs.gain.Reads as gain-reads
-use Rattle.tables.proofs.meet.Reads as meet-reads
-use Rattle.tables.proofs.raise.Reads as raise-reads
-use Rattle.tables.proofs.when.Reads as when-reads
 
 x-small : (c : tie.Start) → c .args .x < 65536
 x-small c = let h : Fits w16 (c .args .x) = search needs in h .fits
@@ -29,43 +19,33 @@ root-small c = let h : Fits w16 (c .args .f .root) = search needs in h .fits
 leaf-small : (c : tie.Start) → c .args .f .leaf < 65536
 leaf-small c = let h : Fits w16 (c .args .f .leaf) = search needs in h .fits
 
--- src/lib.rt:103:17
 union-rows-requires : tie.Need-union-rows-requires
 union-rows-requires c κs = search needs
 
--- src/lib.rt:104:20
 union-rows-requires-2 : tie.Need-union-rows-requires-2
 union-rows-requires-2 c κs = search needs
 
--- src/lib.rt:105:46
 meet-requires : tie.Need-meet-requires
 meet-requires c κs = search needs
 
--- src/lib.rt:105:33
 when-requires : tie.Need-when-requires
 when-requires c κs = search needs
 
--- src/lib.rt:105:9
 union-rows-requires-3 : tie.Need-union-rows-requires-3
 union-rows-requires-3 c κs = search needs
 
--- src/lib.rt:108:9
 union-rows-requires-4 : tie.Need-union-rows-requires-4
 union-rows-requires-4 c κs = search needs
 
--- src/lib.rt:109:9
 label-of-requires : tie.Need-label-of-requires
 label-of-requires c κs = search needs
 
--- src/lib.rt:110:8
 meet-requires-2 : tie.Need-meet-requires-2
 meet-requires-2 c κs = search needs
 
--- src/lib.rt:110:29
 two-labels-requires : tie.Need-two-labels-requires
 two-labels-requires c κs = search needs
 
--- src/lib.rt:111:9
 returns : tie.Need-returns
 returns c = let t = c .before in
     round-clash _ _ _ _ _ _ (x-small (t .before .before .before .before .before .before .before .before .before .before .before .before .before .before .before)) (t .before .before .before .before .before .before .before .before .union-rows .ensures) (t .before .before .before .before .before .before .before .union-rows2 .ensures) (t .before .before .before .before .union-rows3 .ensures)
@@ -73,71 +53,54 @@ returns c = let t = c .before in
     _ _ (t .before .before .before .union-rows4 .ensures) (t .before .before .label-of .ensures)
     (⊎-elim (λ y. inl (sym (t .before .meet2 .ensures) ∙ y)) (λ y. inr (t .two-labels .ensures .two y)) (or-yes _ _ (c .if1 .taken)))
 
--- src/lib.rt:113:9
 union-rows-requires-5 : tie.Need-union-rows-requires-5
 union-rows-requires-5 c κs = search needs
 
--- src/lib.rt:114:9
 union-rows-requires-6 : tie.Need-union-rows-requires-6
 union-rows-requires-6 c κs = search needs
 
--- src/lib.rt:115:9
 raise-requires : tie.Need-raise-requires
 raise-requires c κs = search needs
 
--- src/lib.rt:116:9
 raise-requires-2 : tie.Need-raise-requires-2
 raise-requires-2 c κs = search needs
 
--- src/lib.rt:117:34
 raise-requires-3 : tie.Need-raise-requires-3
 raise-requires-3 c κs = search needs
 
--- src/lib.rt:117:9
 raise-requires-4 : tie.Need-raise-requires-4
 raise-requires-4 c κs = search needs
 
--- src/lib.rt:118:33
 raise-requires-5 : tie.Need-raise-requires-5
 raise-requires-5 c κs = search needs
 
--- src/lib.rt:118:9
 raise-requires-6 : tie.Need-raise-requires-6
 raise-requires-6 c κs = search needs
 
--- src/lib.rt:119:33
 raise-requires-7 : tie.Need-raise-requires-7
 raise-requires-7 c κs = search needs
 
--- src/lib.rt:119:9
 raise-requires-8 : tie.Need-raise-requires-8
 raise-requires-8 c κs = search needs
 
--- src/lib.rt:120:9
 paint-requires : tie.Need-paint-requires
 paint-requires c κs = search needs
 
--- src/lib.rt:121:29
 meet-requires-3 : tie.Need-meet-requires-3
 meet-requires-3 c κs = search needs
 
--- src/lib.rt:121:9
 gain-requires : tie.Need-gain-requires
 gain-requires c κs = search needs
 
--- src/lib.rt:122:29
 meet-requires-4 : tie.Need-meet-requires-4
 meet-requires-4 c κs = search needs
 
--- src/lib.rt:122:9
 gain-requires-2 : tie.Need-gain-requires-2
 gain-requires-2 c κs = search needs
 
--- src/lib.rt:123:9
 apart-requires : tie.Need-apart-requires
 apart-requires c κs = search needs
 
--- src/lib.rt:94:1
 returns-2 : tie.Need-returns-2
 returns-2 c = let t = c .before .before .before .before .before .before .before .before .before .before .before .before .before .before .before .before .before in
     let o = or-no _ _ (c .before .before .before .before .before .before .before .before .before .before .before .before .before .before .before .before .if1 .left) in
