@@ -15,12 +15,12 @@ use Rattle.meaning.specs.ReadOff.{Decides}
 use Rattle.meaning.proofs.Rules.{Rules}
 use Rattle.meaning.proofs.Least.{settled-mono, settled-rules}
 use Rattle.meaning.proofs.Facts.{Within}
-use Rattle.meaning.proofs.Tests.{is-eq, and-left}
 use Rattle.theory.proofs.Closure.{rules-decide}
 use Rattle.rowbits.specs.Bit.{bit}
 use Rattle.tables.specs.Tables.{row, has, Ready}
 use Rattle.tables.specs.Rows.{meets}
 use Rattle.tables.specs.declared.Facts.{Facts}
+use Rattle.tables.proofs.Shape.{label-is}
 use Rattle.merge.specs.Rows.{Apart}
 use Rattle.merge.specs.Merging.{Sharing, Awaits, held, waits, In, Held, Pending, MergedOf}
 use Rattle.tables.proofs.Bits.{or-case, or-l, or-r, one-is, one-has, meets-out, in-row}
@@ -122,9 +122,8 @@ module _ (n : ℕ) (T : List Fact) (f : Facts) (p : Pending n T 0 f) where
       (rules-of (p .sharing) (λ x y z u v. none-left f (below x y) (p .one-parent x y z u v)))
 
   done-free : ¬ Clash n T
-  unfolding has
   done-free (differs {x} c) = p .apart x (done-decides .complete c)
-  done-free (labels {x} {l} {m} c d z) = z (sym (is-eq (and-left _ (done-decides .complete c))) ∙ is-eq (and-left _ (done-decides .complete d)))
+  done-free (labels {x} {l} {m} c d z) = z (sym (label-is f x l (done-decides .complete c) .0) ∙ label-is f x m (done-decides .complete d) .0)
 
   pub done : Ready n T f
   done = record { inside = p .inside; free = done-free; decides = done-decides; mirrored = p .mirrored }

@@ -20,22 +20,23 @@ use Rattle.merge.proofs.Tested.{or-yes, or-no, and-yes, yes-and, not-eq
 
 -- ---- rows changed
 
--- where the rows named change, all rows are as they should be
-pub rowing-all : (new : Bool → ℕ → ℕ) → ((v : ℕ) → new false v ≡ v) → (rows : ℕ) → rows < 65536 → (t : List ℕ) (x : ℕ) (a : List ℕ) → 16 ≤ x → x ≤ 16
-    → Rowing (λ k. new (bit rows k)) 16 t x a → (i : ℕ) → row a i ≡ new (bit rows i) (row t i)
-rowing-all new same rows small t x a h h2 w i = go (decLt i 16)
+-- where only the rows named change, and no row is named past the last, one equation holds of every row
+pub all-rows : (new : Bool → ℕ → ℕ) → ((v : ℕ) → new false v ≡ v) → (rows : ℕ) → rows < 65536 → (t r : List ℕ)
+    → ((i : ℕ) → i < 16 → row r i ≡ new (bit rows i) (row t i)) → ((i : ℕ) → 16 ≤ i → row r i ≡ row t i) → (i : ℕ) → row r i ≡ new (bit rows i) (row t i)
+all-rows new same rows small t r within beyond i = go (decLt i 16)
   where
     out : (b : Bool) → bit rows i ≡ b → 16 ≤ i → row t i ≡ new b (row t i)
     out true e l = absurd (let k = in-row rows i small e in omega arith)
     out false e l = sym (same (row t i))
 
-    go : Dec (i < 16) → row a i ≡ new (bit rows i) (row t i)
-    go (yes l) = w .done i (le-trans l h)
-    go (no l) = w .rest i (omega arith) ∙ out (bit rows i) refl (omega arith)
+    go : Dec (i < 16) → row r i ≡ new (bit rows i) (row t i)
+    go (yes l) = within i l
+    go (no l) = beyond i (omega arith) ∙ out (bit rows i) refl (omega arith)
 
 pub was-painted : (t : List ℕ) (rows l x : ℕ) (r : List ℕ) → rows < 65536 → 16 ≤ x → x ≤ 16 → Rowing (λ k v. pick (bit rows k) l v) 16 t x r → Painted t rows l r
 unfolding pick
-was-painted t rows l x r small h h2 w = record { paints = rowing-all (λ b v. pick b l v) (λ v. refl) rows small t x r h h2 w }
+was-painted t rows l x r small h h2 w =
+    record { paints = all-rows (λ b v. pick b l v) (λ v. refl) rows small t r (λ k q. w .done k (le-trans q h)) (λ k q. w .rest k (le-trans h2 q)) }
 
 -- ---- a row gathered from h i for each i named
 

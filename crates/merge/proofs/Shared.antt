@@ -1,12 +1,10 @@
 -- The tables of a round are those of the glued facts, table by table: a table of two variables, a row of one, and the labels.
--- m is the mask of what is glued, the group that shares every fact.
+-- The group, which shares every fact afterwards, is what both masks have, u and w.
 use mathlib.Core.Path.{_≡_, refl, sym, _∙_, subst}
 use mathlib.Core.Logic.{_≢_, _⊎_, inl, inr, ⊎-elim}
-use mathlib.Core.Bool.{Bool, true, false}
+use mathlib.Core.Bool.{false}
 use mathlib.Core.List.{List}
-use Prim.Native.Nat.{ℕ, _<_, _≤_}
-use native.Mathlib.Decide.{decLt}
-use native.Mathlib.Omega.{arith}
+use Prim.Native.Nat.{ℕ, _<_}
 use lib.Dec.{eqb}
 use lib.Bits.{bitAnd}
 use Rattle.meaning.specs.Tree.{Var, Label}
@@ -15,11 +13,12 @@ use Rattle.meaning.specs.Finite.{Yes, _and_, neg}
 use Rattle.meaning.proofs.Tests.{clash, yes-case, yes-eq, and-left, and-right, is-eq, eq-yes, pick-yes, pick-no}
 use Rattle.rowbits.specs.Bit.{bit}
 use Rattle.tables.specs.Tables.{row, Columns}
-use Rattle.tables.proofs.Helpers.{gain-off}
 use Rattle.tables.specs.Rows.{gained, meets, Raised}
-use Rattle.tables.proofs.Bits.{in-both, both-in, gained-up, gained-has, gained-case, meets-in, meets-out, in-row}
+use Rattle.tables.proofs.Helpers.{gain-off}
+use Rattle.tables.proofs.Bits.{in-both, both-in, gained-up, gained-has, gained-case, meets-in, meets-out}
 use Rattle.merge.specs.Rows.{Union, LabelOf, Painted}
 use Rattle.merge.specs.Merging.{Sharing, In}
+use Rattle.merge.proofs.Loops.{all-rows}
 use Rattle.merge.proofs.Glue.{Cut, Twin, One, Two, mid-twin, twin-cases}
 
 -- ---- a raised table
@@ -27,17 +26,8 @@ use Rattle.merge.proofs.Glue.{Cut, Twin, One, Two, mid-twin, twin-cases
 pub record Rises (t : List ℕ) (rows by : ℕ) (r : List ℕ) : Type 0 where
   pub at : (i : ℕ) → row r i ≡ gained (bit rows i) (row t i) by
 
--- past the last row there is nothing to raise
 pub rises : {t : List ℕ} {rows by : ℕ} {r : List ℕ} → rows < 65536 → Raised t rows by r → Rises t rows by r
-rises {t} {rows} {by} {r} small h = record { at = λ i. go i (decLt i 16) }
-  where
-    out : (i : ℕ) (b : Bool) → bit rows i ≡ b → 16 ≤ i → row t i ≡ gained b (row t i) by
-    out i true e l = absurd (let k = in-row rows i small e in omega arith)
-    out i false e l = gain-off false (row t i) by refl
-
-    go : (i : ℕ) → Dec (i < 16) → row r i ≡ gained (bit rows i) (row t i) by
-    go i (yes l) = h .within i l
-    go i (no l) = h .beyond i (omega arith) ∙ out i (bit rows i) refl (omega arith)
+rises {t} {rows} {by} {r} small h = record { at = all-rows (λ b v. gained b v by) (λ v. sym (gain-off false v by refl)) rows small t r (h .within) (h .beyond) }
 
 pub raised-out : (t : List ℕ) (rows by : ℕ) (r : List ℕ) → Rises t rows by r → (i j : ℕ) → Yes (bit (row r i) j) → Yes (bit (row t i) j) ⊎ (In rows i × In by j)
 raised-out t rows by r h i j u = gained-case (bit rows i) (row t i) by j (subst (λ (k : ℕ). Yes (bit k j)) (h .at i) u)

@@ -47,11 +47,20 @@ two-labels-requires : tie.Need-two-labels-requires
 two-labels-requires c κs = search needs
 
 returns : tie.Need-returns
-returns c = let t = c .before in
-    round-clash _ _ _ _ _ _ (x-small (t .before .before .before .before .before .before .before .before .before .before .before .before .before .before .before)) (t .before .before .before .before .before .before .before .before .union-rows .ensures) (t .before .before .before .before .before .before .before .union-rows2 .ensures) (t .before .before .before .before .union-rows3 .ensures)
-    (rw (t .before .before .before .before .before .when .ensures, t .before .before .before .before .before .before .meet .ensures))
-    _ _ (t .before .before .before .union-rows4 .ensures) (t .before .before .label-of .ensures)
-    (⊎-elim (λ y. inl (sym (t .before .meet2 .ensures) ∙ y)) (λ y. inr (t .two-labels .ensures .two y)) (or-yes _ _ (c .if1 .taken)))
+returns c =
+    let test = c .before in
+    let differing = test .before in
+    let shown = differing .before in
+    let others = shown .before in
+    let far = others .before in
+    let leafy = far .before in
+    let met = leafy .before in
+    let near = met .before in
+    let down = near .before in
+    let s = down .before .before .before .before .before .before .before in
+    round-clash _ _ _ _ _ _ (x-small s) (down .union-rows .ensures) (near .union-rows2 .ensures) (far .union-rows3 .ensures) (rw (leafy .when .ensures, met .meet .ensures))
+    _ _ (others .union-rows4 .ensures) (shown .label-of .ensures)
+    (⊎-elim (λ y. inl (sym (differing .meet2 .ensures) ∙ y)) (λ y. inr (test .two-labels .ensures .two y)) (or-yes _ _ (c .if1 .taken)))
 
 union-rows-requires-5 : tie.Need-union-rows-requires-5
 union-rows-requires-5 c κs = search needs
@@ -102,35 +111,60 @@ apart-requires : tie.Need-apart-requires
 apart-requires c κs = search needs
 
 returns-2 : tie.Need-returns-2
-returns-2 c = let t = c .before .before .before .before .before .before .before .before .before .before .before .before .before .before .before .before .before in
-    let o = or-no _ _ (c .before .before .before .before .before .before .before .before .before .before .before .before .before .before .before .before .if1 .left) in
-    round-well _ _ _ _ _ _ (x-small (t .before .before .before .before .before .before .before .before .before .before .before .before .before .before .before)) (t .before .before .before .before .before .before .before .before .union-rows .ensures) (t .before .before .before .before .before .before .before .union-rows2 .ensures) (t .before .before .before .before .union-rows3 .ensures)
-    (rw (t .before .before .before .before .before .when .ensures, t .before .before .before .before .before .before .meet .ensures))
-    (root-small (t .before .before .before .before .before .before .before .before .before .before .before .before .before .before .before)) (leaf-small (t .before .before .before .before .before .before .before .before .before .before .before .before .before .before .before)) _ _
+returns-2 c =
+    let leaf = c .before in
+    let leaf-met = leaf .before in
+    let root = leaf-met .before in
+    let root-met = root .before in
+    let label = root-met .before in
+    let differ = label .before in
+    let differ-first = differ .before in
+    let parent = differ-first .before in
+    let parent-first = parent .before in
+    let child = parent-first .before in
+    let child-first = child .before in
+    let above = child-first .before in
+    let below = above .before in
+    let parents = below .before in
+    let children = parents .before in
+    let free = children .before in
+    let test = free .before in
+    let differing = test .before in
+    let shown = differing .before in
+    let others = shown .before in
+    let far = others .before in
+    let leafy = far .before in
+    let met = leafy .before in
+    let near = met .before in
+    let down = near .before in
+    let s = down .before .before .before .before .before .before .before in
+    let o = or-no _ _ (free .if1 .left) in
+    round-well _ _ _ _ _ _ (x-small s) (down .union-rows .ensures) (near .union-rows2 .ensures) (far .union-rows3 .ensures) (rw (leafy .when .ensures, met .meet .ensures))
+    (root-small s) (leaf-small s) _ _
     (record {
-      is-parents = c .before .before .before .before .before .before .before .before .before .before .before .before .before .before .union-rows6 .ensures;
+      is-parents = parents .union-rows6 .ensures;
       children = _;
-      is-children = c .before .before .before .before .before .before .before .before .before .before .before .before .before .before .before .union-rows5 .ensures;
+      is-children = children .union-rows5 .ensures;
       others = _;
-      is-others = t .before .before .before .union-rows4 .ensures;
-      apart = λ y. not-yes (sym (t .before .meet2 .ensures) ∙ o .0) y;
+      is-others = others .union-rows4 .ensures;
+      apart = λ y. not-yes (sym (differing .meet2 .ensures) ∙ o .0) y;
       shown = _;
-      is-shown = t .before .before .label-of .ensures;
-      only = t .two-labels .ensures .one (o .1);
-      below = c .before .before .before .before .before .before .before .before .before .before .before .before .before .raise .ensures;
-      above = c .before .before .before .before .before .before .before .before .before .before .before .before .raise2 .ensures;
+      is-shown = shown .label-of .ensures;
+      only = test .two-labels .ensures .one (o .1);
+      below = below .raise .ensures;
+      above = above .raise2 .ensures;
       child-half = _;
-      child-first = c .before .before .before .before .before .before .before .before .before .before .before .raise3 .ensures;
-      child = c .before .before .before .before .before .before .before .before .before .before .raise4 .ensures;
+      child-first = child-first .raise3 .ensures;
+      child = child .raise4 .ensures;
       parent-half = _;
-      parent-first = c .before .before .before .before .before .before .before .before .before .raise5 .ensures;
-      parent = c .before .before .before .before .before .before .before .before .raise6 .ensures;
+      parent-first = parent-first .raise5 .ensures;
+      parent = parent .raise6 .ensures;
       differ-half = _;
-      differ-first = c .before .before .before .before .before .before .before .raise7 .ensures;
-      differ = c .before .before .before .before .before .before .raise8 .ensures;
-      root = rw (c .before .before .before .gain .ensures, c .before .before .before .before .meet3 .ensures);
-      leaf = rw (c .before .gain2 .ensures, c .before .before .meet4 .ensures);
-      label = c .before .before .before .before .before .paint .ensures;
+      differ-first = differ-first .raise7 .ensures;
+      differ = differ .raise8 .ensures;
+      root = rw (root .gain .ensures, root-met .meet3 .ensures);
+      leaf = rw (leaf .gain2 .ensures, leaf-met .meet4 .ensures);
+      label = label .paint .ensures;
     })
     _ (c .apart .ensures)
 
