@@ -24,7 +24,7 @@ use Rattle.rowbits.specs.Bit.{bit}
 use Rattle.tables.specs.Rows.{Raised, marked}
 use Rattle.settle.specs.Settling.{SettledOf}
 use Rattle.tables.specs.declared.Facts.{Facts}
-use Rattle.settle.specs.declared.Settled.{Settled as Result}
+use Rattle.tables.specs.declared.Settled.{Settled as Result}
 use Rattle.tables.proofs.Bits.{gained-up, gained-has, gained-case, one-is, one-has}
 use Rattle.tables.proofs.Shape.{Rows, set-keeps, set-case, set-same}
 

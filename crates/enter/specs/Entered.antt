@@ -7,7 +7,7 @@ use Rattle.meaning.specs.Constraint.{Fact, below}
 use Rattle.meaning.specs.Settled.{Clash}
 use Rattle.tables.specs.Tables.{Ready}
 use Rattle.tables.specs.declared.Facts.{Facts}
-use Rattle.settle.specs.declared.Settled.{Settled}
+use Rattle.tables.specs.declared.Settled.{Settled}
 
 pub record EnteredOf (n : ℕ) (f : Facts) (a b : ℕ) (r : Settled) : Type 0 where
   pub clashes : r .clash ≡ true → (S : List Fact) → Ready n S f → Clash n (below a b ∷ S)

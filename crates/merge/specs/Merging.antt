@@ -13,7 +13,7 @@ use Rattle.meaning.proofs.Facts.{Inside}
 use Rattle.tables.specs.Tables.{row, has, Mirrored, Ready}
 use Rattle.tables.specs.declared.Facts.{Facts}
 use Rattle.merge.specs.declared.Round.{Round}
-use Rattle.merge.specs.declared.Merged.{Merged}
+use Rattle.tables.specs.declared.Settled.{Settled as Result}
 use Rattle.merge.specs.Rows.{Gap}
 
 -- every rule of settling but that of one parent
@@ -67,7 +67,7 @@ pub record RoundOf (f : Facts) (x : ℕ) (r : Round) : Type 0 where
   pub falls : r .clash ≡ false → Gap (f .below) x → lacking (r .facts .below) < lacking (f .below)
 
 -- below(a,b) entered, where below(b,a) follows from it: below(b,a) is settled already, or a leaf is at or above a
-pub record MergedOf (n : ℕ) (f : Facts) (a b : Var) (r : Merged) : Type 0 where
+pub record MergedOf (n : ℕ) (f : Facts) (a b : Var) (r : Result) : Type 0 where
   pub clashes : r .clash ≡ true → (S : List Fact) → Ready n S f → Settled n (below a b ∷ S) (below b a) → Clash n (below a b ∷ S)
   pub kept : r .clash ≡ true → r .facts ≡ f
   pub settles : r .clash ≡ false → (S : List Fact) → Ready n S f → Settled n (below a b ∷ S) (below b a) → Ready n (below a b ∷ S) (r .facts)

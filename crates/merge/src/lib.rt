@@ -6,6 +6,7 @@ ghost use Rattle.merge.specs.Rows.{Union, Apart, LabelOf, TwoLabels, Pai
 ghost use Rattle.merge.specs.Merging.{RoundOf, MergedOf};
 use ids::Var;
 use tables::Facts;
+use tables::Settled;
 
 fn choose(t: bool, l: u8, m: u8) -> u8
     ensures { λ r. ⌜ r ≡ pick t l m ⌝ }
@@ -141,13 +142,8 @@ fn unify(f: Facts, x: u16) -> Round
     }
 }
 
-pub struct Merged {
-    pub clash: bool,
-    pub facts: Facts,
-}
-
 // Settled tables with below(a, b), settled again, where below(b, a) follows from it. With a clash they come back as they went in.
-pub fn enter_same(f: Facts, n: usize, a: Var, b: Var) -> Merged
+pub fn enter_same(f: Facts, n: usize, a: Var, b: Var) -> Settled
     requires { ⌜ (a .0 < n) × (b .0 < n) × (n ≤ 16) ⌝ }
     ensures { λ r. ⌜ MergedOf n f (a .0) (b .0) r ⌝ }
 {
@@ -157,7 +153,7 @@ pub fn enter_same(f: Facts, n: usize, a: Var, b: Var) -> Merged
     while x != 0 {
         let r = unify(g, x);
         if r.clash {
-            return Merged {
+            return Settled {
                 clash: true,
                 facts: f,
             };
@@ -165,7 +161,7 @@ pub fn enter_same(f: Facts, n: usize, a: Var, b: Var) -> Merged
         g = r.facts;
         x = r.next;
     }
-    Merged {
+    Settled {
         clash: false,
         facts: g,
     }

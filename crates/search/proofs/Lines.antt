@@ -19,7 +19,7 @@ use Rattle.theory.proofs.Absent.{absent, Adds}
 use Rattle.theory.proofs.Steps.{EndsAs, search-clash, search-solved, search-first, search-second, adds-first, adds-second}
 use Rattle.tables.specs.Tables.{has, Ready}
 use Rattle.tables.specs.declared.Facts.{Facts}
-use Rattle.settle.specs.declared.Settled.{Settled}
+use Rattle.tables.specs.declared.Settled.{Settled}
 use Rattle.enter.specs.Entered.{EnteredOf}
 use Rattle.search.specs.Searching.{Enters, Alternatives, StepOf, Line, missing, left, Reports, LineOf, SearchedOf}
 use Rattle.search.specs.declared.Below.{Below}

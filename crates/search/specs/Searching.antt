@@ -13,7 +13,7 @@ use Rattle.meaning.proofs.Facts.{Inside}
 use Rattle.theory.specs.Search.{firstJoin, search}
 use Rattle.tables.specs.Tables.{has, Ready}
 use Rattle.tables.specs.declared.Facts.{Facts}
-use Rattle.settle.specs.declared.Settled.{Settled}
+use Rattle.tables.specs.declared.Settled.{Settled}
 use Rattle.search.specs.declared.Below.{Below}
 use Rattle.search.specs.declared.Step.{Step}
 use Rattle.search.specs.declared.Step.the-variants.{Solved, Split}

@@ -6,8 +6,8 @@ ghost use Rattle.meaning.specs.Constraint.{Fact};
 ghost use Rattle.search.specs.Searching.{StepOf, Line, LineOf, SearchedOf};
 use ids::Var;
 use joins::Found;
-use settle::Settled;
 use tables::Facts;
+use tables::Settled;
 
 pub enum End {
     Tree,

@@ -7,7 +7,7 @@ use Rattle.meaning.specs.Constraint.{Fact}
 use Rattle.meaning.specs.Settled.{Clash}
 use Rattle.tables.specs.Tables.{Seeded, Ready}
 use Rattle.tables.specs.declared.Facts.{Facts}
-use Rattle.settle.specs.declared.Settled.{Settled}
+use Rattle.tables.specs.declared.Settled.{Settled}
 
 pub record SettledOf (n : ℕ) (f : Facts) (r : Settled) : Type 0 where
   pub clashes : r .clash ≡ true → (S : List Fact) → Seeded n S f → Clash n S

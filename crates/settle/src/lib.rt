@@ -8,6 +8,7 @@ ghost use Rattle.settle.specs.Rows.{firstRow, twin, clashing, merged, sp
 ghost use Rattle.settle.specs.Pass.{PassOf};
 ghost use Rattle.settle.specs.Settling.{SettledOf};
 use tables::Facts;
+use tables::Settled;
 
 fn first_row(below: u16, child: u16, root: u16, x: usize, n: usize) -> u16
     requires { ⌜ (x < 16) × (n ≤ 16) ⌝ }
@@ -208,11 +209,6 @@ fn pass(f: Facts, n: usize, m: u16) -> Passed
         groups,
         facts: g,
     }
-}
-
-pub struct Settled {
-    pub clash: bool,
-    pub facts: Facts,
 }
 
 // The tables settled, with their mirrors: passes until nothing changes. With a clash the tables are those that came in.

@@ -32,7 +32,7 @@ use Rattle.tables.specs.declared.Facts.{Facts}
 use Rattle.seed.specs.Seeds.{SeedsOf}
 use Rattle.seed.specs.declared.Seeds.{Seeds}
 use Rattle.settle.specs.Settling.{SettledOf}
-use Rattle.settle.specs.declared.Settled.{Settled}
+use Rattle.tables.specs.declared.Settled.{Settled}
 use Rattle.search.specs.Searching.{Line, Reports}
 use Rattle.search.specs.declared.End.the-variants.{Tree, None, Spent}
 use Rattle.search.specs.declared.Searched.{Searched}

@@ -10,7 +10,7 @@ ghost use Rattle.search.specs.Searching.{Line};
 ghost use Rattle.solver.specs.Solving.{SolverOf, AnswerOf};
 use constraints::Judgement;
 use search::End;
-use settle::Settled;
+use tables::Settled;
 
 pub enum Verdict {
     // How many bytes were written at the front of the buffer, and the count of choices.

@@ -18,6 +18,12 @@ pub struct Facts {
     pub leaf: u16,
 }
 
+// What settling answers: settled tables, or a clash and the tables that came in.
+pub struct Settled {
+    pub clash: bool,
+    pub facts: Facts,
+}
+
 pub fn one(y: usize) -> u16
     requires { ⌜ y < 16 ⌝ }
     ensures { λ r. ⌜ r ≡ 2 ^ y ⌝ }
