@@ -2,8 +2,7 @@
 ghost use mathlib.Core.Path.{_≡_};
 ghost use Prim.Native.Nat.{_<_, _≤_};
 ghost use Rattle.meaning.specs.Finite.{pick};
-ghost use Rattle.tables.specs.Tables.{row};
-ghost use Rattle.tables.specs.Rows.{both, meets, Gathers};
+ghost use Rattle.tables.specs.Rows.{both};
 ghost use Rattle.settle.specs.Rows.{firstRow, twin, clashing, merged, spread, grouped, spanned, Chained};
 ghost use Rattle.settle.specs.Pass.{PassOf};
 ghost use Rattle.settle.specs.Settling.{SettledOf};
@@ -58,21 +57,6 @@ fn group(row: u16, same: u16, x: usize) -> u16
 {
     let w = tables::one(x);
     tables::gain(same | w != w, row, w)
-}
-
-// The variables whose row meets the row c.
-fn parents(t: [u16; 16], c: u16) -> u16
-    ensures { λ r. ⌜ Gathers (λ y. meets (row t y) c) r ⌝ }
-{
-    let mut a: u16 = 0;
-    if c == 0 {
-        return a;
-    }
-    for y in 0usize..16 {
-        let v = t[y];
-        a = tables::mark(tables::meet(v, c), a, y);
-    }
-    a
 }
 
 // The rows of below by the rules for itself, child, root and chain.
@@ -155,7 +139,7 @@ fn pass(f: Facts, n: usize, m: u16) -> Passed
         let ol = g.label[x];
         let up = ups[x];
         let back = backs[x];
-        let b = nb | (up & g.leaf) | parents(childs, oc);
+        let b = nb | (up & g.leaf) | tables::meeting(childs, oc);
         let same = b & up;
         let mut c = oc;
         let mut d = od | oc | back;

@@ -96,7 +96,7 @@ z-small c = le-trans (c .loop2-test .taken) (le-trans (c .before .loop2 .inv .1)
 -- ---- row x
 
 -- what is known of row x before the loop over y
-module _ (c : tie.After-parents Inv-loop2 μ-loop2 Inv-loop μ-loop Inv-pass μ-pass) where
+module _ (c : tie.After-meeting Inv-loop2 μ-loop2 Inv-loop μ-loop Inv-pass μ-pass) where
   abbrev n : ℕ
   n = c .before .before .before .before .before .before .before .before .before .before .before .before .before .args .n
 
@@ -119,7 +119,7 @@ module _ (c : tie.After-parents Inv-loop2 μ-loop2 Inv-loop μ-loop Inv-pass μ-
   up = row (c .before .before .before .before .before .before .before .before .before .transpose .result) x
 
   abbrev par : ℕ
-  par = c .parents .result
+  par = c .meeting .result
 
   abbrev turned : ℕ
   turned = row (c .before .before .before .before .before .before .before .transpose2 .result) x
@@ -168,13 +168,13 @@ module _ (c : tie.After-parents Inv-loop2 μ-loop2 Inv-loop μ-loop Inv-pass μ-
   d₀ = bitOr (bitOr (row (g .differ) x) (row (g .child) x)) turned
 
   same-known : (k : ℕ) → Yes (bit same k) → D n g (below x k) × D n g (below k x)
-  same-known = same-s n n-small m f x hx g groups _ known up par turned par-small turned-small gu gu-to (c .parents .ensures) gt gt-to
+  same-known = same-s n n-small m f x hx g groups _ known up par turned par-small turned-small gu gu-to (c .meeting .ensures) gt gt-to
 
   d₀-known : (y : ℕ) → Yes (bit d₀ y) → D n g (differ x y)
-  d₀-known = d₀-s n n-small m f x hx g groups _ known up par turned par-small turned-small gu gu-to (c .parents .ensures) gt gt-to
+  d₀-known = d₀-s n n-small m f x hx g groups _ known up par turned par-small turned-small gu gu-to (c .meeting .ensures) gt gt-to
 
   d₀-fits : d₀ < 65536
-  d₀-fits = d₀-small n n-small m f x hx g groups _ known up par turned par-small turned-small gu gu-to (c .parents .ensures) gt gt-to
+  d₀-fits = d₀-small n n-small m f x hx g groups _ known up par turned par-small turned-small gu gu-to (c .meeting .ensures) gt gt-to
 
   visiting-start : Visiting n g groups same x (row (g .child) x) d₀ (row (g .label) x) 0 (row (g .child) x) d₀ (row (g .label) x)
   unfolding has
@@ -184,7 +184,7 @@ module _ (c : tie.After-parents Inv-loop2 μ-loop2 Inv-loop μ-loop Inv-pass μ-
 
 -- what is known in the loop over y, once row y is in
 module _ (c : tie.After-depth Inv-loop2 μ-loop2 Inv-loop μ-loop Inv-pass μ-pass) where
-  abbrev at-row : tie.After-parents Inv-loop2 μ-loop2 Inv-loop μ-loop Inv-pass μ-pass
+  abbrev at-row : tie.After-meeting Inv-loop2 μ-loop2 Inv-loop μ-loop Inv-pass μ-pass
   at-row = c .before .before .before .before .before .before .before .before .before .before .before .before .before .before .before
 
   abbrev y : ℕ
@@ -276,8 +276,8 @@ mul-back c = search needs
 array-read-back : tie.Need-array-read-back Inv-loop2 μ-loop2 Inv-loop μ-loop Inv-pass μ-pass
 array-read-back c = search needs
 
-parents-requires : tie.Need-parents-requires Inv-loop2 μ-loop2 Inv-loop μ-loop Inv-pass μ-pass
-parents-requires c κs = search needs
+meeting-requires : tie.Need-meeting-requires Inv-loop2 μ-loop2 Inv-loop μ-loop Inv-pass μ-pass
+meeting-requires c κs = search needs
 
 has-requires : tie.Need-has-requires Inv-loop2 μ-loop2 Inv-loop μ-loop Inv-pass μ-pass
 has-requires c κs = search needs
@@ -418,10 +418,10 @@ pass-again : tie.Need-pass-again Inv-loop2 μ-loop2 Inv-loop μ-loop Inv-pass μ
 pass-again c = let r = c .before .before .before .before .before .before .before .before .before .before in (
   add-one-le (hx r),
   c .before .before .before .before .before .before .loop .inv .2,
-  passing-more-as _ (n-small r) _ _ _ (hx r) _ _ _ (known r) _ _ _ (par-small r) (turned-small r) (gu r) (gu-to r) (r .parents .ensures) (gt r) (gt-to r)
+  passing-more-as _ (n-small r) _ _ _ (hx r) _ _ _ (known r) _ _ _ (par-small r) (turned-small r) (gu r) (gu-to r) (r .meeting .ensures) (gt r) (gt-to r)
       _ _ _ _ _ _ _ _ (c .before .before .before .before .before .before .before .span .ensures) (c .before .before .before .before .before .loop-test .left) (c .before .before .before .before .before .before .loop .inv .3) (sym (c .before .before .before .before .before .before .before .before .before .has .ensures) ∙ c .before .before .before .before .before .before .before .before .if1 .left)
       (c .before .before .before .before .spreads .ensures) (c .before .before .before .spreads2 .ensures) (c .before .before .group .ensures) _ _ (c .before .widen .ensures) (c .widen2 .ensures),
-  above-trans (c .before .before .before .before .before .before .before .before .before .before .before .before .before .before .before .before .pass .inv .3) (grows _ (n-small r) _ _ _ (hx r) _ _ _ (known r) _ _ _ (par-small r) (turned-small r) (gu r) (gu-to r) (r .parents .ensures) (gt r) (gt-to r)
+  above-trans (c .before .before .before .before .before .before .before .before .before .before .before .before .before .before .before .before .pass .inv .3) (grows _ (n-small r) _ _ _ (hx r) _ _ _ (known r) _ _ _ (par-small r) (turned-small r) (gu r) (gu-to r) (r .meeting .ensures) (gt r) (gt-to r)
       _ _ _ _ _ _ _ _ (c .before .before .before .before .before .before .before .span .ensures) (c .before .before .before .before .before .loop-test .left) (c .before .before .before .before .before .before .loop .inv .3) (sym (c .before .before .before .before .before .before .before .before .before .has .ensures) ∙ c .before .before .before .before .before .before .before .before .if1 .left)
       (c .before .before .before .before .spreads .ensures) (c .before .before .before .spreads2 .ensures) (c .before .before .group .ensures)),
 )
@@ -465,7 +465,7 @@ pass-spec =
     array-read-up
     mul-back
     array-read-back
-    parents-requires
+    meeting-requires
     has-requires
     span-requires
     loop-holds
