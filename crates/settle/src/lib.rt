@@ -102,11 +102,11 @@ fn depth(row: u16, groups: u16, y: usize, n: usize) -> usize
     0
 }
 
-pub struct Passed {
-    pub clash: bool,
-    pub diff: u16,
-    pub groups: u16,
-    pub facts: Facts,
+struct Passed {
+    clash: bool,
+    diff: u16,
+    groups: u16,
+    facts: Facts,
 }
 
 fn widen(l: u8) -> u16
