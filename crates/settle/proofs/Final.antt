@@ -22,7 +22,7 @@ use Rattle.settle.specs.Pass.{Same, Gone, total}
 use Rattle.settle.specs.Settling.{SettledOf}
 use Rattle.tables.specs.declared.Facts.{Facts}
 use Rattle.tables.proofs.Shape.{Shape, label-is}
-use Rattle.settle.proofs.Passing.{total-most}
+use Rattle.settle.proofs.Above.{total-most}
 use native.Mathlib.Omega.{arith}
 
 module _ (n : ℕ) (S : List Fact) (f g h : Facts) (old diff new : ℕ) (seed : Seeded n S f)

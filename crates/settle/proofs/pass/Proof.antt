@@ -11,12 +11,14 @@ use Rattle.tables.specs.Tables.{row, has}
 use Rattle.tables.specs.Rows.{both}
 use Rattle.settle.specs.Rows.{clashing}
 use Rattle.tables.proofs.Bits.{or-case}
-use Rattle.settle.proofs.Grown.{D}
+use Rattle.settle.proofs.Visit.{D, Sharing, Visiting, sharing-none, sharing-more, visiting-none, visiting-more, label-clash, differ-z, child-y, child-y-small}
+use Rattle.settle.proofs.Masks.{picked-on, spanned-most, picked-most}
+use Rattle.settle.proofs.Row.{passing-more-as, grows, same-s, d₀-s, d₀-small}
+use Rattle.settle.proofs.Above.{Above, above-trans, above-self}
+use Rattle.settle.proofs.Passing.{passing-none, gone, ended-well, ended-clash, Passing, began}
 use Rattle.tables.proofs.Shape.{label-has, Rows, Shape}
-use Rattle.settle.proofs.Passing.{picked-on, passing-more-as, Above, above-trans, above-self, grows, passing-none, gone, ended-well, ended-clash, Passing, began, same-s, d₀-s, d₀-small, spanned-most, picked-most}
 use Rattle.tables.proofs.Helpers.{doubled}
 use Rattle.tables.specs.declared.Facts.{Facts}
-use Rattle.settle.proofs.Visit.{Sharing, Visiting, sharing-none, sharing-more, visiting-none, visiting-more, label-clash, differ-z, child-y, child-y-small}
 use native.Mathlib.Nat.{le-trans}
 use lib.ListN.{getD}
 use mir.Val.{Fits}
