@@ -10,23 +10,23 @@ use native.Mathlib.Decide.{decLt}
 use native.Mathlib.Omega.{arith}
 use lib.ListN.{set}
 use Rattle.meaning.specs.ReadOff.{Decides}
-use Rattle.meaning.proofs.Rules.{Rules}
-use Rattle.meaning.proofs.Tests.{yes-eq}
-use Rattle.theory.proofs.Closure.{rules-decide}
-use Rattle.tables.specs.Tables.{Columns, row, has, Sound, Seeded, Ready}
-use Rattle.enter.specs.Entered.{EnteredOf}
 use Rattle.meaning.specs.Constraint.{Fact, child, below, differ, root, leaf, label}
 use Rattle.meaning.specs.Settled.{Settled, given, Clash, differs, labels, child-below, child-differ, self-below, chain, root-below, leaf-below, one-parent, differ-back, same-parent, same-child, same-differ, same-root, same-leaf, same-label}
 use Rattle.meaning.specs.Finite.{Yes}
+use Rattle.meaning.proofs.Rules.{Rules}
+use Rattle.meaning.proofs.Tests.{yes-eq}
 use Rattle.meaning.proofs.Facts.{Within, Inside}
 use Rattle.meaning.proofs.Least.{settled-mono, settled-within}
+use Rattle.theory.proofs.Closure.{rules-decide}
 use Rattle.rowbits.specs.Bit.{bit}
+use Rattle.tables.specs.Tables.{Columns, row, has, Sound, Seeded, Ready}
 use Rattle.tables.specs.Rows.{Raised, marked}
-use Rattle.settle.specs.Settling.{SettledOf}
 use Rattle.tables.specs.declared.Facts.{Facts}
-use Rattle.settle.specs.declared.Settled.{Settled as Result}
 use Rattle.tables.proofs.Bits.{gained-up, gained-has, gained-case, one-is, one-has}
 use Rattle.tables.proofs.Shape.{Rows, set-keeps, set-case, set-same}
+use Rattle.settle.specs.Settling.{SettledOf}
+use Rattle.settle.specs.declared.Settled.{Settled as Result}
+use Rattle.enter.specs.Entered.{EnteredOf}
 
 module _ (n : ℕ) (small : n ≤ 16) (S : List Fact) (f : Facts) (a b : ℕ) (ha : a < n) (hb : b < n) (r : Ready n S f) where
   abbrev S' : List Fact

@@ -22,10 +22,10 @@ use Rattle.theory.specs.Search.{isParentJoin, isChainJoin, firstOf, firstJoin}
 use Rattle.rowbits.specs.Bit.{bit}
 use Rattle.tables.specs.Tables.{row, has, Ready}
 use Rattle.tables.specs.Rows.{Gathers, Lowest, meets, without}
-use Rattle.joins.specs.Found.{Apart}
 use Rattle.tables.specs.declared.Facts.{Facts}
 use Rattle.tables.proofs.Bits.{in-both, both-in, or-l, or-r, or-case, all-is, all-has, without-in, without-out, flip-has, flip-not, meets-in, meets-out}
 use Rattle.tables.proofs.Loops.{below-cases}
+use Rattle.joins.specs.Found.{Apart}
 use Rattle.joins.proofs.Find.{firstOf-is-none, firstOf-is-some}
 
 -- no join at a z that was passed

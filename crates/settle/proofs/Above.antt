@@ -14,10 +14,10 @@ use Rattle.meaning.specs.Finite.{Yes, sum}
 use Rattle.meaning.proofs.Finite.{sum-le, sum-bound}
 use Rattle.tables.specs.Tables.{row, has}
 use Rattle.tables.specs.Rows.{Up}
-use Rattle.settle.specs.Pass.{weight, total}
 use Rattle.tables.specs.declared.Facts.{Facts}
 use Rattle.tables.proofs.Bits.{up-self, up-trans}
 use Rattle.tables.proofs.Shape.{set-same, Rows, Shape, label-has, label-is}
+use Rattle.settle.specs.Pass.{weight, total}
 
 -- a label that is there stays
 pub record LUp (a b : ℕ) : Type 0 where

@@ -11,8 +11,8 @@ use Rattle.meaning.specs.Finite.{Yes, _or_, neg, pick}
 use Rattle.meaning.proofs.Tests.{clash, yes-case, or-left, or-right, no-neg, is-eq, pick-yes}
 use Rattle.rowbits.specs.Bit.{bit}
 use Rattle.tables.specs.Rows.{Up, meets}
-use Rattle.settle.specs.Rows.{spread, grouped, spanned}
 use Rattle.tables.proofs.Bits.{or-l, gained-up, gained-has, gained-case, gained-small, one-is, one-has, one-small, meets-in, meets-out, xor-zero, or-zero}
+use Rattle.settle.specs.Rows.{spread, grouped, spanned}
 
 -- ---- a mask after row x
 

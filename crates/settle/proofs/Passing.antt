@@ -14,11 +14,11 @@ use Rattle.meaning.proofs.Facts.{Within}
 use Rattle.rowbits.specs.Bit.{bit}
 use Rattle.tables.specs.Tables.{row, has, Sound}
 use Rattle.tables.specs.Rows.{Up}
-use Rattle.settle.specs.Rows.{Chained, grouped}
-use Rattle.settle.specs.Pass.{Steps, total, Gone, PassOf}
 use Rattle.tables.specs.declared.Facts.{Facts}
 use Rattle.tables.proofs.Bits.{up-self}
 use Rattle.tables.proofs.Shape.{Rows, Shape, label-has, label-is}
+use Rattle.settle.specs.Rows.{Chained, grouped}
+use Rattle.settle.specs.Pass.{Steps, total, Gone, PassOf}
 use Rattle.settle.proofs.Above.{Above, lup-self, keeps, total-most}
 
 -- what the rules for itself, child, root and chain give is in the rows of below from the start

@@ -17,12 +17,12 @@ use Rattle.meaning.proofs.Finite.{sum-le, sum-lt}
 use Rattle.rowbits.specs.Bit.{bit}
 use Rattle.tables.specs.Tables.{row, has, Sound}
 use Rattle.tables.specs.Rows.{Up, Gathers, meets}
-use Rattle.settle.specs.Rows.{spread, grouped, spanned}
-use Rattle.settle.specs.Pass.{Same, Steps, weight, total}
 use Rattle.tables.specs.declared.Facts.{Facts}
 use Rattle.tables.proofs.Bits.{or-l, or-r, in-both, both-in, up-or, up-trans, meets-in, meets-out}
 use Rattle.tables.proofs.Loops.{below-cases}
 use Rattle.tables.proofs.Shape.{set-same, set-rows, set-case, Shape, label-has, label-is}
+use Rattle.settle.specs.Rows.{spread, grouped, spanned}
+use Rattle.settle.specs.Pass.{Same, Steps, weight, total}
 use Rattle.settle.proofs.Above.{Above, above-trans, keeps, weight-up, total-up, set-up, set-lup}
 use Rattle.settle.proofs.Visit.{D, up-s, below-s, differ-s₀, Visiting}
 use Rattle.settle.proofs.Masks.{spread-up, spread-has, spread-case, spread-small, group-up, group-small, group-has, spanned-cases, changes, quiet, unchanged}

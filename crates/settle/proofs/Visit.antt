@@ -16,11 +16,11 @@ use Rattle.meaning.proofs.Tests.{clash, yes-case, no-neg, is-eq, pick-yes, and-
 use Rattle.rowbits.specs.Bit.{bit}
 use Rattle.tables.specs.Tables.{row, has, Sound}
 use Rattle.tables.specs.Rows.{Up, gained, both}
-use Rattle.settle.specs.Rows.{twin, clashing, merged}
 use Rattle.tables.specs.declared.Facts.{Facts}
 use Rattle.tables.proofs.Bits.{or-l, or-r, in-both, up-or, up-self, up-trans, gained-up, gained-has, gained-case, gained-small, one-is, one-has, one-small, or-case, none-in}
 use Rattle.tables.proofs.Loops.{below-cases}
 use Rattle.tables.proofs.Shape.{Shape, label-has}
+use Rattle.settle.specs.Rows.{twin, clashing, merged}
 use Rattle.settle.proofs.Above.{LUp, lup-self, lup-trans}
 
 -- a fact follows from the tables: it is settled in every set that they hold nothing but settled facts of

@@ -1,9 +1,10 @@
+-- `enter::by_settling` meets its contract: the tables with one bit more are those to settle from.
 use lib.ListN.{getD}
 use mir.Val.{Fits}
 use mir.Syntax.{w16}
+use borrow.Author.Needs.{needs}
 use Rattle.tables.proofs.Shape.{Rows}
 use Rattle.enter.proofs.Enter.{put-seeded, passes-clash, passes-settle}
-use borrow.Author.Needs.{needs}
 use Rattle.enter.proofs.by_settling.Statement.{statement}
 use Rattle.enter.proofs.by_settling.Tie as tie
 

@@ -1,9 +1,10 @@
+-- `enter::enter_below` meets its contract: by rows or by settling, as the test says.
 use mathlib.Core.Path.{sym, _∙_}
 use mathlib.Core.Bool.{false≢true}
+use borrow.Author.Needs.{needs}
 use Rattle.tables.specs.Tables.{has}
 use Rattle.tables.proofs.Bits.{meets-in}
 use Rattle.enter.proofs.Enter.{raised-ready, entered-well, or-no}
-use borrow.Author.Needs.{needs}
 use Rattle.enter.proofs.enter_below.Statement.{statement}
 use Rattle.enter.proofs.enter_below.Tie as tie
 

@@ -1,10 +1,11 @@
+-- `joins::apart_rows` meets its contract: the loop has changed the rows below x.
 use mathlib.Core.Path.{refl}
 use Prim.Native.Nat.{_≤_, _-_}
 use native.Mathlib.Nat.{le-trans}
 use lib.Bits.{bitOr, bitXor}
+use borrow.Author.Needs.{needs}
 use Rattle.tables.specs.Tables.{row}
 use Rattle.tables.proofs.Loops.{Rowing, rowing-none, rowing-more}
-use borrow.Author.Needs.{needs}
 use Rattle.joins.proofs.apart_rows.Statement.{statement}
 use Rattle.joins.proofs.apart_rows.Tie as tie
 

@@ -1,14 +1,14 @@
--- The loop has passed no z with a chain join.
+-- `joins::chain_join` meets its contract: the loop has passed no z with a chain join.
 use Prim.Native.Nat.{_≤_, _-_}
 use native.Mathlib.Nat.{not-suc-le-zero}
 use lib.ListN.{getD}
 use mir.Val.{Fits}
 use mir.Syntax.{w16}
+use borrow.Author.Needs.{needs}
 use Rattle.meaning.specs.FixedSearch.{chain-join}
 use Rattle.theory.specs.Search.{isChainJoin}
 use Rattle.joins.specs.Found.{joinOf}
 use Rattle.joins.proofs.First.{NoneBefore, none-more, none-apart, chain-named, chain-first, none-first}
-use borrow.Author.Needs.{needs}
 use Rattle.joins.proofs.chain_join.Statement.{statement}
 use Rattle.joins.proofs.chain_join.Tie as tie
 

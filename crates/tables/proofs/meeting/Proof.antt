@@ -1,8 +1,9 @@
-use Rattle.tables.proofs.Loops.{Gathering, gather-none, gather-more, gather-all, none-meet}
-use Rattle.tables.specs.Tables.{row}
-use Rattle.tables.specs.Rows.{meets}
+-- `tables::meeting` meets its contract: the loop has gathered the rows below y.
 use Prim.Native.Nat.{_≤_, _-_}
 use borrow.Author.Needs.{needs}
+use Rattle.tables.specs.Tables.{row}
+use Rattle.tables.specs.Rows.{meets}
+use Rattle.tables.proofs.Loops.{Gathering, gather-none, gather-more, gather-all, none-meet}
 use Rattle.tables.proofs.meeting.Statement.{statement}
 use Rattle.tables.proofs.meeting.Tie as tie
 
