@@ -92,6 +92,7 @@ fn span(same: u16, x: usize, row: u16, groups: u16, n: usize) -> usize
     0
 }
 
+// How many z row x has to look at for y: none, where y is no child or differ of x or is in no group.
 fn depth(row: u16, groups: u16, y: usize, n: usize) -> usize
     requires { ⌜ y < 16 ⌝ }
     ensures { λ r. ⌜ r ≡ pick (both row y groups y) n 0 ⌝ }
@@ -109,13 +110,15 @@ struct Passed {
     facts: Facts,
 }
 
+// A label in the width of a row, so that its change joins `diff`.
 fn widen(l: u8) -> u16
     ensures { λ r. ⌜ r ≡ l ⌝ }
 {
     l as u16
 }
 
-// One pass: every rule, applied to the facts of f.
+// One pass: every rule, applied to the facts of f. `m` has the variables that were found in a group of more than one, and `diff` is 0 where
+// nothing changed.
 fn pass(f: Facts, n: usize, m: u16) -> Passed
     requires { ⌜ n ≤ 16 ⌝ }
     ensures { λ r. ⌜ PassOf n m f r ⌝ }
