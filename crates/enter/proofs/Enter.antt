@@ -1,32 +1,31 @@
--- Entering below(a, b). By passes: the tables with one bit more are those to settle from. By rows, where b is not at or above a and no leaf
--- is: two variables that become the same were the same before, so no rule but chain gives anything new.
+-- Entering below(a, b) by rows, where b is not at or above a and no leaf is: two variables that become the same were the same before, so no
+-- rule but chain gives anything new. Elsewhere below(b, a) follows, and groups merge.
 use mathlib.Core.Path.{_≡_, refl, sym, _∙_, subst}
-use mathlib.Core.Logic.{_≢_, _⊎_, inl, inr, ⊎-elim}
+use mathlib.Core.Logic.{_⊎_, inl, inr, ⊎-elim}
 use mathlib.Core.Bool.{Bool, true, false, false≢true, _||_}
 use mathlib.Core.List.{List, _∷_, List·Memᴰ, List·Memᴰ·head, List·Memᴰ·tail, List·Memᴰ·cases-cons}
-use Prim.Native.Nat.{ℕ, _^_, _<_, _≤_}
+use Prim.Native.Nat.{ℕ, _<_, _≤_}
 use native.Mathlib.Nat.{le-trans}
 use native.Mathlib.Decide.{decLt}
 use native.Mathlib.Omega.{arith}
-use lib.ListN.{set}
 use Rattle.meaning.specs.ReadOff.{Decides}
-use Rattle.meaning.proofs.Rules.{Rules}
-use Rattle.meaning.proofs.Tests.{yes-eq}
-use Rattle.theory.proofs.Closure.{rules-decide}
-use Rattle.tables.specs.Tables.{Columns, row, has, Sound, Seeded, Ready}
-use Rattle.enter.specs.Entered.{EnteredOf}
 use Rattle.meaning.specs.Constraint.{Fact, child, below, differ, root, leaf, label}
 use Rattle.meaning.specs.Settled.{Settled, given, Clash, differs, labels, child-below, child-differ, self-below, chain, root-below, leaf-below, one-parent, differ-back, same-parent, same-child, same-differ, same-root, same-leaf, same-label}
 use Rattle.meaning.specs.Finite.{Yes}
+use Rattle.meaning.proofs.Rules.{Rules}
+use Rattle.meaning.proofs.Tests.{yes-eq}
 use Rattle.meaning.proofs.Facts.{Within, Inside}
 use Rattle.meaning.proofs.Least.{settled-mono, settled-within}
+use Rattle.theory.proofs.Closure.{rules-decide}
 use Rattle.rowbits.specs.Bit.{bit}
-use Rattle.tables.specs.Rows.{Raised, marked}
-use Rattle.settle.specs.Settling.{SettledOf}
+use Rattle.tables.specs.Tables.{Columns, row, has, Sound, Ready}
+use Rattle.tables.specs.Rows.{Raised, meets}
 use Rattle.tables.specs.declared.Facts.{Facts}
+use Rattle.tables.proofs.Bits.{gained-up, gained-has, gained-case}
 use Rattle.tables.specs.declared.Settled.{Settled as Result}
-use Rattle.tables.proofs.Bits.{gained-up, gained-has, gained-case, one-is, one-has}
-use Rattle.tables.proofs.Shape.{Rows, set-keeps, set-case, set-same}
+use Rattle.merge.specs.Merging.{MergedOf}
+use Rattle.merge.proofs.Entered.{back-tested}
+use Rattle.enter.specs.Entered.{EnteredOf}
 
 module _ (n : ℕ) (small : n ≤ 16) (S : List Fact) (f : Facts) (a b : ℕ) (ha : a < n) (hb : b < n) (r : Ready n S f) where
   abbrev S' : List Fact
@@ -49,45 +48,6 @@ module _ (n : ℕ) (small : n ≤ 16) (S : List Fact) (f : Facts) (a b : ℕ) (h
 
   within : (φ : Fact) → Yes (has f φ) → Within n φ
   within φ u = settled-within n S (r .inside) (fact φ u)
-
-  -- ---- by passes
-
-  module _ (w : Rows (f .below)) (v : ℕ) (ev : v ≡ marked true (row (f .below) a) b) where
-    abbrev passed : Facts
-    passed = record { child = f .child; parent = f .parent; below = set (f .below) a v; above = f .above; differ = f .differ; root = f .root; leaf = f .leaf; label = f .label }
-
-    put-keeps : (φ : Fact) → Yes (has f φ) → Yes (has passed φ)
-    unfolding has marked
-    put-keeps (below x y) u = set-keeps (f .below) a v w (omega arith) (λ i s. subst (λ (k : ℕ). Yes (bit k i)) (sym ev) (gained-up true _ _ .kept i s)) x y u
-    put-keeps (child x y) u = u
-    put-keeps (differ x y) u = u
-    put-keeps (root x) u = u
-    put-keeps (leaf x) u = u
-    put-keeps (label x l) u = u
-
-    put-sound : Sound n S' passed
-    unfolding has marked
-    put-sound (below x y) u =
-        set-case (f .below) a v w (omega arith) (λ i j. Settled n S' (below i j)) x y
-        (λ t. ⊎-elim (λ s. more (fact (below a y) s)) (λ s. subst (λ (k : ℕ). Settled n S' (below a k)) (sym (one-is b y (s .1))) entered)
-        (gained-case true _ _ y (subst (λ (k : ℕ). Yes (bit k y)) ev t)))
-        (λ t. more (fact (below x y) t)) u
-    put-sound (child x y) u = more (fact (child x y) u)
-    put-sound (differ x y) u = more (fact (differ x y) u)
-    put-sound (root x) u = more (fact (root x) u)
-    put-sound (leaf x) u = more (fact (leaf x) u)
-    put-sound (label x l) u = more (fact (label x l) u)
-
-    put-new : Yes (has passed (below a b))
-    unfolding has marked
-    put-new = subst (λ (k : ℕ). Yes (bit k b)) (sym (set-same (f .below) a v w (omega arith) ∙ ev)) (gained-has true _ (2 ^ b) b refl (one-has b))
-
-    pub put-seeded : Seeded n S' passed
-    put-seeded = record {
-      inside = inside';
-      held = λ φ m. ⊎-elim (λ e. subst (λ (ψ : Fact). Yes (has passed ψ)) (sym e) put-new) (λ k. put-keeps φ (rule φ (given k))) (List·Memᴰ·cases-cons m);
-      sound = put-sound;
-    }
 
   -- ---- by rows
 
@@ -212,16 +172,21 @@ module _ (n : ℕ) (small : n ≤ 16) (S : List Fact) (f : Facts) (a b : ℕ) (h
 pub entered-well : (n : ℕ) (f : Facts) (a b : ℕ) (g : Facts) → ((S : List Fact) → Ready n S f → Ready n (below a b ∷ S) g) → EnteredOf n f a b (record { clash = false; facts = g })
 entered-well n f a b g h = record { clashes = λ e. absurd (false≢true e); kept = λ e. absurd (false≢true e); settles = λ e. h }
 
-module _ (n : ℕ) (f : Facts) (a b : ℕ) (g : Facts) (r : Result) (s : SettledOf n g r) (h : (S : List Fact) → Ready n S f → Seeded n (below a b ∷ S) g) where
-  pub passes-clash : r .clash ≡ true → EnteredOf n f a b (record { clash = true; facts = f })
-  passes-clash c = record { clashes = λ e S q. s .clashes c (below a b ∷ S) (h S q); kept = λ e. refl; settles = λ e. absurd (false≢true (sym e)) }
+or-yes : (p q : Bool) → (p || q) ≡ true → (p ≡ true) ⊎ (q ≡ true)
+or-yes true q e = inl refl
+or-yes false q e = inr e
 
-  pub passes-settle : r .clash ≡ false → EnteredOf n f a b r
-  passes-settle c = record {
-    clashes = λ e. absurd (false≢true (sym c ∙ e));
-    kept = λ e. absurd (false≢true (sym c ∙ e));
-    settles = λ e S q. s .settles e (below a b ∷ S) (h S q);
-  }
+-- where the test says that b is at or above a, or that a leaf is
+pub entered-same : (n : ℕ) (f : Facts) (a b : ℕ) (r : Result) → n ≤ 16 → a < n → row (f .above) a < 65536
+    → (p q : Bool) → p ≡ bit (row (f .below) b) a → q ≡ meets (row (f .above) a) (f .leaf) → (p || q) ≡ true → MergedOf n f a b r → EnteredOf n f a b r
+entered-same n f a b r few ha small p q d e t m = record {
+  clashes = λ c S w. m .clashes c S w (back S w);
+  kept = m .kept;
+  settles = λ c S w. m .settles c S w (back S w);
+}
+  where
+    back : (S : List Fact) → Ready n S f → Settled n (below a b ∷ S) (below b a)
+    back S w = back-tested n S f a b few ha small w (⊎-elim (λ y. inl (sym d ∙ y)) (λ y. inr (sym e ∙ y)) (or-yes p q t))
 
 -- what the test says
 pub or-no : (p q : Bool) → (p || q) ≡ false → (p ≡ false) × (q ≡ false)

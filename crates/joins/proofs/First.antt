@@ -1,5 +1,5 @@
--- A join is read from the rows of z, x and y. With the parents of z all the same, any of them, y, tells whether x makes a parent join; the
--- smaller of two variables that are apart is met first, so a chain join is found from its x.
+-- A join is read from the rows of z, x and y. With the parents of z all the same, any of them, y, tells whether x makes a parent join; of
+-- two variables that are apart the smaller is found first, so it is the x of a chain join.
 use mathlib.Core.Path.{_≡_, refl, sym, ap, _∙_, subst}
 use mathlib.Core.Logic.{_⊎_, ⊎-elim}
 use mathlib.Core.Bool.{Bool}
@@ -9,7 +9,7 @@ use Prim.Native.Nat.{ℕ, _+_, _-_, _^_, _<_, _≤_}
 use native.Mathlib.Nat.{le-trans, le-of-lt}
 use native.Mathlib.Decide.{decLt, ℕ-discrete}
 use native.Mathlib.Omega.{arith}
-use lib.Bits.{bitAnd, bitOr, bitXor, and-le-l, and-le-r}
+use lib.Bits.{bitAnd, bitOr}
 use Rattle.meaning.specs.Tree.{Var}
 use Rattle.meaning.specs.Constraint.{Fact, child, below}
 use Rattle.meaning.specs.Settled.{self-below, chain, one-parent}
@@ -21,10 +21,11 @@ use Rattle.theory.specs.Find.{orElse}
 use Rattle.theory.specs.Search.{isParentJoin, isChainJoin, firstOf, firstJoin}
 use Rattle.rowbits.specs.Bit.{bit}
 use Rattle.tables.specs.Tables.{row, has, Ready}
-use Rattle.tables.specs.Rows.{Lowest, without}
+use Rattle.tables.specs.Rows.{Gathers, Lowest, meets, without}
 use Rattle.tables.specs.declared.Facts.{Facts}
-use Rattle.tables.proofs.Bits.{in-both, both-in, or-l, or-r, or-case, all-is, all-has, all-small, without-in, without-out, without-is, one-is, none-in}
+use Rattle.tables.proofs.Bits.{in-both, both-in, or-l, or-r, or-case, all-is, all-has, without-in, without-out, flip-has, flip-not, meets-in, meets-out}
 use Rattle.tables.proofs.Loops.{below-cases}
+use Rattle.joins.specs.Found.{Apart}
 use Rattle.joins.proofs.Find.{firstOf-is-none, firstOf-is-some}
 
 -- no join at a z that was passed
@@ -117,8 +118,8 @@ module _ (n : ℕ) (small : n ≤ 16) (S : List Fact) (f : Facts) (r : Ready n S
     apart-back p t = p (⊎-elim (λ b. or-r (row (f .below) x) (row (f .above) x) y (above-is y x hy hx ∙ sym (below-is y x) ∙ b))
         (λ a. or-l (row (f .below) x) (row (f .above) x) y (below-is x y ∙ sym (above-is x y hx hy) ∙ a)) (or-case _ _ x t))
 
-  apart-self : (x : Var) → x < n → Yes (bit (bitOr (row (f .below) x) (row (f .above) x)) x)
-  apart-self x hx = or-l (row (f .below) x) (row (f .above) x) x (below-is x x ∙ r .decides .complete (self-below hx))
+  self-together : (x : Var) → x < n → Yes (bit (bitOr (row (f .below) x) (row (f .above) x)) x)
+  self-together x hx = or-l (row (f .below) x) (row (f .above) x) x (below-is x x ∙ r .decides .complete (self-below hx))
 
 -- ---- the parent joins at z
 
@@ -170,75 +171,77 @@ module _ (n : ℕ) (small : n ≤ 16) (f : Facts) (vars : ℕ) (ev : vars ≡ 2 
 
 -- ---- the chain joins at z
 
--- the members of u that are not in `rest` are the x of no chain join
-pub record Walking (n : ℕ) (f : Facts) (z u rest : ℕ) : Type 0 where
-  pub small : rest < 65536
-  pub within : (i : ℕ) → Yes (bit rest i) → Yes (bit u i)
-  pub gone : (S : List Fact) → Ready n S f → (x y : Var) → x < n → y < n → ¬ Yes (bit rest x) → ¬ Yes (isChainJoin (has f) z x y)
-
-module _ (n : ℕ) (small : n ≤ 16) (f : Facts) (vars : ℕ) (ev : vars ≡ 2 ^ n - 1) (z : Var) (hz : z < n) where
+module _ (n : ℕ) (small : n ≤ 16) (f : Facts) (vars : ℕ) (ev : vars ≡ 2 ^ n - 1) (apart : List ℕ) (ea : Apart (f .below) (f .above) apart) (z : Var) (hz : z < n)
+    (g : ℕ) (gp : Gathers (λ k. meets (row apart k) (bitAnd (row (f .above) z) vars)) g)
+    (x : ℕ) (lx : Lowest (bitAnd (bitAnd (row (f .above) z) vars) g) x) where
   abbrev u : ℕ
   u = bitAnd (row (f .above) z) vars
 
-  pub walk-none : Walking n f z u u
-  walk-none = record { small = let a = and-le-r (row (f .above) z) vars in let b = all-small n small in omega arith; within = λ i t. t; gone = λ S r x y hx hy a t. a (vars-in _ vars n x ev hx (chain-parts n small S f r z x y hz hx hy t .above-x)) }
+  apart-in : (i k : Var) → i < 16 → k < 16 → ¬ Yes (bit (bitOr (row (f .below) i) (row (f .above) i)) k) → Yes (bit (row apart i) k)
+  apart-in i k hi hk p = subst (λ (j : ℕ). Yes (bit j k)) (sym (ea i hi)) (flip-has _ k hk p)
 
-  pub walk-done : (rest : ℕ) → rest ≡ 0 → Walking n f z u rest → (S : List Fact) → Ready n S f → (x y : Var) → x < n → y < n → ¬ Yes (isChainJoin (has f) z x y)
-  walk-done rest e w S r x y hx hy = w .gone S r x y hx hy (λ t. none-in x (subst (λ (k : ℕ). Yes (bit k x)) e t))
+  apart-out : (i k : Var) → i < 16 → k < 16 → Yes (bit (row apart i) k) → ¬ Yes (bit (bitOr (row (f .below) i) (row (f .above) i)) k)
+  apart-out i k hi hk p = flip-not _ k hk (subst (λ (j : ℕ). Yes (bit j k)) (ea i hi) p)
 
-  module _ (rest : ℕ) (w : Walking n f z u rest) (x : ℕ) (m : x < 16) (lx : Lowest rest x)
-      (y : ℕ) (ly : Lowest (without u (bitOr (row (f .below) x) (row (f .above) x))) y) where
-    x-at : Yes (bit (row (f .above) z) x) × (x < n)
-    x-at = vars-out _ vars n x ev (w .within x (lx .this m))
+  -- a member of u that is apart from another
+  in-c : (i k : Var) → i < 16 → Yes (bit u i) → Yes (bit u k) → Yes (bit (row apart i) k) → Yes (bit (bitAnd u g) i)
+  in-c i k hi ui uk p = both-in u g i ui (gp .to i hi (meets-in (row apart i) u k p uk))
 
-    pub walk-more : 16 ≤ y → (next bit-x : ℕ) → bit-x ≡ 2 ^ x → next ≡ without rest bit-x → Walking n f z u next
-    walk-more l next bit-x e d = record {
-      small = let a = and-le-l rest (bitXor bit-x 65535) in let b = w .small in let c = d ∙ without-is rest bit-x in omega arith;
-      within = λ i t. w .within i (in-both rest (bitXor bit-x 65535) i (subst (λ (k : ℕ). Yes (bit k i)) (d ∙ without-is rest bit-x) t) .0);
-      gone = λ S r i k hi hk a t. go S r i k hi hk a t (ℕ-discrete i x);
-    }
+  record Passed (i k : Var) : Type 0 where
+    u-i : Yes (bit u i)
+    u-k : Yes (bit u k)
+    apart-i : Yes (bit (row apart i) k)
+
+  passed : (S : List Fact) → Ready n S f → (i k : Var) → i < n → k < n → Yes (isChainJoin (has f) z i k) → Passed i k
+  passed S r i k hi hk t =
+      let p = chain-parts n small S f r z i k hz hi hk t in
+      record { u-i = vars-in _ vars n i ev hi (p .above-x); u-k = vars-in _ vars n k ev hk (p .above-y); apart-i = apart-in i k (le-trans hi small) (le-trans hk small) (p .apart) }
+
+  pub none-apart : 16 ≤ x → (S : List Fact) → Ready n S f → (i k : Var) → i < n → k < n → ¬ Yes (isChainJoin (has f) z i k)
+  none-apart l S r i k hi hk t = let p = passed S r i k hi hk t in lx .none i (omega arith) (in-c i k (le-trans hi small) (p .u-i) (p .u-k) (p .apart-i))
+
+  module _ (m : x < 16) (fits : row apart x < 65536) (y : ℕ) (ly : Lowest (bitAnd u (row apart x)) y) where
+    x-at : Yes (bit u x) × Yes (bit g x)
+    x-at = in-both u g x (lx .this m)
+
+    x-n : Yes (bit (row (f .above) z) x) × (x < n)
+    x-n = vars-out _ vars n x ev (x-at .0)
+
+    y-16 : y < 16
+    y-16 = go (meets-out (row apart x) u fits (gp .from x (x-at .1))) (decLt y 16)
       where
-        go : (S : List Fact) → Ready n S f → (i k : Var) → i < n → k < n → ¬ Yes (bit next i) → Yes (isChainJoin (has f) z i k) → Dec (i ≡ x) → ⊥
-        go S r i k hi hk a t (yes q) =
-            let p = chain-parts n small S f r z i k hz hi hk t in
-            ly .none k (omega arith) (without-in u (bitOr (row (f .below) x) (row (f .above) x)) k (le-trans hk small) (vars-in _ vars n k ev hk (p .above-y))
-            (subst (λ (j : ℕ). ¬ Yes (bit (bitOr (row (f .below) j) (row (f .above) j)) k)) q (p .apart)))
-        go S r i k hi hk a t (no q) =
-            w .gone S r i k hi hk (λ b. a (subst (λ (j : ℕ). Yes (bit j i)) (sym d)
-            (without-in rest bit-x i (le-trans hi small) b (λ s. q (one-is x i (subst (λ (j : ℕ). Yes (bit j i)) e s)))))) t
+        go : (i : ℕ) × Yes (bit (row apart x) i) × Yes (bit u i) → Dec (y < 16) → y < 16
+        go q (yes l) = l
+        go q (no l) = absurd (ly .none (q .0) (let i : q .0 < n = vars-out (row (f .above) z) vars n (q .0) ev (q .2) .1 in omega arith) (both-in u (row apart x) (q .0) (q .2) (q .1)))
 
-    module _ (l : y < 16) where
-      y-out : Yes (bit u y) × (¬ Yes (bit (bitOr (row (f .below) x) (row (f .above) x)) y))
-      y-out = without-out _ _ y l (ly .this l)
+    y-at : Yes (bit u y) × Yes (bit (row apart x) y)
+    y-at = in-both u (row apart x) y (ly .this y-16)
 
-      y-at : Yes (bit (row (f .above) z) y) × (y < n)
-      y-at = vars-out _ vars n y ev (y-out .0)
+    y-n : Yes (bit (row (f .above) z) y) × (y < n)
+    y-n = vars-out _ vars n y ev (y-at .0)
 
-      pub chain-named : (z < n) × (x < n) × (y < n)
-      chain-named = (hz, x-at .1, y-at .1)
+    pub chain-named : (z < n) × (x < n) × (y < n)
+    chain-named = (hz, x-n .1, y-n .1)
 
-      -- a smaller y would have been met as x
-      x<y : (S : List Fact) → Ready n S f → x < y
-      x<y S r = go (decLt x y) (ℕ-discrete x y)
-        where
-          go : Dec (x < y) → Dec (x ≡ y) → x < y
-          go (yes q) _ = q
-          go (no q) (yes e) = absurd (y-out .1 (subst (λ (k : ℕ). Yes (bit (bitOr (row (f .below) x) (row (f .above) x)) k)) e (apart-self n small S f r x (x-at .1))))
-          go (no q) (no e) = absurd (w .gone S r y x (y-at .1) (x-at .1) (lx .none y (omega arith)) (parts-chain n small S f r z y x hz (y-at .1) (x-at .1) record {
-            ordered = omega arith;
-            above-x = y-at .0;
-            above-y = x-at .0;
-            apart = apart-back n small S f r z x y hz (x-at .1) (y-at .1) (y-out .1);
-          }))
+    -- the smaller of two that are apart is found first
+    x<y : (S : List Fact) → Ready n S f → x < y
+    x<y S r = go (decLt x y) (ℕ-discrete x y)
+      where
+        go : Dec (x < y) → Dec (x ≡ y) → x < y
+        go (yes q) _ = q
+        go (no q) (yes e) =
+            absurd (apart-out x y m y-16 (y-at .1) (subst (λ (k : ℕ). Yes (bit (bitOr (row (f .below) x) (row (f .above) x)) k)) e (self-together n small S f r x (x-n .1))))
+        go (no q) (no e) =
+            absurd (lx .none y (omega arith) (in-c y x y-16 (y-at .0) (x-at .0)
+            (apart-in y x y-16 m (apart-back n small S f r z x y hz (x-n .1) (y-n .1) (apart-out x y m y-16 (y-at .1))))))
 
-      pub chain-first : NoneBefore isChainJoin n f z → (S : List Fact) → Ready n S f → some (chain-join z x y) ≡ firstOf n (isChainJoin (has f)) chain-join
-      chain-first before S r =
-          sym (firstOf-is-some n (isChainJoin (has f)) chain-join z x y hz (x-at .1) (y-at .1)
-          (parts-chain n small S f r z x y hz (x-at .1) (y-at .1) record { ordered = x<y S r; above-x = x-at .0; above-y = y-at .0; apart = y-out .1 })
-          (before S r)
-          (λ i k l' hk t. w .gone S r i k (le-trans l' (le-of-lt (x-at .1))) hk (lx .none i l') t)
-          (λ k l' t. let hk = le-trans l' (le-of-lt (y-at .1)) in let p = chain-parts n small S f r z x k hz (x-at .1) hk t in
-          ly .none k l' (without-in u (bitOr (row (f .below) x) (row (f .above) x)) k (le-trans hk small) (vars-in _ vars n k ev hk (p .above-y)) (p .apart))))
+    pub chain-first : NoneBefore isChainJoin n f z → (S : List Fact) → Ready n S f → some (chain-join z x y) ≡ firstOf n (isChainJoin (has f)) chain-join
+    chain-first before S r =
+        sym (firstOf-is-some n (isChainJoin (has f)) chain-join z x y hz (x-n .1) (y-n .1)
+        (parts-chain n small S f r z x y hz (x-n .1) (y-n .1) record { ordered = x<y S r; above-x = x-n .0; above-y = y-n .0; apart = apart-out x y m y-16 (y-at .1) })
+        (before S r)
+        (λ i k l hk t. let p = passed S r i k (le-trans l (le-of-lt (x-n .1))) hk t in lx .none i l (in-c i k (omega arith) (p .u-i) (p .u-k) (p .apart-i)))
+        (λ k l t. let p = passed S r x k (x-n .1) (le-trans l (le-of-lt (y-n .1))) t in ly .none k l (both-in u (row apart x) k (p .u-k) (p .apart-i))))
 
 -- ---- no z is left
 

@@ -1,6 +1,6 @@
 // The first join of a settled set, in the fixed order: parent joins, then chain joins; the smallest z, then x, then y.
 ghost use Prim.Native.Nat.{_≤_};
-ghost use Rattle.joins.specs.Found.{ChainOf, FoundOf};
+ghost use Rattle.joins.specs.Found.{Apart, ChainOf, FoundOf};
 use ids::Var;
 use tables::Facts;
 
@@ -11,25 +11,36 @@ pub enum Found {
     Chain(Var, Var, Var),
 }
 
+// The variables that are neither above nor below each.
+fn apart_rows(below: [u16; 16], above: [u16; 16]) -> [u16; 16]
+    ensures { λ r. ⌜ Apart below above r ⌝ }
+{
+    let mut a = below;
+    for x in 0usize..16 {
+        let v = a[x];
+        let w = above[x];
+        a[x] = (v | w) ^ 65535;
+    }
+    a
+}
+
 // The first chain join: two variables above z that are apart, found from the smaller one.
 fn chain_join(f: Facts, n: usize) -> Found
     requires { ⌜ n ≤ 16 ⌝ }
     ensures { λ r. ⌜ ChainOf n f r ⌝ }
 {
     let vars = tables::all(n);
+    let below = f.below;
+    let above = f.above;
+    let apart = apart_rows(below, above);
     for z in 0..n {
         let v = f.above[z];
         let u = v & vars;
-        let mut rest = u;
-        while rest != 0 {
-            let x = tables::lowest(rest);
-            let b = f.below[x];
-            let a = f.above[x];
-            let y = tables::lowest(tables::except(u, b | a));
-            if y < 16 {
-                return Found::Chain(Var(z as u8), Var(x as u8), Var(y as u8));
-            }
-            rest = tables::except(rest, tables::one(x));
+        let x = tables::lowest(u & tables::meeting(apart, u));
+        if x < 16 {
+            let a = apart[x];
+            let y = tables::lowest(u & a);
+            return Found::Chain(Var(z as u8), Var(x as u8), Var(y as u8));
         }
     }
     Found::Nothing

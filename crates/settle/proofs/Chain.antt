@@ -6,21 +6,16 @@ use Prim.Native.Nat.{ℕ, _+_, _-_, _^_, _<_, _≤_}
 use native.Mathlib.Nat.{le-trans, not-suc-le-zero}
 use native.Mathlib.Decide.{decLt}
 use native.Mathlib.Omega.{arith}
+use lib.Bits.{bitOr}
 use Rattle.meaning.specs.Constraint.{Fact, child, below, root}
 use Rattle.meaning.specs.Settled.{Settled, child-below, self-below, chain, root-below}
 use Rattle.meaning.specs.Finite.{Yes}
 use Rattle.rowbits.specs.Bit.{bit}
-use Rattle.meaning.proofs.Tests.{clash, eq-yes}
 use Rattle.tables.specs.Tables.{row}
-use Rattle.tables.specs.Rows.{Up, Gathers, gained, meets}
-use Rattle.settle.specs.Rows.{Lifted, Chained, firstRow}
+use Rattle.tables.specs.Rows.{Up, gained}
 use Rattle.tables.proofs.Loops.{below-cases, Rowing}
-use Rattle.tables.proofs.Bits.{or-l, or-r, or-case, up-or, up-self, up-trans, all-is, all-has, gained-up, gained-has, gained-case, one-is, one-has, none-in}
-use lib.Bits.{bitOr, and-zero-r}
-
-pub no-parents : (t : List ℕ) → Gathers (λ y. meets (row t y) 0) 0
-unfolding meets
-no-parents t = record { from = λ k u. none-in k u; to = λ k l u. clash (eq-yes (and-zero-r (row t k))) u }
+use Rattle.tables.proofs.Bits.{or-l, or-r, or-case, up-or, up-self, up-trans, all-is, all-has, gained-up, gained-has, gained-case, one-is, one-has}
+use Rattle.settle.specs.Rows.{Lifted, Chained, firstRow}
 
 pub lifted : (t : List ℕ) (y x : ℕ) (r : List ℕ) → 16 ≤ x → x ≤ 16 → Rowing (λ k v. gained (bit v y) v (row t y)) 16 t x r → Lifted t y r
 lifted t y x r h h2 w = record { within = λ k l. w .done k (le-trans l h); beyond = λ k l. w .rest k (le-trans h2 l) }

@@ -6,24 +6,24 @@ use mathlib.Core.Bool.{true, false, false≢true}
 use mathlib.Core.List.{List}
 use Prim.Native.Nat.{ℕ, _+_, _≤_}
 use native.Mathlib.Decide.{ℕ-discrete}
+use native.Mathlib.Omega.{arith}
 use Rattle.meaning.specs.ReadOff.{Decides}
-use Rattle.meaning.proofs.Rules.{Rules}
-use Rattle.meaning.proofs.Least.{settled-within}
-use Rattle.theory.proofs.Closure.{rules-decide}
-use Rattle.tables.specs.Rows.{Transposed}
-use Rattle.tables.proofs.Loops.{transposed-columns}
 use Rattle.meaning.specs.Constraint.{Fact, child, below, differ, root, leaf, label}
 use Rattle.meaning.specs.Settled.{Clash, differs, labels, child-below, child-differ, self-below, chain, root-below, leaf-below, one-parent, differ-back, same-parent, same-child, same-differ, same-root, same-leaf, same-label}
 use Rattle.meaning.specs.Finite.{Yes}
+use Rattle.meaning.proofs.Rules.{Rules}
+use Rattle.meaning.proofs.Least.{settled-within}
 use Rattle.meaning.proofs.Facts.{Within}
+use Rattle.theory.proofs.Closure.{rules-decide}
 use Rattle.rowbits.specs.Bit.{bit}
+use Rattle.tables.specs.Rows.{Transposed}
 use Rattle.tables.specs.Tables.{has, Sound, Seeded}
+use Rattle.tables.specs.declared.Facts.{Facts}
+use Rattle.tables.proofs.Loops.{transposed-columns}
+use Rattle.tables.proofs.Shape.{Shape, label-is}
 use Rattle.settle.specs.Pass.{Same, Gone, total}
 use Rattle.settle.specs.Settling.{SettledOf}
-use Rattle.tables.specs.declared.Facts.{Facts}
-use Rattle.tables.proofs.Shape.{Shape, label-is}
-use Rattle.settle.proofs.Passing.{total-most}
-use native.Mathlib.Omega.{arith}
+use Rattle.settle.proofs.Above.{total-most}
 
 module _ (n : ℕ) (S : List Fact) (f g h : Facts) (old diff new : ℕ) (seed : Seeded n S f)
     (so : Sound n S g) (kept : (φ : Fact) → Yes (has f φ) → Yes (has g φ)) (p : Gone n old g diff new h) (z : diff ≡ 0) where

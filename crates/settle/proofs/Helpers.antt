@@ -4,9 +4,9 @@ use mathlib.Core.Bool.{Bool, true, false, _&&_, _||_, not}
 use Prim.Native.Nat.{ℕ, _-_, _^_}
 use lib.Dec.{eqb}
 use lib.Bits.{bitOr}
-use Rattle.tables.proofs.Helpers.{and-is, not-is, or-is, pick-on, pick-off}
 use Rattle.meaning.specs.Finite.{_and_, neg, pick}
 use Rattle.tables.specs.Rows.{meets}
+use Rattle.tables.proofs.Helpers.{and-is, not-is, or-is, pick-on, pick-off}
 use Rattle.settle.specs.Rows.{merged, spanned}
 
 pub four : (a b c d : Bool) → (((a && not b) && not c) && not d) ≡ (a and neg b and neg c and neg d)

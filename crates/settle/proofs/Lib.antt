@@ -1,6 +1,8 @@
 mod Helpers
 mod Chain
-mod Grown
+mod Above
 mod Visit
+mod Masks
 mod Passing
+mod Row
 mod Final

@@ -11,17 +11,24 @@ use lib.Dec.{eqb}
 use lib.Bits.{bitOr, bitAnd, or-lt}
 use Rattle.meaning.specs.Constraint.{Fact, child, below, differ, leaf, label}
 use Rattle.meaning.specs.Settled.{Settled, Clash, labels, child-differ, leaf-below, one-parent, differ-back, same-parent, same-child, same-differ, same-label}
-use Rattle.meaning.specs.Finite.{Yes, _and_, pick}
-use Rattle.meaning.proofs.Tests.{clash, yes-case, and-left, and-right, and-both, no-neg, is-eq, eq-yes, pick-yes, pick-no}
+use Rattle.meaning.specs.Finite.{Yes, pick, _and_}
+use Rattle.meaning.proofs.Tests.{clash, yes-case, no-neg, is-eq, pick-yes, and-left, and-right, and-both, eq-yes, pick-no}
 use Rattle.rowbits.specs.Bit.{bit}
 use Rattle.tables.specs.Tables.{row, has, Sound}
 use Rattle.tables.specs.Rows.{Up, gained, both}
-use Rattle.settle.specs.Rows.{twin, clashing, merged}
 use Rattle.tables.specs.declared.Facts.{Facts}
-use Rattle.tables.proofs.Bits.{or-l, or-r, or-case, in-both, up-or, up-self, up-trans, gained-up, gained-has, gained-case, gained-small, one-is, one-has, one-small, none-in}
+use Rattle.tables.proofs.Bits.{or-l, or-r, in-both, up-or, up-self, up-trans, gained-up, gained-has, gained-case, gained-small, one-is, one-has, one-small, or-case, none-in}
 use Rattle.tables.proofs.Loops.{below-cases}
-use Rattle.settle.proofs.Grown.{D, have, LUp, lup-self, lup-trans}
 use Rattle.tables.proofs.Shape.{Shape, label-has}
+use Rattle.settle.specs.Rows.{twin, clashing, merged}
+use Rattle.settle.proofs.Above.{LUp, lup-self, lup-trans}
+
+-- a fact follows from the tables: it is settled in every set that they hold nothing but settled facts of
+abbrev pub D : ℕ → Facts → Fact → Type 0
+D n g φ = (S : List Fact) → Sound n S g → Settled n S φ
+
+pub have : (n : ℕ) (g : Facts) (φ : Fact) → Yes (has g φ) → D n g φ
+have n g φ u S s = s φ u
 
 -- ---- the rows that the loops start from
 

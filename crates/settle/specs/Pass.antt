@@ -4,11 +4,11 @@ use mathlib.Core.Logic.{_≢_}
 use mathlib.Core.Bool.{true, false}
 use mathlib.Core.List.{List}
 use Prim.Native.Nat.{ℕ, _+_, _<_, _≤_}
-use Rattle.rowbits.specs.Bit.{bit}
 use Rattle.meaning.specs.Constraint.{Fact, child, below, differ, root, leaf, label}
 use Rattle.meaning.specs.Settled.{Clash}
 use Rattle.meaning.specs.Finite.{Yes, sum}
 use Rattle.meaning.proofs.Facts.{Within}
+use Rattle.rowbits.specs.Bit.{bit}
 use Rattle.tables.specs.Tables.{row, has, Sound}
 use Rattle.tables.specs.declared.Facts.{Facts}
 use Rattle.settle.specs.declared.Passed.{Passed}

@@ -2,8 +2,7 @@
 ghost use mathlib.Core.Path.{_≡_};
 ghost use Prim.Native.Nat.{_<_, _≤_};
 ghost use Rattle.meaning.specs.Finite.{pick};
-ghost use Rattle.tables.specs.Tables.{row};
-ghost use Rattle.tables.specs.Rows.{both, meets, Gathers};
+ghost use Rattle.tables.specs.Rows.{both};
 ghost use Rattle.settle.specs.Rows.{firstRow, twin, clashing, merged, spread, grouped, spanned, Chained};
 ghost use Rattle.settle.specs.Pass.{PassOf};
 ghost use Rattle.settle.specs.Settling.{SettledOf};
@@ -61,21 +60,6 @@ fn group(row: u16, same: u16, x: usize) -> u16
     tables::gain(same | w != w, row, w)
 }
 
-// The variables whose row meets the row c.
-fn parents(t: [u16; 16], c: u16) -> u16
-    ensures { λ r. ⌜ Gathers (λ y. meets (row t y) c) r ⌝ }
-{
-    let mut a: u16 = 0;
-    if c == 0 {
-        return a;
-    }
-    for y in 0usize..16 {
-        let v = t[y];
-        a = tables::mark(tables::meet(v, c), a, y);
-    }
-    a
-}
-
 // The rows of below by the rules for itself, child, root and chain.
 fn chain_rows(below: [u16; 16], child: [u16; 16], root: u16, n: usize) -> [u16; 16]
     requires { ⌜ n ≤ 16 ⌝ }
@@ -109,6 +93,7 @@ fn span(same: u16, x: usize, row: u16, groups: u16, n: usize) -> usize
     0
 }
 
+// How many z row x has to look at for y: none, where y is no child or differ of x or is in no group.
 fn depth(row: u16, groups: u16, y: usize, n: usize) -> usize
     requires { ⌜ y < 16 ⌝ }
     ensures { λ r. ⌜ r ≡ pick (both row y groups y) n 0 ⌝ }
@@ -119,20 +104,22 @@ fn depth(row: u16, groups: u16, y: usize, n: usize) -> usize
     0
 }
 
-pub struct Passed {
-    pub clash: bool,
-    pub diff: u16,
-    pub groups: u16,
-    pub facts: Facts,
+struct Passed {
+    clash: bool,
+    diff: u16,
+    groups: u16,
+    facts: Facts,
 }
 
+// A label in the width of a row, so that its change joins `diff`.
 fn widen(l: u8) -> u16
     ensures { λ r. ⌜ r ≡ l ⌝ }
 {
     l as u16
 }
 
-// One pass: every rule, applied to the facts of f.
+// One pass: every rule, applied to the facts of f. `m` has the variables that were found in a group of more than one, and `diff` is 0 where
+// nothing changed.
 fn pass(f: Facts, n: usize, m: u16) -> Passed
     requires { ⌜ n ≤ 16 ⌝ }
     ensures { λ r. ⌜ PassOf n m f r ⌝ }
@@ -156,7 +143,7 @@ fn pass(f: Facts, n: usize, m: u16) -> Passed
         let ol = g.label[x];
         let up = ups[x];
         let back = backs[x];
-        let b = nb | (up & g.leaf) | parents(childs, oc);
+        let b = nb | (up & g.leaf) | tables::meeting(childs, oc);
         let same = b & up;
         let mut c = oc;
         let mut d = od | oc | back;

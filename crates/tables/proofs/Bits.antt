@@ -147,9 +147,6 @@ all-has n i h =
     in-both (2 ^ i) (2 ^ n - 1) i
     (subst (λ (k : ℕ). Yes (bit k i)) (sym (and-mask (2 ^ i) n ∙ mod-eq-of-lt (pow-lt h))) (one-has i)) .1
 
-pub all-small : (n : ℕ) → n ≤ 16 → 2 ^ n - 1 < 65536
-all-small n h = let m : 2 ^ n ≤ 2 ^ 16 = pow-mono {i = n} {j = 16} h in let p : 1 ≤ 2 ^ n = pow-pos n in omega arith
-
 -- ---- what did not change
 
 pub xor-zero : (a b : ℕ) → bitXor a b ≡ 0 → a ≡ b
@@ -202,10 +199,6 @@ in-row a i h u = go (decLt i 16)
         absurd (let e : a / 2 ^ i % 2 ≡ 1 = is-eq u in omega arith)
 
 -- ---- what is in one row and not in another
-
-pub without-is : (a b : ℕ) → without a b ≡ bitAnd a (bitXor b 65535)
-unfolding without
-without-is a b = refl
 
 pub without-in : (a b i : ℕ) → i < 16 → Yes (bit a i) → ¬ Yes (bit b i) → Yes (bit (without a b) i)
 unfolding without

@@ -8,12 +8,13 @@ use native.Mathlib.Nat.{le-refl, le-trans, not-suc-le-zero}
 use native.Mathlib.Decide.{ℕ-discrete}
 use native.Mathlib.Omega.{arith}
 use lib.ListN.{set, length, length-set, replicate}
+use lib.Bits.{and-zero-r}
 use lib.Seq.{getD-set-same, getD-set-other}
 use Rattle.meaning.specs.Finite.{Yes}
-use Rattle.meaning.proofs.Tests.{yes-eq}
+use Rattle.meaning.proofs.Tests.{clash, eq-yes, yes-eq}
 use Rattle.rowbits.specs.Bit.{bit}
 use Rattle.tables.specs.Tables.{row, Columns}
-use Rattle.tables.specs.Rows.{Gathers, Transposed, Raised, marked, gained}
+use Rattle.tables.specs.Rows.{Gathers, Transposed, Raised, marked, gained, meets}
 use Rattle.tables.proofs.Bits.{gained-up, gained-has, gained-case, one-is, one-has, none-in}
 
 pub below-cases : {k y : ℕ} → k < y + 1 → (k ≡ y) ⊎ (k < y)
@@ -41,6 +42,10 @@ gather-more p y a b t e d g = record {
 
 pub gather-all : (p : ℕ → Bool) (y a : ℕ) → 16 ≤ y → Gathering p y a → Gathers p a
 gather-all p y a h g = record { from = g .from; to = λ k l. g .to k (le-trans l h) }
+
+pub none-meet : (t : List ℕ) → Gathers (λ y. meets (row t y) 0) 0
+unfolding meets
+none-meet t = record { from = λ k u. none-in k u; to = λ k l u. clash (eq-yes (and-zero-r (row t k))) u }
 
 -- ---- rows changed up to x, each to a function of its number and of itself
 

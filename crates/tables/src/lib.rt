@@ -3,7 +3,8 @@
 ghost use mathlib.Core.Path.{_≡_};
 ghost use Prim.Native.Nat.{_<_, _≤_, _^_, _-_};
 ghost use Rattle.meaning.specs.Finite.{pick};
-ghost use Rattle.tables.specs.Rows.{gained, meets, both, marked, without, Transposed, Raised, Lowest};
+ghost use Rattle.tables.specs.Rows.{gained, meets, both, marked, without, Gathers, Transposed, Raised, Lowest};
+ghost use Rattle.tables.specs.Tables.{row};
 
 // `parent` and `above` are the columns of `child` and `below`, kept as rows: bit x of row y. A label of 0 is no label fact.
 // root and leaf lie apart: a compiler that loads two neighbours as one number waits for both to be stored.
@@ -86,6 +87,21 @@ pub fn lowest(row: u16) -> usize
     ensures { λ r. ⌜ Lowest row r ⌝ }
 {
     u16::trailing_zeros(row) as usize
+}
+
+// The numbers of the rows that meet c.
+pub fn meeting(t: [u16; 16], c: u16) -> u16
+    ensures { λ r. ⌜ Gathers (λ y. meets (row t y) c) r ⌝ }
+{
+    let mut a: u16 = 0;
+    if c == 0 {
+        return a;
+    }
+    for y in 0usize..16 {
+        let v = t[y];
+        a = mark(meet(v, c), a, y);
+    }
+    a
 }
 
 // The columns of a table as rows.

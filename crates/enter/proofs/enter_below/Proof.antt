@@ -1,11 +1,19 @@
+use Prim.Native.Nat.{ℕ, _<_}
+use lib.ListN.{getD}
+use mir.Val.{Fits}
+use mir.Syntax.{w16}
+-- `enter::enter_below` meets its contract: by rows or by settling, as the test says.
 use mathlib.Core.Path.{sym, _∙_}
 use mathlib.Core.Bool.{false≢true}
+use borrow.Author.Needs.{needs}
 use Rattle.tables.specs.Tables.{has}
 use Rattle.tables.proofs.Bits.{meets-in}
-use Rattle.enter.proofs.Enter.{raised-ready, entered-well, or-no}
-use borrow.Author.Needs.{needs}
+use Rattle.enter.proofs.Enter.{raised-ready, entered-well, entered-same, or-no}
 use Rattle.enter.proofs.enter_below.Statement.{statement}
 use Rattle.enter.proofs.enter_below.Tie as tie
+
+above-small : (c : tie.Start) (i : ℕ) → getD (c .args .f .above) i 0 < 65536
+above-small c i = let h : Fits w16 (getD (c .args .f .above) i 0) = search needs in h .fits
 
 cast-i : tie.Need-cast-i
 cast-i c = search needs
@@ -31,11 +39,15 @@ has-requires c κs = search needs
 meet-requires : tie.Need-meet-requires
 meet-requires c κs = search needs
 
-by-settling-requires : tie.Need-by-settling-requires
-by-settling-requires c κs = search needs
+enter-same-requires : tie.Need-enter-same-requires
+enter-same-requires c κs = search needs
 
 returns : tie.Need-returns
-returns c = search needs
+returns c =
+    let test = c .before in
+    let m = test .before in
+    let s = m .before .before .before .before .before .before in
+    entered-same _ _ _ _ _ (s .pre .2) (s .pre .0) (above-small s _) _ _ (m .before .has .ensures) (m .meet .ensures) (test .if1 .taken) (c .enter-same .ensures)
 
 raise-requires : tie.Need-raise-requires
 raise-requires c κs = search needs
@@ -65,7 +77,7 @@ enter-below-spec =
     array-read-up
     has-requires
     meet-requires
-    by-settling-requires
+    enter-same-requires
     returns
     raise-requires
     raise-requires-2

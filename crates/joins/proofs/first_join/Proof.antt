@@ -1,15 +1,15 @@
--- The loop has passed no z with a parent join.
+-- `joins::first_join` meets its contract: the loop has passed no z with a parent join.
 use mathlib.Core.Path.{subst, _∙_}
 use mathlib.Core.Logic.{⊎-elim}
 use Prim.Native.Nat.{ℕ, _≤_, _-_}
 use native.Mathlib.Nat.{not-suc-le-zero}
+use borrow.Author.Needs.{needs}
 use Rattle.meaning.specs.FixedSearch.{parent-join}
 use Rattle.theory.specs.Search.{isParentJoin}
-use Rattle.tables.specs.Rows.{Lowest}
 use Rattle.theory.specs.Find.{orElse}
+use Rattle.tables.specs.Rows.{Lowest}
 use Rattle.joins.specs.Found.{joinOf}
 use Rattle.joins.proofs.First.{NoneBefore, none-more, none-without-parent, none-without-x, parent-named, parent-first, none-first, parents-before}
-use borrow.Author.Needs.{needs}
 use Rattle.joins.proofs.first_join.Statement.{statement}
 use Rattle.joins.proofs.first_join.Tie as tie
 

@@ -1,13 +1,14 @@
+-- `settle::chain_rows` meets its contract: the first loop applies the rules that look at one row, then y by y each row that has y gains row y.
 use mathlib.Core.Path.{_≡_}
-use lib.ListN.{length}
-use Rattle.rowbits.specs.Bit.{bit}
-use Rattle.tables.proofs.Loops.{Rowing, rowing-none, rowing-more}
-use Rattle.settle.proofs.Chain.{Lifting, lifting-none, lifting-more, chained-rows, lifted}
-use Rattle.tables.specs.Tables.{row}
-use Rattle.settle.specs.Rows.{firstRow}
-use Rattle.tables.specs.Rows.{gained}
 use Prim.Native.Nat.{_≤_, _-_}
+use lib.ListN.{length}
 use borrow.Author.Needs.{needs}
+use Rattle.rowbits.specs.Bit.{bit}
+use Rattle.tables.specs.Tables.{row}
+use Rattle.tables.specs.Rows.{gained}
+use Rattle.tables.proofs.Loops.{Rowing, rowing-none, rowing-more}
+use Rattle.settle.specs.Rows.{firstRow}
+use Rattle.settle.proofs.Chain.{Lifting, lifting-none, lifting-more, chained-rows, lifted}
 use Rattle.settle.proofs.chain_rows.Statement.{statement}
 use Rattle.settle.proofs.chain_rows.Tie as tie
 

@@ -1,3 +1,4 @@
+-- `settle::clashes` meets its contract: the test is the definition.
 use Rattle.settle.specs.Rows.{clashing}
 use Rattle.settle.proofs.Helpers.{four}
 use Rattle.settle.proofs.clashes.Statement.{statement}

@@ -1,6 +1,7 @@
+-- `settle::depth` meets its contract: by the two branches.
 use mathlib.Core.Path.{sym, _∙_}
-use Rattle.tables.proofs.Helpers.{pick-on, pick-off}
 use borrow.Author.Needs.{needs}
+use Rattle.tables.proofs.Helpers.{pick-on, pick-off}
 use Rattle.settle.proofs.depth.Statement.{statement}
 use Rattle.settle.proofs.depth.Tie as tie
 

@@ -1,5 +1,6 @@
-use Rattle.settle.specs.Rows.{firstRow}
+-- `settle::first_row` meets its contract: from what its helpers ensure.
 use borrow.Author.Needs.{needs}
+use Rattle.settle.specs.Rows.{firstRow}
 use Rattle.settle.proofs.first_row.Statement.{statement}
 use Rattle.settle.proofs.first_row.Tie as tie
 

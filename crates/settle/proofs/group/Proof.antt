@@ -1,6 +1,7 @@
+-- `settle::group` meets its contract: from what `gain` and `one` ensure.
+use borrow.Author.Needs.{needs}
 use Rattle.tables.proofs.Helpers.{not-is}
 use Rattle.settle.specs.Rows.{grouped}
-use borrow.Author.Needs.{needs}
 use Rattle.settle.proofs.group.Statement.{statement}
 use Rattle.settle.proofs.group.Tie as tie
 

@@ -1,3 +1,4 @@
+-- `settle::merge` meets its contract: by the two branches.
 use Rattle.settle.proofs.Helpers.{merge-on, merge-off}
 use Rattle.settle.proofs.merge.Statement.{statement}
 use Rattle.settle.proofs.merge.Tie as tie

@@ -1,14 +1,14 @@
--- The passes end because what the tables weigh grows with each that changes something. Where one changes nothing the tables are settled,
+-- `settle::settle` meets its contract. The passes end because what the tables weigh grows with each that changes something. Where one changes nothing the tables are settled,
 -- and the mirrors are their columns.
 use Prim.Native.Nat.{_+_, _-_}
 use native.Mathlib.Omega.{arith}
 use lib.ListN.{getD}
 use mir.Val.{Fits}
 use mir.Syntax.{w16}
-use Rattle.settle.specs.Pass.{total}
-use Rattle.tables.proofs.Shape.{Shape}
-use Rattle.settle.proofs.Final.{Settling, settling-none, settling-more, settled-well, settled-clash}
 use borrow.Author.Needs.{needs}
+use Rattle.tables.proofs.Shape.{Shape}
+use Rattle.settle.specs.Pass.{total}
+use Rattle.settle.proofs.Final.{Settling, settling-none, settling-more, settled-well, settled-clash}
 use Rattle.settle.proofs.settle.Statement.{statement}
 use Rattle.settle.proofs.settle.Tie as tie
 

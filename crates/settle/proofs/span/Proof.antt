@@ -1,5 +1,6 @@
-use Rattle.settle.proofs.Helpers.{span-on, span-off}
+-- `settle::span` meets its contract: by the two branches.
 use borrow.Author.Needs.{needs}
+use Rattle.settle.proofs.Helpers.{span-on, span-off}
 use Rattle.settle.proofs.span.Statement.{statement}
 use Rattle.settle.proofs.span.Tie as tie
 

@@ -1,6 +1,7 @@
-use Rattle.settle.specs.Rows.{spread}
-use Rattle.tables.specs.Rows.{marked}
+-- `settle::spreads` meets its contract: from what `mark` and `meet` ensure.
 use borrow.Author.Needs.{needs}
+use Rattle.tables.specs.Rows.{marked}
+use Rattle.settle.specs.Rows.{spread}
 use Rattle.settle.proofs.spreads.Statement.{statement}
 use Rattle.settle.proofs.spreads.Tie as tie
 

@@ -1,7 +1,8 @@
+-- `settle::twins` meets its contract: by the two branches.
 use mathlib.Core.Path.{sym, _∙_}
+use borrow.Author.Needs.{needs}
 use Rattle.tables.proofs.Helpers.{pick-on, pick-off}
 use Rattle.settle.specs.Rows.{twin}
-use borrow.Author.Needs.{needs}
 use Rattle.settle.proofs.twins.Statement.{statement}
 use Rattle.settle.proofs.twins.Tie as tie
 

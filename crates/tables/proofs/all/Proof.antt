@@ -1,5 +1,6 @@
-use Rattle.tables.proofs.Helpers.{all-positive, all-fits, power32}
+-- `tables::all` meets its contract: a power of two less one, which fits since n is at most 16.
 use borrow.Author.Needs.{needs}
+use Rattle.tables.proofs.Helpers.{all-positive, all-fits, power32}
 use Rattle.tables.proofs.all.Statement.{statement}
 use Rattle.tables.proofs.all.Tie as tie
 

@@ -1,5 +1,6 @@
-use Rattle.tables.specs.Rows.{without}
+-- `tables::except` meets its contract: the code is the definition.
 use borrow.Author.Needs.{needs}
+use Rattle.tables.specs.Rows.{without}
 use Rattle.tables.proofs.except.Statement.{statement}
 use Rattle.tables.proofs.except.Tie as tie
 

@@ -1,5 +1,6 @@
-use Rattle.tables.specs.Rows.{gained}
+-- `tables::gain` meets its contract: from what `when` ensures.
 use borrow.Author.Needs.{needs}
+use Rattle.tables.specs.Rows.{gained}
 use Rattle.tables.proofs.gain.Statement.{statement}
 use Rattle.tables.proofs.gain.Tie as tie
 

@@ -1,6 +1,7 @@
+-- `tables::has_both` meets its contract: from what `rowbits::has` ensures of each.
+use borrow.Author.Needs.{needs}
 use Rattle.tables.specs.Rows.{both}
 use Rattle.tables.proofs.Helpers.{and-is}
-use borrow.Author.Needs.{needs}
 use Rattle.tables.proofs.has_both.Statement.{statement}
 use Rattle.tables.proofs.has_both.Tie as tie
 

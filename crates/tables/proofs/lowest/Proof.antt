@@ -1,3 +1,4 @@
+-- `tables::lowest` meets its contract: a count of trailing zeros stands at the lowest bit.
 use native.Mathlib.Omega.{arith}
 use lib.Count.{trailing-le}
 use Rattle.tables.proofs.Bits.{lowest-of}

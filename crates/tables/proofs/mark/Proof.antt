@@ -1,5 +1,6 @@
-use Rattle.tables.specs.Rows.{marked}
+-- `tables::mark` meets its contract: from what `gain` and `one` ensure.
 use borrow.Author.Needs.{needs}
+use Rattle.tables.specs.Rows.{marked}
 use Rattle.tables.proofs.mark.Statement.{statement}
 use Rattle.tables.proofs.mark.Tie as tie
 

@@ -1,3 +1,4 @@
+-- `tables::meet` meets its contract: the test is the definition.
 use Rattle.tables.specs.Rows.{meets}
 use Rattle.tables.proofs.Helpers.{not-is}
 use Rattle.tables.proofs.meet.Statement.{statement}

@@ -1,5 +1,6 @@
-use Rattle.rowbits.proofs.Laws.{shifted-one}
+-- `tables::one` meets its contract: the shifted one is a power of two.
 use borrow.Author.Needs.{needs}
+use Rattle.rowbits.proofs.Laws.{shifted-one}
 use Rattle.tables.proofs.one.Statement.{statement}
 use Rattle.tables.proofs.one.Tie as tie
 

@@ -1,8 +1,9 @@
-use Rattle.tables.proofs.Loops.{Rowing, rowing-none, rowing-more, was-raised}
-use Rattle.rowbits.specs.Bit.{bit}
-use Rattle.tables.specs.Rows.{gained}
+-- `tables::raise` meets its contract: the loop has changed the rows below x.
 use Prim.Native.Nat.{_≤_, _-_}
 use borrow.Author.Needs.{needs}
+use Rattle.rowbits.specs.Bit.{bit}
+use Rattle.tables.specs.Rows.{gained}
+use Rattle.tables.proofs.Loops.{Rowing, rowing-none, rowing-more, was-raised}
 use Rattle.tables.proofs.raise.Statement.{statement}
 use Rattle.tables.proofs.raise.Tie as tie
 

@@ -1,9 +1,10 @@
+-- `tables::transpose` meets its contract: the outer loop has gathered the columns from the rows below y, the inner one marks row y in each.
 use mathlib.Core.Path.{refl}
-use Rattle.tables.proofs.Loops.{Rowing, rowing-none, rowing-more, Transposing, transposing-none, transposing-more, transposed, zeros}
-use Rattle.rowbits.specs.Bit.{bit}
-use Rattle.tables.specs.Rows.{marked}
 use Prim.Native.Nat.{_≤_, _-_}
 use borrow.Author.Needs.{needs}
+use Rattle.rowbits.specs.Bit.{bit}
+use Rattle.tables.specs.Rows.{marked}
+use Rattle.tables.proofs.Loops.{Rowing, rowing-none, rowing-more, Transposing, transposing-none, transposing-more, transposed, zeros}
 use Rattle.tables.proofs.transpose.Statement.{statement}
 use Rattle.tables.proofs.transpose.Tie as tie
 

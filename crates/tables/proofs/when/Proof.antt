@@ -1,3 +1,4 @@
+-- `tables::when` meets its contract: by the two branches.
 use Rattle.tables.proofs.Helpers.{pick-on, pick-off}
 use Rattle.tables.proofs.when.Statement.{statement}
 use Rattle.tables.proofs.when.Tie as tie

@@ -1,11 +1,11 @@
-use Rattle.tables.proofs.Loops.{Gathering, gather-none, gather-more, gather-all}
-use Rattle.settle.proofs.Chain.{no-parents}
-use Rattle.tables.specs.Tables.{row}
-use Rattle.tables.specs.Rows.{meets}
+-- `tables::meeting` meets its contract: the loop has gathered the rows below y.
 use Prim.Native.Nat.{_≤_, _-_}
 use borrow.Author.Needs.{needs}
-use Rattle.settle.proofs.parents.Statement.{statement}
-use Rattle.settle.proofs.parents.Tie as tie
+use Rattle.tables.specs.Tables.{row}
+use Rattle.tables.specs.Rows.{meets}
+use Rattle.tables.proofs.Loops.{Gathering, gather-none, gather-more, gather-all, none-meet}
+use Rattle.tables.proofs.meeting.Statement.{statement}
+use Rattle.tables.proofs.meeting.Tie as tie
 
 abbrev Inv-loop : tie.InvT-loop
 Inv-loop c t a₀ y₀ a y = (y ≤ 16) × Gathering (λ k. meets (row t k) c) y a
@@ -14,7 +14,7 @@ abbrev μ-loop : tie.MeasureT-loop
 μ-loop c t a₀ y₀ a y = 16 - y
 
 returns : tie.Need-returns Inv-loop μ-loop
-returns c = rw (c .if1 .taken) (no-parents (c .before .args .t1))
+returns c = rw (c .if1 .taken) (none-meet (c .before .args .t1))
 
 loop-holds : tie.Need-loop-holds Inv-loop μ-loop
 loop-holds c = (search needs, gather-none _)
@@ -43,8 +43,8 @@ loop-again c = (search needs, gather-more _ _ _ _ _ (c .before .meet .ensures) (
 returns-2 : tie.Need-returns-2 Inv-loop μ-loop
 returns-2 c = gather-all _ _ _ (search needs) (c .before .loop .inv .1)
 
-pub parents-spec : {M : Type 1} → statement M
-parents-spec =
+pub meeting-spec : {M : Type 1} → statement M
+meeting-spec =
     tie.close
     (tie.spec
     Inv-loop
