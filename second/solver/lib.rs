@@ -8,27 +8,14 @@ pub mod constraint;
 pub mod readoff;
 pub mod search;
 pub mod tree;
+pub mod verdict;
 
 use search::Outcome;
+use verdict::{MarkerVerdict, SolverVerdict};
 
 /// The number of the question that a file or buffer fails.
 #[derive(Clone, Copy, PartialEq, Eq, Debug)]
 pub struct Refusal(pub u8);
-
-#[derive(Clone, PartialEq, Eq, Debug)]
-pub enum SolverVerdict {
-    Tree { count: u32, answer: Vec<u8> },
-    None { count: u32 },
-    Spent { count: u32 },
-    Refused(Refusal),
-}
-
-#[derive(Clone, Copy, PartialEq, Eq, Debug)]
-pub enum MarkerVerdict {
-    Met,
-    Unmet { position: usize, kind: u8 },
-    Refused(Refusal),
-}
 
 /// The shortest answer buffer that question 7 lets pass: 17 node records and 16 place records.
 pub const LEAST_BUFFER: usize = 132;

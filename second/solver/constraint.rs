@@ -19,6 +19,9 @@ pub enum Constraint {
 
 use Constraint::*;
 
+/// The names of kinds 1 to 8, as the examples write them.
+pub const KIND_NAMES: [&str; 8] = ["child", "below", "strictly-below", "same", "differ", "root", "leaf", "label"];
+
 impl Constraint {
     pub fn kind(self) -> u8 {
         self.record()[0]
