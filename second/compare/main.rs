@@ -3,7 +3,7 @@
 //!
 //! usage: compare [--seconds N] [--seed S]
 
-use questions::{free, planted, random_assignment, random_constraint, random_tree, Mix, Random};
+use questions::{crowded_path, free, planted, random_assignment, random_constraint, random_tree, Mix, Random};
 use second::constraint::{self, number_of_variables, Constraint, Variable};
 use second::verdict::{hex, MarkerVerdict, SolverVerdict};
 use second::{answer, brute, tree, Refusal, LEAST_BUFFER};
@@ -16,6 +16,10 @@ struct Comparison {
     compared: Vec<(&'static str, u64)>,
     /// How often each verdict came up.
     seen: BTreeMap<String, u64>,
+    /// How often the fixed search ended, by the number of digits of its count.
+    counts: BTreeMap<usize, u64>,
+    /// How many verdicts of the second solver were held against every small tree.
+    against_all_small_trees: u64,
 }
 
 fn main() {
@@ -32,9 +36,15 @@ fn main() {
             }
         }
     }
-    println!("compare: seed {seed}, {seconds} s of random questions after the exhaustive ones");
+    println!("compare: seed {seed}; all small questions, then random ones for {seconds} s");
     let start = Instant::now();
-    let mut comparison = Comparison { random: Random::new(seed), compared: Vec::new(), seen: BTreeMap::new() };
+    let mut comparison = Comparison {
+        random: Random::new(seed),
+        compared: Vec::new(),
+        seen: BTreeMap::new(),
+        counts: BTreeMap::new(),
+        against_all_small_trees: 0,
+    };
     comparison.empty_files();
     comparison.long_answers();
     comparison.all_small_questions();
@@ -129,7 +139,7 @@ impl Comparison {
             }
             SolverVerdict::Spent { .. } | SolverVerdict::Refused(_) => return,
         }
-        self.tally(SORT, "checked against all small trees".to_string());
+        self.against_all_small_trees += 1;
     }
 
     fn empty_files(&mut self) {
@@ -163,12 +173,11 @@ impl Comparison {
     }
 
     fn all_small_questions(&mut self) {
-        let every_record = all_records(3, true);
-        self.all_sets_of("all sets of up to 3 records, 3 variables", &every_record, 3);
-        let plain_records = all_records(3, false);
-        self.all_sets_of("all sets of up to 4 plain records, 3 variables", &plain_records, 4);
-        let two_variables = all_records(2, true);
-        self.all_sets_of("all sets of up to 4 records, 2 variables", &two_variables, 4);
+        self.all_sets_of("sets of up to 4 of all records over 2 variables", &all_records(2), 4);
+        self.all_sets_of("sets of up to 3 of all records over 3 variables", &all_records(3), 3);
+        self.all_sets_of("sets of up to 4 of the plain records over 3 variables", &plain_records(3), 4);
+        self.all_sets_of("sets of up to 5 of the joining records over 3 variables", &joining_records(3), 5);
+        self.all_sets_of("sets of up to 4 of the joining records over 4 variables", &joining_records(4), 4);
     }
 
     fn all_sets_of(&mut self, sort: &'static str, records: &[Constraint], size: usize) {
@@ -182,7 +191,7 @@ impl Comparison {
 
     /// Every tree of up to 4 nodes, every assignment of 3 variables, every single record.
     fn all_small_answers(&mut self) {
-        let records = all_records(3, true);
+        let records = all_records(3);
         for nodes in 1..=4 {
             for shape in brute::shapes(nodes) {
                 // Each label that the records name, and a blank.
@@ -204,16 +213,17 @@ impl Comparison {
         let variables = 1 + self.random.below(16);
         let records = match self.random.below(10) {
             0 => self.random.below(257),
-            1..=4 => self.random.below(8),
+            1 | 2 => self.random.below(8),
             _ => self.random.below(3 * variables + 2),
         };
         let mix = Mix::random(&mut self.random);
         let number_of_nodes = 1 + self.random.below(variables + 3);
         let tree = random_tree(&mut self.random, number_of_nodes);
         let assignment = random_assignment(&mut self.random, variables, &tree);
-        let (sort, constraints) = match self.random.below(4) {
-            0 | 1 => ("planted questions", planted(&mut self.random, &tree, &assignment, records, &mix)),
-            2 => {
+        let (sort, constraints) = match self.random.below(40) {
+            0 => ("crowded paths", crowded_path(&mut self.random)),
+            1..=19 => ("planted questions", planted(&mut self.random, &tree, &assignment, records, &mix)),
+            20..=29 => {
                 let mut constraints = planted(&mut self.random, &tree, &assignment, records.min(254), &mix);
                 for _ in 0..1 + self.random.below(2) {
                     let at = self.random.below(constraints.len() + 1);
@@ -223,9 +233,12 @@ impl Comparison {
             }
             _ => ("free questions", free(&mut self.random, variables, records, &mix)),
         };
-        let allowance = self.affordable(variables);
+        let allowance = self.affordable(number_of_variables(&constraints));
         let file = constraint::write(&constraints);
         let verdict = self.solve(sort, &file, LEAST_BUFFER, allowance);
+        if let SolverVerdict::Tree { count, .. } | SolverVerdict::None { count } = verdict {
+            *self.counts.entry(count.to_string().len()).or_default() += 1;
+        }
         if sort == "planted questions" && matches!(verdict, SolverVerdict::None { .. }) {
             disagree(sort, &format!("none, yet the planted tree meets\nconstraints {}", hex(&file)));
         }
@@ -267,8 +280,12 @@ impl Comparison {
             }
             SolverVerdict::Refused(_) => return,
         };
-        for allowance in [0, count.saturating_sub(1), count, count + 1, u32::MAX] {
+        for allowance in [0, count.saturating_sub(1), count] {
             self.solve(SORT, &solved.file, LEAST_BUFFER, allowance);
+        }
+        // A larger allowance never changes a tree or a none.
+        for allowance in [count + 1, u32::MAX] {
+            self.hold_solver(SORT, &solved.file, LEAST_BUFFER, allowance, &solved.verdict);
         }
     }
 
@@ -402,27 +419,42 @@ impl Comparison {
         }
         let verdicts: Vec<String> = self.seen.iter().map(|(verdict, times)| format!("{verdict} {times}")).collect();
         println!("compare: verdicts: {}", verdicts.join(", "));
+        let counts: Vec<String> = self.counts.iter().map(|(digits, times)| format!("{digits} in {times}")).collect();
+        println!("compare: digits of the count of choices in random questions: {}", counts.join(", "));
+        println!("compare: {} verdicts of the second solver agree with all small trees", self.against_all_small_trees);
         let sorts: Vec<String> = self.compared.iter().map(|(sort, count)| format!("{count} {sort}")).collect();
         let total: u64 = self.compared.iter().map(|(_, count)| count).sum();
-        println!("compare: {total} inputs in {} s, no disagreement: {}", took.as_secs(), sorts.join(", "));
+        println!("compare: {total} inputs compared in {} s, none disagreed: {}", took.as_secs(), sorts.join("; "));
     }
 }
 
-/// Every record over these variables with labels 97 and 98; the plain ones leave out x = y and the mirror images of same and differ.
-fn all_records(variables: u8, reflexive: bool) -> Vec<Constraint> {
+/// Every record over these variables, with labels 97 and 98.
+fn all_records(variables: u8) -> Vec<Constraint> {
     let mut records = Vec::new();
     for x in (0..variables).map(Variable) {
         for y in (0..variables).map(Variable) {
-            if reflexive || x != y {
-                records.extend([Constraint::Child(x, y), Constraint::Below(x, y), Constraint::StrictlyBelow(x, y)]);
-            }
-            if reflexive || x < y {
-                records.extend([Constraint::Same(x, y), Constraint::Differ(x, y)]);
-            }
+            records.extend([Constraint::Child(x, y), Constraint::Below(x, y), Constraint::StrictlyBelow(x, y)]);
+            records.extend([Constraint::Same(x, y), Constraint::Differ(x, y)]);
         }
         records.extend([Constraint::Root(x), Constraint::Leaf(x), Constraint::Label(x, 97), Constraint::Label(x, 98)]);
     }
     records
+}
+
+/// Without x = y and without the mirror images of same and differ.
+fn plain_records(variables: u8) -> Vec<Constraint> {
+    let is_plain = |&record: &Constraint| match record {
+        Constraint::Child(x, y) | Constraint::Below(x, y) | Constraint::StrictlyBelow(x, y) => x != y,
+        Constraint::Same(x, y) | Constraint::Differ(x, y) => x < y,
+        _ => true,
+    };
+    all_records(variables).into_iter().filter(is_plain).collect()
+}
+
+/// The plain records of the kinds that make and decide joins; the other kinds are made of these, or labels.
+fn joining_records(variables: u8) -> Vec<Constraint> {
+    let joins = |record: &Constraint| [1, 2, 5, 6, 7].contains(&record.kind());
+    plain_records(variables).into_iter().filter(joins).collect()
 }
 
 /// Visits every choice of at most `size` of the records, repeats included, order left out.

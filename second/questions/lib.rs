@@ -46,8 +46,13 @@ impl Random {
 /// Few labels, so that two records often ask for different ones; small letters, capitals and both ends of the range.
 const LABELS: [u8; 6] = [97, 98, 65, 66, 1, 255];
 
-/// How often each of the eight kinds is drawn, so that files lean to some kinds and lack others.
-pub struct Mix(Vec<u8>);
+/// What a file leans to.
+pub struct Mix {
+    /// The kinds drawn from, so that some come up more often than others.
+    kinds: Vec<u8>,
+    /// y is one of the first so many variables: where they are few, many variables are above each, and joins abound.
+    lowest: usize,
+}
 
 impl Mix {
     pub fn random(random: &mut Random) -> Mix {
@@ -60,18 +65,14 @@ impl Mix {
         if kinds.is_empty() {
             kinds.extend(1..=8);
         }
-        Mix(kinds)
-    }
-
-    pub fn of(kinds: &[u8]) -> Mix {
-        Mix(kinds.to_vec())
+        Mix { kinds, lowest: random.pick(&[1, 2, 3, 16, 16]) }
     }
 }
 
 pub fn random_constraint(random: &mut Random, variables: usize, mix: &Mix) -> Constraint {
     let x = Variable(random.below(variables) as u8);
-    let y = Variable(random.below(variables) as u8);
-    match random.pick(&mix.0) {
+    let y = Variable(random.below(variables.min(mix.lowest)) as u8);
+    match random.pick(&mix.kinds) {
         1 => Constraint::Child(x, y),
         2 => Constraint::Below(x, y),
         3 => Constraint::StrictlyBelow(x, y),

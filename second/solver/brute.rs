@@ -31,12 +31,12 @@ pub fn tree_of_shape(shape: &[Node], labels: Vec<u8>) -> Tree {
 pub fn some_tree_meets(constraints: &[Constraint], most_nodes: usize) -> bool {
     let variables = number_of_variables(constraints);
     (1..=most_nodes).any(|nodes| {
-        let shapes = shapes(nodes);
+        let mut trees: Vec<Tree> = shapes(nodes).iter().map(|shape| tree_of_shape(shape, Vec::new())).collect();
         assignments(variables, nodes).iter().any(|assignment| {
             let labels = asked_labels(constraints, assignment, nodes);
-            shapes.iter().any(|shape| {
-                let tree = tree_of_shape(shape, labels.clone());
-                first_unmet(&tree, assignment, constraints).is_none()
+            trees.iter_mut().any(|tree| {
+                tree.labels.clone_from(&labels);
+                first_unmet(tree, assignment, constraints).is_none()
             })
         })
     })

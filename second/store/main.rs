@@ -121,9 +121,8 @@ fn store_questions() {
 
 fn random_question(random: &mut Random) -> Vec<Constraint> {
     let variables = 1 + random.below(16);
-    let records = random.below(2 * variables + 6);
-    // Many below records make long searches.
-    let mix = if random.one_in(2) { Mix::random(random) } else { Mix::of(&[1, 2, 2, 2, 3, 5, 5, 6, 8]) };
+    let records = if random.one_in(30) { random.below(255) } else { random.below(2 * variables + 6) };
+    let mix = Mix::random(random);
     let nodes = 1 + random.below(variables + 1);
     let tree = random_tree(random, nodes);
     let assignment = random_assignment(random, variables, &tree);
@@ -131,7 +130,7 @@ fn random_question(random: &mut Random) -> Vec<Constraint> {
     match random.below(3) {
         0 => {}
         1 => {
-            for _ in 0..1 + random.below(3) {
+            for _ in 0..1 + random.below(2) {
                 constraints.push(random_constraint(random, variables, &mix));
             }
         }
