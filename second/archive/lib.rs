@@ -18,50 +18,57 @@ extern "C" {
 /// Where and how the archive differs, with the whole input.
 pub struct Disagreement(pub String);
 
-const GUARD: usize = 64;
+/// Each input is put twice, with different noise around and in the lent bytes, so that a result that hangs on a byte outside shows: once
+/// between guard bytes, and once at its exact length, so that a memory checker sees every byte too far.
+const WAYS: [Way; 2] = [Way { noise: 0, guard: 64 }, Way { noise: 0xa7, guard: 0 }];
 
-/// Bytes between guard bytes. Lent twice with different noise, a result that hangs on a byte outside shows.
+struct Way {
+    noise: u8,
+    guard: usize,
+}
+
+/// Lent bytes between guard bytes, as they were before the call and as they are after it.
 struct Lent {
     before: Vec<u8>,
     after: Vec<u8>,
-    length: usize,
+    guard: usize,
 }
 
 impl Lent {
-    fn noise(length: usize, seed: u8) -> Lent {
-        let bytes: Vec<u8> = (0..length + 2 * GUARD).map(|at| (at as u8).wrapping_mul(29).wrapping_add(seed)).collect();
-        Lent { before: bytes.clone(), after: bytes, length }
+    fn noise(length: usize, way: &Way) -> Lent {
+        let noise = |at: usize| (at as u8).wrapping_mul(29).wrapping_add(way.noise);
+        let bytes: Vec<u8> = (0..length + 2 * way.guard).map(noise).collect();
+        Lent { before: bytes.clone(), after: bytes, guard: way.guard }
     }
 
-    fn holding(content: &[u8], seed: u8) -> Lent {
-        let mut lent = Lent::noise(content.len(), seed);
-        lent.before[GUARD..GUARD + content.len()].copy_from_slice(content);
+    fn holding(content: &[u8], way: &Way) -> Lent {
+        let mut lent = Lent::noise(content.len(), way);
+        lent.before[way.guard..][..content.len()].copy_from_slice(content);
         lent.after.copy_from_slice(&lent.before);
         lent
     }
 
     fn bytes(&mut self) -> &mut [u8] {
-        &mut self.after[GUARD..GUARD + self.length]
+        let end = self.after.len() - self.guard;
+        &mut self.after[self.guard..end]
     }
 
     /// Is all as lent, but for `written` at the front?
     fn changed_only_by(&self, written: &[u8]) -> bool {
         let mut expected = self.before.clone();
-        expected[GUARD..GUARD + written.len()].copy_from_slice(written);
+        expected[self.guard..][..written.len()].copy_from_slice(written);
         self.after == expected
     }
 }
-
-const NOISES: [u8; 2] = [0, 0xa7];
 
 pub fn hold_solver(file: &[u8], buffer: usize, allowance: u32, expected: &SolverVerdict) -> Result<(), Disagreement> {
     let written: &[u8] = match expected {
         SolverVerdict::Tree { answer, .. } => answer,
         _ => &[],
     };
-    for noise in NOISES {
-        let mut constraints = Lent::holding(file, noise);
-        let mut answer = Lent::noise(buffer, noise);
+    for way in &WAYS {
+        let mut constraints = Lent::holding(file, way);
+        let mut answer = Lent::noise(buffer, way);
         let (file_lent, answer_lent) = (constraints.bytes(), answer.bytes());
         let result = unsafe {
             cudreth_solve(file_lent.as_ptr(), file_lent.len(), answer_lent.as_mut_ptr(), answer_lent.len(), allowance)
@@ -84,9 +91,9 @@ pub fn hold_solver(file: &[u8], buffer: usize, allowance: u32, expected: &Solver
 }
 
 pub fn hold_marker(file: &[u8], answer_file: &[u8], expected: &MarkerVerdict) -> Result<(), Disagreement> {
-    for noise in NOISES {
-        let mut constraints = Lent::holding(file, noise);
-        let mut answer = Lent::holding(answer_file, noise);
+    for way in &WAYS {
+        let mut constraints = Lent::holding(file, way);
+        let mut answer = Lent::holding(answer_file, way);
         let (file_lent, answer_lent) = (constraints.bytes(), answer.bytes());
         let result = unsafe {
             cudreth_mark(file_lent.as_ptr(), file_lent.len(), answer_lent.as_ptr(), answer_lent.len())

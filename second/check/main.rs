@@ -1,26 +1,30 @@
-//! Holds the second solver and the archive to the stored questions and to the examples.
+//! Holds the second solver and the archive to the stored questions and to the examples. After a change of the rules, `again` prints a
+//! stored file with the verdicts that the second solver now gives: its diff with the file lists the stored answers that change.
 //!
-//! usage: check stored FILE... | check examples FILE...
+//! usage: check stored FILE... | check examples FILE... | check again FILE
 
 mod example;
 
 use example::{Expected, Question};
-use second::verdict::{parse_marker, parse_solver, unhex};
+use second::verdict::{hex, parse_marker, parse_solver, unhex};
 
 fn main() {
     let words: Vec<String> = std::env::args().skip(1).collect();
-    let (read, files): (fn(&str) -> Result<Vec<Question>, String>, &[String]) = match words.split_first() {
-        Some((what, files)) if what == "stored" => (stored_questions, files),
-        Some((what, files)) if what == "examples" => (example::questions, files),
+    match words.iter().map(String::as_str).collect::<Vec<_>>().as_slice() {
+        ["stored", files @ ..] => hold_files(files, stored_questions),
+        ["examples", files @ ..] => hold_files(files, example::questions),
+        ["again", file] => print_again(file),
         _ => {
-            eprintln!("usage: check stored FILE... | check examples FILE...");
+            eprintln!("usage: check stored FILE... | check examples FILE... | check again FILE");
             std::process::exit(2);
         }
-    };
+    }
+}
+
+fn hold_files(files: &[&str], read: fn(&str) -> Result<Vec<Question>, String>) {
     let mut held = 0;
     for path in files {
-        let text = std::fs::read_to_string(path).unwrap_or_else(|error| fail(path, &error.to_string()));
-        let questions = read(&text).unwrap_or_else(|error| fail(path, &error));
+        let questions = read(&text_of(path)).unwrap_or_else(|error| fail(path, &error));
         for question in &questions {
             if let Err(how) = hold(question) {
                 fail(path, &format!("{}: {how}", question.name));
@@ -29,6 +33,29 @@ fn main() {
         held += questions.len();
     }
     println!("check: {held} questions of {} files: the second solver and the archive both give what is written", files.len());
+}
+
+fn print_again(path: &str) {
+    for line in text_of(path).lines() {
+        let Some(Question { name, constraints, expected }) = stored_question(line) else {
+            println!("{line}");
+            continue;
+        };
+        let file = hex(&constraints);
+        match expected {
+            Expected::Solver { buffer, allowance, .. } => {
+                let verdict = second::solve(&constraints, buffer, allowance);
+                println!("{name} solve {file} {buffer} {allowance} {verdict}");
+            }
+            Expected::Marker { answer, .. } => {
+                println!("{name} mark {file} {} {}", hex(&answer), second::mark(&constraints, &answer));
+            }
+        }
+    }
+}
+
+fn text_of(path: &str) -> String {
+    std::fs::read_to_string(path).unwrap_or_else(|error| fail(path, &error.to_string()))
 }
 
 fn fail(path: &str, how: &str) -> ! {

@@ -180,13 +180,18 @@ impl Comparison {
         self.all_sets_of("sets of up to 4 of the joining records over 4 variables", &joining_records(4), 4);
     }
 
-    fn all_sets_of(&mut self, sort: &'static str, records: &[Constraint], size: usize) {
-        let mut chosen = Vec::new();
-        for_each_choice(records, size, &mut chosen, &mut |constraints| {
-            let file = constraint::write(constraints);
-            let verdict = self.solve(sort, &file, LEAST_BUFFER, u32::MAX);
-            self.check_meaning(constraints, &verdict, number_of_variables(constraints) + 1);
-        });
+    /// Smaller sets first, so that the first disagreement is a small one.
+    fn all_sets_of(&mut self, sort: &'static str, records: &[Constraint], most: usize) {
+        for size in 0..=most {
+            for_each_choice(records, size, &mut Vec::new(), &mut |constraints| {
+                let file = constraint::write(constraints);
+                let verdict = self.solve(sort, &file, LEAST_BUFFER, u32::MAX);
+                self.check_meaning(constraints, &verdict, number_of_variables(constraints) + 1);
+                if let SolverVerdict::Tree { count: 1.., .. } | SolverVerdict::None { count: 1.. } = verdict {
+                    self.allowances(&Solved { file, allowance: u32::MAX, verdict });
+                }
+            });
+        }
     }
 
     /// Every tree of up to 4 nodes, every assignment of 3 variables, every single record.
@@ -457,16 +462,15 @@ fn joining_records(variables: u8) -> Vec<Constraint> {
     plain_records(variables).into_iter().filter(joins).collect()
 }
 
-/// Visits every choice of at most `size` of the records, repeats included, order left out.
+/// Visits every choice of `size` of the records, repeats included, order left out.
 fn for_each_choice(
     records: &[Constraint],
     size: usize,
     chosen: &mut Vec<Constraint>,
     visit: &mut dyn FnMut(&[Constraint]),
 ) {
-    visit(chosen);
     if size == 0 {
-        return;
+        return visit(chosen);
     }
     for (at, &record) in records.iter().enumerate() {
         chosen.push(record);
