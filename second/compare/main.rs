@@ -5,8 +5,9 @@
 
 use questions::{crowded_path, free, planted, random_assignment, random_constraint, random_tree, Mix, Random};
 use second::constraint::{self, number_of_variables, Constraint, Variable};
+use second::tree::{Assignment, Tree};
 use second::verdict::{hex, MarkerVerdict, SolverVerdict};
-use second::{answer, brute, tree, Refusal, LEAST_BUFFER};
+use second::{answer, brute, Refusal, LEAST_BUFFER};
 use std::collections::BTreeMap;
 use std::time::{Duration, Instant};
 
@@ -225,10 +226,10 @@ impl Comparison {
         let number_of_nodes = 1 + self.random.below(variables + 3);
         let tree = random_tree(&mut self.random, number_of_nodes);
         let assignment = random_assignment(&mut self.random, variables, &tree);
-        let (sort, constraints) = match self.random.below(40) {
+        let (sort, constraints) = match self.random.below(16) {
             0 => ("crowded paths", crowded_path(&mut self.random)),
-            1..=19 => ("planted questions", planted(&mut self.random, &tree, &assignment, records, &mix)),
-            20..=29 => {
+            1..=7 => ("planted questions", planted(&mut self.random, &tree, &assignment, records, &mix)),
+            8..=11 => {
                 let mut constraints = planted(&mut self.random, &tree, &assignment, records.min(254), &mix);
                 for _ in 0..1 + self.random.below(2) {
                     let at = self.random.below(constraints.len() + 1);
@@ -256,7 +257,7 @@ impl Comparison {
         self.buffers(&solved);
         self.other_order(&solved, &constraints);
         self.damaged(&solved);
-        self.answers(&solved, &constraints, &tree);
+        self.answers(&solved, &constraints, &tree, &assignment);
     }
 
     /// An allowance that keeps one naive search well below a second; now and then a larger one.
@@ -368,15 +369,19 @@ impl Comparison {
     }
 
     /// Marks right answers, wrong ones, and each of some with every byte changed.
-    fn answers(&mut self, solved: &Solved, constraints: &[Constraint], planted_in: &tree::Tree) {
+    fn answers(&mut self, solved: &Solved, constraints: &[Constraint], tree: &Tree, assignment: &Assignment) {
         let variables = number_of_variables(constraints);
         let mut answer_files = Vec::new();
         if let SolverVerdict::Tree { answer, .. } = &solved.verdict {
             answer_files.push(answer.clone());
         }
+        // The planted answer; a crowded path can have more variables than were placed.
+        if let Some(places) = assignment.0.get(..variables) {
+            answer_files.push(answer::write(tree, &Assignment(places.to_vec())));
+        }
         let nodes = 1 + self.random.below(64);
         let other_tree = random_tree(&mut self.random, nodes);
-        for tree in [planted_in, &other_tree] {
+        for tree in [tree, &other_tree] {
             let assignment = random_assignment(&mut self.random, variables, tree);
             answer_files.push(answer::write(tree, &assignment));
         }
