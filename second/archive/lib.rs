@@ -73,9 +73,8 @@ pub fn hold_solver(file: &[u8], buffer: usize, allowance: u32, expected: &Solver
         let result = unsafe {
             cudreth_solve(file_lent.as_ptr(), file_lent.len(), answer_lent.as_mut_ptr(), answer_lent.len(), allowance)
         };
-        let as_expected = result == solver_number(expected)
-            && answer.changed_only_by(written)
-            && constraints.changed_only_by(&[]);
+        let as_expected =
+            result == solver_number(expected) && answer.changed_only_by(written) && constraints.changed_only_by(&[]);
         if !as_expected {
             return Err(Disagreement(format!(
                 "solve, buffer {buffer}, allowance {allowance}\nconstraints {}\nexpected {expected} = {:#x}\narchive  {:#x}\nbuffer before, with guards {}\nbuffer after, with guards  {}",
@@ -95,9 +94,8 @@ pub fn hold_marker(file: &[u8], answer_file: &[u8], expected: &MarkerVerdict) ->
         let mut constraints = Lent::holding(file, way);
         let mut answer = Lent::holding(answer_file, way);
         let (file_lent, answer_lent) = (constraints.bytes(), answer.bytes());
-        let result = unsafe {
-            cudreth_mark(file_lent.as_ptr(), file_lent.len(), answer_lent.as_ptr(), answer_lent.len())
-        };
+        let result =
+            unsafe { cudreth_mark(file_lent.as_ptr(), file_lent.len(), answer_lent.as_ptr(), answer_lent.len()) };
         let as_expected =
             result == marker_number(expected) && answer.changed_only_by(&[]) && constraints.changed_only_by(&[]);
         if !as_expected {

@@ -32,7 +32,10 @@ fn hold_files(files: &[&str], read: fn(&str) -> Result<Vec<Question>, String>) {
         }
         held += questions.len();
     }
-    println!("check: {held} questions of {} files: the second solver and the archive both give what is written", files.len());
+    println!(
+        "check: {held} questions of {} files: the second solver and the archive both give what is written",
+        files.len()
+    );
 }
 
 fn print_again(path: &str) {
@@ -70,7 +73,8 @@ fn hold(question: &Question) -> Result<(), String> {
             if said != *verdict {
                 return Err(format!("written {verdict}, the second solver says {said}"));
             }
-            archive::hold_solver(&question.constraints, *buffer, *allowance, verdict).map_err(|disagreement| disagreement.0)
+            archive::hold_solver(&question.constraints, *buffer, *allowance, verdict)
+                .map_err(|disagreement| disagreement.0)
         }
         Expected::Marker { answer, verdict } => {
             let said = second::mark(&question.constraints, answer);
@@ -93,7 +97,11 @@ fn stored_question(line: &str) -> Option<Question> {
     let (name, constraints, expected) = match words.as_slice() {
         [name, "solve", constraints, buffer, allowance, verdict @ ..] => {
             let verdict = parse_solver(verdict)?;
-            (name, constraints, Expected::Solver { buffer: buffer.parse().ok()?, allowance: allowance.parse().ok()?, verdict })
+            (
+                name,
+                constraints,
+                Expected::Solver { buffer: buffer.parse().ok()?, allowance: allowance.parse().ok()?, verdict },
+            )
         }
         [name, "mark", constraints, answer, verdict @ ..] => {
             (name, constraints, Expected::Marker { answer: unhex(answer)?, verdict: parse_marker(verdict)? })

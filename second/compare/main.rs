@@ -130,7 +130,8 @@ impl Comparison {
                 }
             }
             SolverVerdict::Tree { answer: answer_file, .. } => {
-                let (drawn, _) = answer::read(answer_file, variables).unwrap_or_else(|_| disagree(SORT, "no answer file"));
+                let (drawn, _) =
+                    answer::read(answer_file, variables).unwrap_or_else(|_| disagree(SORT, "no answer file"));
                 if drawn.parents.len() > variables + 1 || !brute::some_tree_meets(constraints, variables + 1) {
                     disagree(SORT, &format!("a tree of the wrong size\nconstraints {}", hex(&file)));
                 }
@@ -150,7 +151,9 @@ impl Comparison {
             }
         }
         let one_node = [1, 0, 0, 0];
-        for (file, answer_file) in [(&[][..], &[][..]), (&[], &one_node), (&[6, 0, 0, 0], &[]), (&[6, 0, 0, 0], &one_node)] {
+        for (file, answer_file) in
+            [(&[][..], &[][..]), (&[], &one_node), (&[6, 0, 0, 0], &[]), (&[6, 0, 0, 0], &one_node)]
+        {
             self.mark("empty files", file, answer_file);
         }
     }
@@ -417,7 +420,8 @@ impl Comparison {
     }
 
     fn report(&self, took: Duration) {
-        let must_be_seen = (1..=7).map(|question| format!("solver refused {question}"))
+        let must_be_seen = (1..=7)
+            .map(|question| format!("solver refused {question}"))
             .chain((1..=6).chain(8..=12).map(|question| format!("marker refused {question}")))
             .chain(constraint::KIND_NAMES.iter().map(|name| format!("unmet {name}")))
             .chain(["tree", "none", "spent", "met"].map(String::from));

@@ -7,7 +7,9 @@ use crate::tree::{first_unmet, Assignment, Node, Tree};
 pub fn shapes(nodes: usize) -> Vec<Vec<Node>> {
     let mut shapes = vec![Vec::new()];
     for node in 1..nodes {
-        let grown = |shape: &Vec<Node>| (0..node).map(|parent| [shape.as_slice(), &[Node(parent)]].concat()).collect::<Vec<_>>();
+        let grown = |shape: &Vec<Node>| {
+            (0..node).map(|parent| [shape.as_slice(), &[Node(parent)]].concat()).collect::<Vec<_>>()
+        };
         shapes = shapes.iter().flat_map(grown).collect();
     }
     shapes
@@ -16,7 +18,8 @@ pub fn shapes(nodes: usize) -> Vec<Vec<Node>> {
 pub fn assignments(variables: usize, nodes: usize) -> Vec<Assignment> {
     let mut assignments = vec![Vec::new()];
     for _ in 0..variables {
-        let placed = |places: &Vec<Node>| (0..nodes).map(|node| [places.as_slice(), &[Node(node)]].concat()).collect::<Vec<_>>();
+        let placed =
+            |places: &Vec<Node>| (0..nodes).map(|node| [places.as_slice(), &[Node(node)]].concat()).collect::<Vec<_>>();
         assignments = assignments.iter().flat_map(placed).collect();
     }
     assignments.into_iter().map(Assignment).collect()

@@ -66,7 +66,8 @@ fn none(least: u32, most: u32) -> impl Fn(&SolverVerdict) -> bool {
 fn store_questions() {
     println!("# Made by 'target/second/store solve', that is, by the second solver alone. One question a line:");
     println!("# name, solve, constraint file in hex, bytes lent, allowance; verdict, count or number of the question, answer file in hex.");
-    let solver_refused = |question| move |verdict: &SolverVerdict| *verdict == SolverVerdict::Refused(Refusal(question));
+    let solver_refused =
+        |question| move |verdict: &SolverVerdict| *verdict == SolverVerdict::Refused(Refusal(question));
     let mut shares = vec![
         share("tree-0", 50, tree(0, 0)),
         share("tree-1", 20, tree(1, 1)),
@@ -165,7 +166,8 @@ fn damage(random: &mut Random, mut file: Vec<u8>) -> Vec<u8> {
 fn store_answers() {
     println!("# Made by 'target/second/store mark', that is, by the second marker alone. One question a line:");
     println!("# name, mark, constraint file in hex, answer file in hex; met, unmet with position and kind, or refused with the number.");
-    let unmet = |number| move |verdict: &MarkerVerdict| matches!(*verdict, MarkerVerdict::Unmet { kind, .. } if kind == number);
+    let unmet =
+        |number| move |verdict: &MarkerVerdict| matches!(*verdict, MarkerVerdict::Unmet { kind, .. } if kind == number);
     let refused = |question| move |verdict: &MarkerVerdict| *verdict == MarkerVerdict::Refused(Refusal(question));
     let mut shares = vec![
         share("met", 40, |verdict| *verdict == MarkerVerdict::Met),
