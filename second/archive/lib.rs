@@ -1,0 +1,134 @@
+//! The proved programs behind their C names, held to an expected verdict: the whole 64-bit result, every byte of the lent buffer, the
+//! bytes around it and the bytes of the files.
+
+use second::verdict::{hex, MarkerVerdict, SolverVerdict};
+use second::Refusal;
+
+extern "C" {
+    fn cudreth_solve(
+        constraints: *const u8,
+        constraints_len: usize,
+        answer: *mut u8,
+        answer_len: usize,
+        allowance: u32,
+    ) -> u64;
+    fn cudreth_mark(constraints: *const u8, constraints_len: usize, answer: *const u8, answer_len: usize) -> u64;
+}
+
+/// Where and how the archive differs, with the whole input.
+pub struct Disagreement(pub String);
+
+/// Each input is put twice, with different noise around and in the lent bytes, so that a result that hangs on a byte outside shows: once
+/// between guard bytes, and once at its exact length, so that a memory checker sees every byte too far.
+const WAYS: [Way; 2] = [Way { noise: 0, guard: 64 }, Way { noise: 0xa7, guard: 0 }];
+
+struct Way {
+    noise: u8,
+    guard: usize,
+}
+
+/// Lent bytes between guard bytes, as they were before the call and as they are after it.
+struct Lent {
+    before: Vec<u8>,
+    after: Vec<u8>,
+    guard: usize,
+}
+
+impl Lent {
+    fn noise(length: usize, way: &Way) -> Lent {
+        let noise = |at: usize| (at as u8).wrapping_mul(29).wrapping_add(way.noise);
+        let bytes: Vec<u8> = (0..length + 2 * way.guard).map(noise).collect();
+        Lent { before: bytes.clone(), after: bytes, guard: way.guard }
+    }
+
+    fn holding(content: &[u8], way: &Way) -> Lent {
+        let mut lent = Lent::noise(content.len(), way);
+        lent.before[way.guard..][..content.len()].copy_from_slice(content);
+        lent.after.copy_from_slice(&lent.before);
+        lent
+    }
+
+    fn bytes(&mut self) -> &mut [u8] {
+        let end = self.after.len() - self.guard;
+        &mut self.after[self.guard..end]
+    }
+
+    /// Is all as lent, but for `written` at the front?
+    fn changed_only_by(&self, written: &[u8]) -> bool {
+        let mut expected = self.before.clone();
+        expected[self.guard..][..written.len()].copy_from_slice(written);
+        self.after == expected
+    }
+}
+
+pub fn hold_solver(file: &[u8], buffer: usize, allowance: u32, expected: &SolverVerdict) -> Result<(), Disagreement> {
+    let written: &[u8] = match expected {
+        SolverVerdict::Tree { answer, .. } => answer,
+        _ => &[],
+    };
+    for way in &WAYS {
+        let mut constraints = Lent::holding(file, way);
+        let mut answer = Lent::noise(buffer, way);
+        let (file_lent, answer_lent) = (constraints.bytes(), answer.bytes());
+        let result = unsafe {
+            cudreth_solve(file_lent.as_ptr(), file_lent.len(), answer_lent.as_mut_ptr(), answer_lent.len(), allowance)
+        };
+        let as_expected =
+            result == solver_number(expected) && answer.changed_only_by(written) && constraints.changed_only_by(&[]);
+        if !as_expected {
+            return Err(Disagreement(format!(
+                "solve, buffer {buffer}, allowance {allowance}\nconstraints {}\nexpected {expected} = {:#x}\narchive  {:#x}\nbuffer before, with guards {}\nbuffer after, with guards  {}",
+                hex(file),
+                solver_number(expected),
+                result,
+                hex(&answer.before),
+                hex(&answer.after),
+            )));
+        }
+    }
+    Ok(())
+}
+
+pub fn hold_marker(file: &[u8], answer_file: &[u8], expected: &MarkerVerdict) -> Result<(), Disagreement> {
+    for way in &WAYS {
+        let mut constraints = Lent::holding(file, way);
+        let mut answer = Lent::holding(answer_file, way);
+        let (file_lent, answer_lent) = (constraints.bytes(), answer.bytes());
+        let result =
+            unsafe { cudreth_mark(file_lent.as_ptr(), file_lent.len(), answer_lent.as_ptr(), answer_lent.len()) };
+        let as_expected =
+            result == marker_number(expected) && answer.changed_only_by(&[]) && constraints.changed_only_by(&[]);
+        if !as_expected {
+            return Err(Disagreement(format!(
+                "mark\nconstraints {}\nanswer {}\nexpected {expected} = {:#x}\narchive  {:#x}",
+                hex(file),
+                hex(answer_file),
+                marker_number(expected),
+                result,
+            )));
+        }
+    }
+    Ok(())
+}
+
+/// Both results are verdict · 2^48 + middle · 2^32 + low.
+fn number(verdict: u64, middle: u64, low: u64) -> u64 {
+    (verdict << 48) + (middle << 32) + low
+}
+
+fn solver_number(verdict: &SolverVerdict) -> u64 {
+    match verdict {
+        SolverVerdict::Tree { count, answer } => number(0, answer.len() as u64, *count as u64),
+        SolverVerdict::None { count } => number(1, 0, *count as u64),
+        SolverVerdict::Spent { count } => number(2, 0, *count as u64),
+        SolverVerdict::Refused(Refusal(question)) => number(3, 0, *question as u64),
+    }
+}
+
+fn marker_number(verdict: &MarkerVerdict) -> u64 {
+    match verdict {
+        MarkerVerdict::Met => number(0, 0, 0),
+        MarkerVerdict::Unmet { position, kind } => number(1, *kind as u64, *position as u64),
+        MarkerVerdict::Refused(Refusal(question)) => number(3, 0, *question as u64),
+    }
+}

@@ -1,0 +1,163 @@
+//! Compares the archive with the second solver, and the second solver with the meaning itself on small questions. Stops at the first
+//! disagreement with the input in hex and exit status 1.
+//!
+//! usage: compare [--seconds N] [--seed S]
+
+mod rounds;
+mod small;
+
+use questions::Random;
+use second::constraint::{self, number_of_variables, Constraint};
+use second::verdict::{hex, MarkerVerdict, SolverVerdict};
+use second::{answer, brute, Refusal};
+use std::collections::BTreeMap;
+use std::time::{Duration, Instant};
+
+struct Comparison {
+    random: Random,
+    /// How many inputs of each sort were compared, in the order in which the sorts first came up.
+    compared: Vec<(&'static str, u64)>,
+    /// How often each verdict came up.
+    seen: BTreeMap<String, u64>,
+    /// How often the fixed search ended, by the number of digits of its count.
+    counts: BTreeMap<usize, u64>,
+    /// How many verdicts of the second solver were held against every small tree.
+    against_all_small_trees: u64,
+}
+
+fn main() {
+    let mut seconds = 60;
+    let mut seed = 1;
+    let words: Vec<String> = std::env::args().skip(1).collect();
+    for option in words.chunks(2) {
+        match (option[0].as_str(), option.get(1).and_then(|word| word.parse().ok())) {
+            ("--seconds", Some(number)) => seconds = number,
+            ("--seed", Some(number)) => seed = number,
+            _ => {
+                eprintln!("usage: compare [--seconds N] [--seed S]");
+                std::process::exit(2);
+            }
+        }
+    }
+    println!("compare: seed {seed}; all small questions, then random ones for {seconds} s");
+    let start = Instant::now();
+    let mut comparison = Comparison {
+        random: Random::new(seed),
+        compared: Vec::new(),
+        seen: BTreeMap::new(),
+        counts: BTreeMap::new(),
+        against_all_small_trees: 0,
+    };
+    comparison.empty_files();
+    comparison.long_answers();
+    comparison.all_small_questions();
+    comparison.all_small_answers();
+    let deadline = Instant::now() + Duration::from_secs(seconds);
+    while Instant::now() < deadline {
+        comparison.round();
+    }
+    comparison.report(start.elapsed());
+}
+
+fn disagree(sort: &str, how: &str) -> ! {
+    println!("DISAGREEMENT ({sort}): {how}");
+    std::process::exit(1);
+}
+
+impl Comparison {
+    fn tally(&mut self, sort: &'static str, verdict: String) {
+        match self.compared.iter_mut().find(|(name, _)| *name == sort) {
+            Some((_, count)) => *count += 1,
+            None => self.compared.push((sort, 1)),
+        }
+        *self.seen.entry(verdict).or_default() += 1;
+    }
+
+    fn hold_solver(
+        &mut self,
+        sort: &'static str,
+        file: &[u8],
+        buffer: usize,
+        allowance: u32,
+        expected: &SolverVerdict,
+    ) {
+        if let Err(disagreement) = archive::hold_solver(file, buffer, allowance, expected) {
+            disagree(sort, &disagreement.0);
+        }
+        let verdict = match expected {
+            SolverVerdict::Tree { .. } => "tree".to_string(),
+            SolverVerdict::None { .. } => "none".to_string(),
+            SolverVerdict::Spent { .. } => "spent".to_string(),
+            SolverVerdict::Refused(Refusal(question)) => format!("solver refused {question}"),
+        };
+        self.tally(sort, verdict);
+    }
+
+    fn solve(&mut self, sort: &'static str, file: &[u8], buffer: usize, allowance: u32) -> SolverVerdict {
+        let verdict = second::solve(file, buffer, allowance);
+        self.hold_solver(sort, file, buffer, allowance, &verdict);
+        verdict
+    }
+
+    fn mark(&mut self, sort: &'static str, file: &[u8], answer_file: &[u8]) -> MarkerVerdict {
+        let expected = second::mark(file, answer_file);
+        if let Err(disagreement) = archive::hold_marker(file, answer_file, &expected) {
+            disagree(sort, &disagreement.0);
+        }
+        let verdict = match expected {
+            MarkerVerdict::Met => "met".to_string(),
+            MarkerVerdict::Unmet { kind, .. } => format!("unmet {}", constraint::KIND_NAMES[kind as usize - 1]),
+            MarkerVerdict::Refused(Refusal(question)) => format!("marker refused {question}"),
+        };
+        self.tally(sort, verdict);
+        expected
+    }
+
+    /// The second solver's verdict against every tree of at most `most_nodes` nodes, and its tree against the marker.
+    fn check_meaning(&mut self, constraints: &[Constraint], verdict: &SolverVerdict, most_nodes: usize) {
+        const SORT: &str = "verdicts against all small trees";
+        let file = constraint::write(constraints);
+        let variables = number_of_variables(constraints);
+        match verdict {
+            SolverVerdict::None { .. } => {
+                if brute::some_tree_meets(constraints, most_nodes) {
+                    disagree(SORT, &format!("second says none, yet a tree meets\nconstraints {}", hex(&file)));
+                }
+            }
+            SolverVerdict::Tree { answer: answer_file, .. } => {
+                let (drawn, _) =
+                    answer::read(answer_file, variables).unwrap_or_else(|_| disagree(SORT, "no answer file"));
+                if drawn.parents.len() > variables + 1 || !brute::some_tree_meets(constraints, variables + 1) {
+                    disagree(SORT, &format!("a tree of the wrong size\nconstraints {}", hex(&file)));
+                }
+                if self.mark("solver's trees marked", &file, answer_file) != MarkerVerdict::Met {
+                    disagree(SORT, &format!("second's tree is not met\nconstraints {}", hex(&file)));
+                }
+            }
+            SolverVerdict::Spent { .. } | SolverVerdict::Refused(_) => return,
+        }
+        self.against_all_small_trees += 1;
+    }
+
+    fn report(&self, took: Duration) {
+        let must_be_seen = (1..=7)
+            .map(|question| format!("solver refused {question}"))
+            .chain((1..=6).chain(8..=12).map(|question| format!("marker refused {question}")))
+            .chain(constraint::KIND_NAMES.iter().map(|name| format!("unmet {name}")))
+            .chain(["tree", "none", "spent", "met"].map(String::from));
+        for verdict in must_be_seen {
+            if !self.seen.contains_key(&verdict) {
+                println!("compare: '{verdict}' never came up; a longer run is needed");
+                std::process::exit(1);
+            }
+        }
+        let verdicts: Vec<String> = self.seen.iter().map(|(verdict, times)| format!("{verdict} {times}")).collect();
+        println!("compare: verdicts: {}", verdicts.join(", "));
+        let counts: Vec<String> = self.counts.iter().map(|(digits, times)| format!("{digits} in {times}")).collect();
+        println!("compare: digits of the count of choices in random questions: {}", counts.join(", "));
+        println!("compare: {} verdicts of the second solver agree with all small trees", self.against_all_small_trees);
+        let sorts: Vec<String> = self.compared.iter().map(|(sort, count)| format!("{count} {sort}")).collect();
+        let total: u64 = self.compared.iter().map(|(_, count)| count).sum();
+        println!("compare: {total} inputs compared in {} s, none disagreed: {}", took.as_secs(), sorts.join("; "));
+    }
+}

@@ -1,0 +1,219 @@
+//! Random questions, and all that is asked about each.
+
+use crate::{disagree, Comparison};
+use questions::{crowded_path, free, planted, random_assignment, random_constraint, random_tree, Mix};
+use second::constraint::{self, number_of_variables, Constraint};
+use second::tree::{Assignment, Tree};
+use second::verdict::{hex, SolverVerdict};
+use second::{answer, LEAST_BUFFER};
+
+/// What the second solver says, and under which conditions.
+pub struct Solved {
+    pub file: Vec<u8>,
+    pub allowance: u32,
+    pub verdict: SolverVerdict,
+}
+
+impl Comparison {
+    /// One random question and all that is asked about it.
+    pub fn round(&mut self) {
+        let variables = 1 + self.random.below(16);
+        let records = match self.random.below(10) {
+            0 => self.random.below(257),
+            1 | 2 => self.random.below(8),
+            _ => self.random.below(3 * variables + 2),
+        };
+        let mix = Mix::random(&mut self.random);
+        let number_of_nodes = 1 + self.random.below(variables + 3);
+        let tree = random_tree(&mut self.random, number_of_nodes);
+        let assignment = random_assignment(&mut self.random, variables, &tree);
+        let (sort, constraints) = match self.random.below(16) {
+            0 => ("crowded paths", crowded_path(&mut self.random)),
+            1..=7 => ("planted questions", planted(&mut self.random, &tree, &assignment, records, &mix)),
+            8..=11 => {
+                let mut constraints = planted(&mut self.random, &tree, &assignment, records.min(254), &mix);
+                for _ in 0..1 + self.random.below(2) {
+                    let at = self.random.below(constraints.len() + 1);
+                    constraints.insert(at, random_constraint(&mut self.random, variables, &mix));
+                }
+                ("nearly planted questions", constraints)
+            }
+            _ => ("free questions", free(&mut self.random, variables, records, &mix)),
+        };
+        let allowance = self.affordable(number_of_variables(&constraints));
+        let file = constraint::write(&constraints);
+        let verdict = self.solve(sort, &file, LEAST_BUFFER, allowance);
+        if let SolverVerdict::Tree { count, .. } | SolverVerdict::None { count } = verdict {
+            *self.counts.entry(count.to_string().len()).or_default() += 1;
+        }
+        if sort == "planted questions" && matches!(verdict, SolverVerdict::None { .. }) {
+            disagree(sort, &format!("none, yet the planted tree meets\nconstraints {}", hex(&file)));
+        }
+        if number_of_variables(&constraints) <= 4 && self.random.one_in(4) {
+            let most_nodes = [7, 7, 6, 6, 5][number_of_variables(&constraints)];
+            self.check_meaning(&constraints, &verdict, most_nodes);
+        }
+        let solved = Solved { file, allowance, verdict };
+        self.allowances(&solved);
+        self.buffers(&solved);
+        self.other_order(&solved, &constraints);
+        self.damaged(&solved);
+        self.answers(&solved, &constraints, &tree, &assignment);
+    }
+
+    /// An allowance that keeps one naive search well below a second; now and then a larger one.
+    fn affordable(&mut self, variables: usize) -> u32 {
+        let usual = match variables {
+            0..=6 => 2_000,
+            7..=10 => 400,
+            _ => 60,
+        };
+        if self.random.one_in(50) {
+            10 * usual
+        } else {
+            usual
+        }
+    }
+
+    pub fn allowances(&mut self, solved: &Solved) {
+        const SORT: &str = "allowances around the count";
+        let count = match solved.verdict {
+            SolverVerdict::Tree { count, .. } | SolverVerdict::None { count } => count,
+            SolverVerdict::Spent { count } => {
+                for allowance in [0, 1, count / 2] {
+                    self.solve(SORT, &solved.file, LEAST_BUFFER, allowance);
+                }
+                return;
+            }
+            SolverVerdict::Refused(_) => return,
+        };
+        for allowance in [0, count.saturating_sub(1), count] {
+            self.solve(SORT, &solved.file, LEAST_BUFFER, allowance);
+        }
+        // A larger allowance never changes a tree or a none.
+        for allowance in [count + 1, u32::MAX] {
+            self.hold_solver(SORT, &solved.file, LEAST_BUFFER, allowance, &solved.verdict);
+        }
+    }
+
+    fn buffers(&mut self, solved: &Solved) {
+        for buffer in [0, 1, 131] {
+            self.solve("answer buffers", &solved.file, buffer, solved.allowance);
+        }
+        for buffer in [132, 133, 200] {
+            self.hold_solver("answer buffers", &solved.file, buffer, solved.allowance, &solved.verdict);
+        }
+    }
+
+    /// Verdict, count and bytes depend on the set of records alone.
+    fn other_order(&mut self, solved: &Solved, constraints: &[Constraint]) {
+        let mut reordered = constraints.to_vec();
+        self.random.shuffle(&mut reordered);
+        let file = constraint::write(&reordered);
+        self.hold_solver("reordered questions", &file, LEAST_BUFFER, solved.allowance, &solved.verdict);
+
+        let mut doubled = constraints.to_vec();
+        while !constraints.is_empty() && doubled.len() < 256 && !self.random.one_in(4) {
+            let at = self.random.below(doubled.len() + 1);
+            doubled.insert(at, self.random.pick(constraints));
+        }
+        let file = constraint::write(&doubled);
+        self.hold_solver("questions with doubled records", &file, LEAST_BUFFER, solved.allowance, &solved.verdict);
+    }
+
+    fn damaged(&mut self, solved: &Solved) {
+        for _ in 0..6 {
+            let file = self.damage(&solved.file);
+            let buffer = self.random.pick(&[0, 1, 131, 132, 133, 200]);
+            self.solve("damaged questions", &file, buffer, solved.allowance.min(60));
+            let answer_file = match &solved.verdict {
+                SolverVerdict::Tree { answer, .. } => answer.clone(),
+                _ => vec![1, 0, 0, 0],
+            };
+            let answer_length = self.random.pick(&[answer_file.len(), answer_file.len() - 1, 0]);
+            self.mark("damaged questions", &file, &answer_file[..answer_length]);
+        }
+    }
+
+    /// Damage for each of questions 1 to 6, one or two at a time, so that their order shows.
+    fn damage(&mut self, file: &[u8]) -> Vec<u8> {
+        let mut bytes = file.to_vec();
+        if bytes.is_empty() {
+            bytes.extend([2, 0, 0, 0]);
+        }
+        for _ in 0..1 + self.random.below(2) {
+            let record = 4 * self.random.below(bytes.len() / 4);
+            match self.random.below(8) {
+                0 => {
+                    let length = self.random.pick(&[1020, 1023, 1024, 1025, 1028, 1200, 2048, 70_000]);
+                    bytes = bytes.iter().copied().cycle().take(length).collect();
+                }
+                1 => {
+                    let length = bytes.len() + self.random.below(4);
+                    bytes.resize(length, 0);
+                }
+                2 => bytes[record] = self.random.pick(&[0, 9, 10, 16, 128, 255]),
+                3 => bytes[record + 1] = self.random.pick(&[15, 16, 17, 31, 128, 255]),
+                4 => bytes[record + 2] = self.random.pick(&[1, 15, 16, 17, 31, 128, 255]),
+                5 => bytes[record + 3] = self.random.pick(&[0, 1, 128, 255]),
+                6 => {
+                    bytes[record] = 8;
+                    bytes[record + 3] = 0;
+                }
+                _ => {
+                    let at = self.random.below(bytes.len());
+                    bytes[at] = self.random.byte();
+                }
+            }
+        }
+        bytes
+    }
+
+    /// Marks right answers, wrong ones, and each of some with every byte changed.
+    fn answers(&mut self, solved: &Solved, constraints: &[Constraint], tree: &Tree, assignment: &Assignment) {
+        let variables = number_of_variables(constraints);
+        let mut answer_files = Vec::new();
+        if let SolverVerdict::Tree { answer, .. } = &solved.verdict {
+            answer_files.push(answer.clone());
+        }
+        // The planted answer; a crowded path can have more variables than were placed.
+        if let Some(places) = assignment.0.get(..variables) {
+            answer_files.push(answer::write(tree, &Assignment(places.to_vec())));
+        }
+        let nodes = 1 + self.random.below(64);
+        let other_tree = random_tree(&mut self.random, nodes);
+        for tree in [tree, &other_tree] {
+            let assignment = random_assignment(&mut self.random, variables, tree);
+            answer_files.push(answer::write(tree, &assignment));
+        }
+        for answer_file in &answer_files {
+            self.mark("whole answers", &solved.file, answer_file);
+        }
+        if self.random.one_in(4) {
+            let at = self.random.below(answer_files.len());
+            self.mutated(&solved.file, &answer_files[at]);
+        }
+    }
+
+    fn mutated(&mut self, file: &[u8], answer_file: &[u8]) {
+        const SORT: &str = "mutated answers";
+        let mut mutant = answer_file.to_vec();
+        for at in 0..answer_file.len() {
+            let right = answer_file[at];
+            let chance = self.random.byte();
+            for wrong in [right.wrapping_add(1), right.wrapping_sub(1), 0, 1, 2, 255, chance] {
+                mutant[at] = wrong;
+                self.mark(SORT, file, &mutant);
+            }
+            mutant[at] = right;
+        }
+        for length in 0..answer_file.len() {
+            self.mark("shortened answers", file, &answer_file[..length]);
+        }
+        for at in (0..answer_file.len()).step_by(4) {
+            let (front, back) = answer_file.split_at(at);
+            self.mark("answers lacking a record", file, &[front, &back[4..]].concat());
+            self.mark("answers with a doubled record", file, &[front, &back[..4], back].concat());
+        }
+    }
+}

@@ -1,0 +1,128 @@
+//! What is compared whatever the seed: empty files, long answers, and all small questions and answers.
+
+use crate::rounds::Solved;
+use crate::Comparison;
+use second::constraint::{self, number_of_variables, Constraint, Variable};
+use second::verdict::SolverVerdict;
+use second::{answer, brute, LEAST_BUFFER};
+
+impl Comparison {
+    pub fn empty_files(&mut self) {
+        for buffer in [0, 1, 131, 132, 133, 200] {
+            for allowance in [0, 1, u32::MAX] {
+                self.solve("empty files", &[], buffer, allowance);
+            }
+        }
+        let one_node = [1, 0, 0, 0];
+        for (file, answer_file) in
+            [(&[][..], &[][..]), (&[], &one_node), (&[6, 0, 0, 0], &[]), (&[6, 0, 0, 0], &one_node)]
+        {
+            self.mark("empty files", file, answer_file);
+        }
+    }
+
+    /// Counts of records that a byte cannot hold.
+    pub fn long_answers(&mut self) {
+        for file in [&[][..], &[1, 0, 1, 0], &[7, 2, 0, 0]] {
+            for nodes in [0, 1, 2, 63, 64, 65, 128, 255, 256, 257, 258, 320, 20_000] {
+                for places in [0, 1, 2, 3, 255, 256, 257, 258, 259, 20_000] {
+                    let mut answer_file = Vec::new();
+                    for node in 0..nodes {
+                        answer_file.extend([1, node as u8, (node as u8).saturating_sub(1), 0]);
+                    }
+                    for variable in 0..places {
+                        answer_file.extend([2, variable as u8, 0, 0]);
+                    }
+                    self.mark("long answers", file, &answer_file);
+                }
+            }
+        }
+    }
+
+    pub fn all_small_questions(&mut self) {
+        self.all_sets_of("sets of up to 4 of all records over 2 variables", &all_records(2), 4);
+        self.all_sets_of("sets of up to 3 of all records over 3 variables", &all_records(3), 3);
+        self.all_sets_of("sets of up to 4 of the plain records over 3 variables", &plain_records(3), 4);
+        self.all_sets_of("sets of up to 5 of the joining records over 3 variables", &joining_records(3), 5);
+        self.all_sets_of("sets of up to 4 of the joining records over 4 variables", &joining_records(4), 4);
+    }
+
+    /// Smaller sets first, so that the first disagreement is a small one.
+    fn all_sets_of(&mut self, sort: &'static str, records: &[Constraint], most: usize) {
+        for size in 0..=most {
+            for_each_choice(records, size, &mut Vec::new(), &mut |constraints| {
+                let file = constraint::write(constraints);
+                let verdict = self.solve(sort, &file, LEAST_BUFFER, u32::MAX);
+                self.check_meaning(constraints, &verdict, number_of_variables(constraints) + 1);
+                if let SolverVerdict::Tree { count: 1.., .. } | SolverVerdict::None { count: 1.. } = verdict {
+                    self.allowances(&Solved { file, allowance: u32::MAX, verdict });
+                }
+            });
+        }
+    }
+
+    /// Every tree of up to 4 nodes, every assignment of 3 variables, every single record.
+    pub fn all_small_answers(&mut self) {
+        let records = all_records(3);
+        for nodes in 1..=4 {
+            for shape in brute::shapes(nodes) {
+                // Each label that the records name, and a blank.
+                let labels = [97, 98, 0, 97][..nodes].to_vec();
+                let tree = brute::tree_of_shape(&shape, labels);
+                for &record in &records {
+                    let variables = number_of_variables(&[record]);
+                    for assignment in brute::assignments(variables, nodes) {
+                        let answer_file = answer::write(&tree, &assignment);
+                        self.mark("all small answers to single records", &record.record(), &answer_file);
+                    }
+                }
+            }
+        }
+    }
+}
+
+/// Every record over these variables, with labels 97 and 98.
+fn all_records(variables: u8) -> Vec<Constraint> {
+    let mut records = Vec::new();
+    for x in (0..variables).map(Variable) {
+        for y in (0..variables).map(Variable) {
+            records.extend([Constraint::Child(x, y), Constraint::Below(x, y), Constraint::StrictlyBelow(x, y)]);
+            records.extend([Constraint::Same(x, y), Constraint::Differ(x, y)]);
+        }
+        records.extend([Constraint::Root(x), Constraint::Leaf(x), Constraint::Label(x, 97), Constraint::Label(x, 98)]);
+    }
+    records
+}
+
+/// Without x = y and without the mirror images of same and differ.
+fn plain_records(variables: u8) -> Vec<Constraint> {
+    let is_plain = |&record: &Constraint| match record {
+        Constraint::Child(x, y) | Constraint::Below(x, y) | Constraint::StrictlyBelow(x, y) => x != y,
+        Constraint::Same(x, y) | Constraint::Differ(x, y) => x < y,
+        _ => true,
+    };
+    all_records(variables).into_iter().filter(is_plain).collect()
+}
+
+/// The plain records of the kinds that make and decide joins; the other kinds are made of these, or labels.
+fn joining_records(variables: u8) -> Vec<Constraint> {
+    let joins = |record: &Constraint| [1, 2, 5, 6, 7].contains(&record.kind());
+    plain_records(variables).into_iter().filter(joins).collect()
+}
+
+/// Visits every choice of `size` of the records, repeats included, order left out.
+fn for_each_choice(
+    records: &[Constraint],
+    size: usize,
+    chosen: &mut Vec<Constraint>,
+    visit: &mut dyn FnMut(&[Constraint]),
+) {
+    if size == 0 {
+        return visit(chosen);
+    }
+    for (at, &record) in records.iter().enumerate() {
+        chosen.push(record);
+        for_each_choice(&records[at..], size - 1, chosen, visit);
+        chosen.pop();
+    }
+}

@@ -1,0 +1,151 @@
+//! Seeded questions for the comparison and for the stored corpus.
+
+use second::constraint::{Constraint, Variable};
+use second::tree::{meets, Assignment, Node, Tree};
+
+/// Splitmix64: the same seed gives the same questions on every machine.
+pub struct Random(u64);
+
+impl Random {
+    pub fn new(seed: u64) -> Random {
+        Random(seed)
+    }
+
+    pub fn next(&mut self) -> u64 {
+        self.0 = self.0.wrapping_add(0x9e3779b97f4a7c15);
+        let mut z = self.0;
+        z = (z ^ (z >> 30)).wrapping_mul(0xbf58476d1ce4e5b9);
+        z = (z ^ (z >> 27)).wrapping_mul(0x94d049bb133111eb);
+        z ^ (z >> 31)
+    }
+
+    /// A number from 0 to `limit` − 1.
+    pub fn below(&mut self, limit: usize) -> usize {
+        (self.next() % limit as u64) as usize
+    }
+
+    pub fn byte(&mut self) -> u8 {
+        self.below(256) as u8
+    }
+
+    pub fn one_in(&mut self, limit: usize) -> bool {
+        self.below(limit) == 0
+    }
+
+    pub fn pick<T: Copy>(&mut self, from: &[T]) -> T {
+        from[self.below(from.len())]
+    }
+
+    pub fn shuffle<T>(&mut self, list: &mut [T]) {
+        for last in (1..list.len()).rev() {
+            list.swap(last, self.below(last + 1));
+        }
+    }
+}
+
+/// Few labels, so that two records often ask for different ones; small letters, capitals and both ends of the range.
+const LABELS: [u8; 6] = [97, 98, 65, 66, 1, 255];
+
+/// What a file leans to.
+pub struct Mix {
+    /// The kinds drawn from, so that some come up more often than others.
+    kinds: Vec<u8>,
+    /// y is one of the first so many variables: where they are few, many variables are above each, and joins abound.
+    lowest: usize,
+}
+
+impl Mix {
+    pub fn random(random: &mut Random) -> Mix {
+        let mut kinds = Vec::new();
+        for kind in 1..=8 {
+            for _ in 0..random.pick(&[0, 1, 1, 2, 5]) {
+                kinds.push(kind);
+            }
+        }
+        if kinds.is_empty() {
+            kinds.extend(1..=8);
+        }
+        Mix { kinds, lowest: random.pick(&[1, 2, 3, 16, 16]) }
+    }
+}
+
+pub fn random_constraint(random: &mut Random, variables: usize, mix: &Mix) -> Constraint {
+    let x = Variable(random.below(variables) as u8);
+    let y = Variable(random.below(variables.min(mix.lowest)) as u8);
+    match random.pick(&mix.kinds) {
+        1 => Constraint::Child(x, y),
+        2 => Constraint::Below(x, y),
+        3 => Constraint::StrictlyBelow(x, y),
+        4 => Constraint::Same(x, y),
+        5 => Constraint::Differ(x, y),
+        6 => Constraint::Root(x),
+        7 => Constraint::Leaf(x),
+        _ => Constraint::Label(x, random.pick(&LABELS)),
+    }
+}
+
+pub fn free(random: &mut Random, variables: usize, records: usize, mix: &Mix) -> Vec<Constraint> {
+    (0..records).map(|_| random_constraint(random, variables, mix)).collect()
+}
+
+/// Constraints that one tree and assignment meet, drawn by chance; fewer than `records` where hardly any are met.
+pub fn planted(
+    random: &mut Random,
+    tree: &Tree,
+    assignment: &Assignment,
+    records: usize,
+    mix: &Mix,
+) -> Vec<Constraint> {
+    let variables = assignment.0.len();
+    let mut constraints = Vec::new();
+    for _ in 0..20 * records {
+        if constraints.len() == records {
+            break;
+        }
+        let constraint = match random_constraint(random, variables, mix) {
+            Constraint::Label(x, _) if tree.label(assignment.node_of(x)) > 0 => {
+                Constraint::Label(x, tree.label(assignment.node_of(x)))
+            }
+            other => other,
+        };
+        if meets(tree, assignment, constraint) {
+            constraints.push(constraint);
+        }
+    }
+    constraints
+}
+
+/// A long search: a path from the root down to one variable, and others that must stand on that path, some of them apart. Pigeons in
+/// holes: if more must stand apart than the path has nodes, there is no tree, and every way is tried.
+pub fn crowded_path(random: &mut Random) -> Vec<Constraint> {
+    let steps = random.below(4);
+    let others = 3 + random.below(5);
+    let apart = random.below(steps + 4).min(others);
+    let mut names: Vec<Variable> = (0..(1 + steps + others) as u8).map(Variable).collect();
+    random.shuffle(&mut names);
+    let (path, crowd) = names.split_at(1 + steps);
+    let mut constraints = vec![Constraint::Root(path[0])];
+    constraints.extend(path.windows(2).map(|step| Constraint::Child(step[0], step[1])));
+    constraints.extend(crowd.iter().map(|&x| Constraint::Below(x, path[steps])));
+    for (at, &x) in crowd[..apart].iter().enumerate() {
+        constraints.extend(crowd[..at].iter().map(|&y| Constraint::Differ(y, x)));
+    }
+    random.shuffle(&mut constraints);
+    constraints
+}
+
+/// Path-like, bushy or flat, with blanks.
+pub fn random_tree(random: &mut Random, nodes: usize) -> Tree {
+    let reach = random.pick(&[1, 2, 3, nodes]);
+    let mut tree = Tree { parents: Vec::new(), labels: Vec::new() };
+    for node in 0..nodes {
+        let parent = (node > 0).then(|| Node(node - 1 - random.below(reach.min(node))));
+        tree.parents.push(parent);
+        tree.labels.push(if random.one_in(3) { 0 } else { random.pick(&LABELS) });
+    }
+    tree
+}
+
+pub fn random_assignment(random: &mut Random, variables: usize, tree: &Tree) -> Assignment {
+    Assignment((0..variables).map(|_| Node(random.below(tree.parents.len()))).collect())
+}

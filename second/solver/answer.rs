@@ -1,0 +1,56 @@
+//! Answer files: questions 8 to 12, and the writer.
+
+use crate::tree::{Assignment, Node, Tree};
+use crate::Refusal;
+
+const NODE_RECORD: u8 = 1;
+const PLACE_RECORD: u8 = 2;
+
+pub fn read(file: &[u8], variables: usize) -> Result<(Tree, Assignment), Refusal> {
+    if file.len() % 4 != 0 {
+        return Err(Refusal(8));
+    }
+    let records: Vec<&[u8]> = file.chunks(4).collect();
+    let number_of_nodes = records.iter().take_while(|record| record[0] == NODE_RECORD).count();
+    let (nodes, places) = records.split_at(number_of_nodes);
+    if places.iter().any(|record| record[0] != PLACE_RECORD) {
+        return Err(Refusal(9));
+    }
+    if !(1..=64).contains(&nodes.len()) {
+        return Err(Refusal(10));
+    }
+    for (position, record) in nodes.iter().enumerate() {
+        let (own, parent) = (record[1] as usize, record[2] as usize);
+        let parent_fits = if position == 0 { parent == 0 } else { parent < position };
+        if own != position || !parent_fits {
+            return Err(Refusal(11));
+        }
+    }
+    let in_order = places.iter().enumerate().all(|(position, record)| {
+        let (variable, node) = (record[1] as usize, record[2] as usize);
+        variable == position && node < nodes.len() && record[3] == 0
+    });
+    if places.len() != variables || !in_order {
+        return Err(Refusal(12));
+    }
+    let parent_of = |(position, record): (usize, &&[u8])| (position > 0).then(|| Node(record[2] as usize));
+    let tree = Tree {
+        parents: nodes.iter().enumerate().map(parent_of).collect(),
+        labels: nodes.iter().map(|record| record[3]).collect(),
+    };
+    let assignment = Assignment(places.iter().map(|record| Node(record[2] as usize)).collect());
+    Ok((tree, assignment))
+}
+
+pub fn write(tree: &Tree, assignment: &Assignment) -> Vec<u8> {
+    let mut file = Vec::new();
+    for (number, parent) in tree.parents.iter().enumerate() {
+        // Node 0 writes 0 as its parent.
+        let parent = parent.unwrap_or(Node(0));
+        file.extend([NODE_RECORD, number as u8, parent.0 as u8, tree.labels[number]]);
+    }
+    for (variable, node) in assignment.0.iter().enumerate() {
+        file.extend([PLACE_RECORD, variable as u8, node.0 as u8, 0]);
+    }
+    file
+}

@@ -1,0 +1,160 @@
+//! Facts and the settled set: the least set that holds the given facts and is closed under the rules (source 000, rules 1 to 9).
+//! A round draws every conclusion of every rule from the facts held; rounds are repeated until one brings nothing new.
+
+use crate::constraint::{Constraint, Variable};
+use std::collections::BTreeSet;
+
+#[derive(Clone, Copy, PartialEq, Eq, PartialOrd, Ord, Debug)]
+pub enum Fact {
+    Child(Variable, Variable),
+    Below(Variable, Variable),
+    Differ(Variable, Variable),
+    Root(Variable),
+    Leaf(Variable),
+    Label(Variable, u8),
+}
+
+use Fact::*;
+
+/// Merging is said as below both ways.
+pub fn same(x: Variable, y: Variable) -> Vec<Fact> {
+    vec![Below(x, y), Below(y, x)]
+}
+
+pub fn facts_of(constraint: Constraint) -> Vec<Fact> {
+    match constraint {
+        Constraint::Child(x, y) => vec![Child(x, y)],
+        Constraint::Below(x, y) => vec![Below(x, y)],
+        Constraint::StrictlyBelow(x, y) => vec![Below(x, y), Differ(x, y)],
+        Constraint::Same(x, y) => same(x, y),
+        Constraint::Differ(x, y) => vec![Differ(x, y)],
+        Constraint::Root(x) => vec![Root(x)],
+        Constraint::Leaf(x) => vec![Leaf(x)],
+        Constraint::Label(x, label) => vec![Label(x, label)],
+    }
+}
+
+/// A settled set without a clash.
+#[derive(Clone, Debug)]
+pub struct Settled {
+    pub variables: Vec<Variable>,
+    facts: BTreeSet<Fact>,
+}
+
+impl Settled {
+    pub fn holds(&self, fact: Fact) -> bool {
+        self.facts.contains(&fact)
+    }
+
+    pub fn below(&self, x: Variable, y: Variable) -> bool {
+        self.holds(Below(x, y))
+    }
+
+    pub fn same(&self, x: Variable, y: Variable) -> bool {
+        self.below(x, y) && self.below(y, x)
+    }
+
+    pub fn label(&self, x: Variable) -> Option<u8> {
+        labels_of(&self.facts, x).next()
+    }
+
+    /// The settled set of these facts and some more, or nothing if it has a clash.
+    pub fn with(&self, more: &[Fact]) -> Option<Settled> {
+        let mut facts = self.facts.clone();
+        facts.extend(more);
+        settle(self.variables.clone(), facts)
+    }
+}
+
+/// The settled set of the constraints over variables 0 to n−1, or nothing if it has a clash.
+pub fn settle_constraints(constraints: &[Constraint], variables: usize) -> Option<Settled> {
+    let variables = (0..variables as u8).map(Variable).collect();
+    let facts = constraints.iter().flat_map(|&constraint| facts_of(constraint)).collect();
+    settle(variables, facts)
+}
+
+fn settle(variables: Vec<Variable>, mut facts: BTreeSet<Fact>) -> Option<Settled> {
+    loop {
+        if has_clash(&facts) {
+            return None;
+        }
+        let held = facts.len();
+        facts.extend(conclusions(&variables, &facts));
+        if facts.len() == held {
+            return Some(Settled { variables, facts });
+        }
+    }
+}
+
+/// Rules 8 and 9.
+fn has_clash(facts: &BTreeSet<Fact>) -> bool {
+    facts.iter().any(|&fact| match fact {
+        Differ(x, y) => x == y,
+        Label(x, label) => labels_of(facts, x).any(|other| other != label),
+        _ => false,
+    })
+}
+
+fn labels_of(facts: &BTreeSet<Fact>, x: Variable) -> impl Iterator<Item = u8> + '_ {
+    facts.range(Label(x, 0)..=Label(x, 255)).filter_map(|&fact| match fact {
+        Label(_, label) => Some(label),
+        _ => None,
+    })
+}
+
+/// What rules 1 to 7 give in one step, and the symmetry of differ.
+fn conclusions(variables: &[Variable], facts: &BTreeSet<Fact>) -> Vec<Fact> {
+    let mut drawn: Vec<Fact> = variables.iter().map(|&x| Below(x, x)).collect();
+    for &fact in facts {
+        match fact {
+            Child(x, z) => {
+                drawn.extend([Below(x, z), Differ(x, z)]);
+                for &y in variables {
+                    if facts.contains(&Child(y, z)) {
+                        drawn.extend(same(x, y));
+                    }
+                }
+            }
+            Below(x, y) => {
+                for &z in variables {
+                    if facts.contains(&Below(y, z)) {
+                        drawn.push(Below(x, z));
+                    }
+                }
+                if facts.contains(&Leaf(x)) {
+                    drawn.push(Below(y, x));
+                }
+                if x != y && facts.contains(&Below(y, x)) {
+                    drawn.extend(facts.iter().flat_map(|&shared| with_one_place_changed(shared, x, y)));
+                }
+            }
+            Differ(x, y) => drawn.push(Differ(y, x)),
+            Root(x) => drawn.extend(variables.iter().map(|&y| Below(x, y))),
+            Leaf(_) | Label(_, _) => {}
+        }
+    }
+    drawn
+}
+
+/// The facts that say of `other` what this one says of `variable`, one place at a time; none if it does not name `variable`.
+fn with_one_place_changed(fact: Fact, variable: Variable, other: Variable) -> Vec<Fact> {
+    let mut changed = Vec::new();
+    let mut change_pair = |x: Variable, y: Variable, make: fn(Variable, Variable) -> Fact| {
+        if x == variable {
+            changed.push(make(other, y));
+        }
+        if y == variable {
+            changed.push(make(x, other));
+        }
+    };
+    match fact {
+        Child(x, y) => change_pair(x, y, Child),
+        Below(x, y) => change_pair(x, y, Below),
+        Differ(x, y) => change_pair(x, y, Differ),
+        Root(x) if x == variable => changed.push(Root(other)),
+        Leaf(x) if x == variable => changed.push(Leaf(other)),
+        Label(x, label) if x == variable => changed.push(Label(other, label)),
+        Root(_) | Leaf(_) | Label(_, _) => {}
+    }
+    changed
+}

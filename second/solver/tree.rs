@@ -1,0 +1,67 @@
+//! Trees (source 004, definition 2.1, without document order), assignments, and when a constraint is met (source 000, section 2).
+
+use crate::constraint::{Constraint, Variable};
+
+#[derive(Clone, Copy, PartialEq, Eq, Debug)]
+pub struct Node(pub usize);
+
+#[derive(Clone, PartialEq, Eq, Debug)]
+pub struct Tree {
+    /// The parent of each node; only node 0 has none, and every other parent has a smaller number than its node.
+    pub parents: Vec<Option<Node>>,
+    pub labels: Vec<u8>,
+}
+
+/// The node of each variable. Only here does a variable become a node.
+#[derive(Clone, PartialEq, Eq, Debug)]
+pub struct Assignment(pub Vec<Node>);
+
+impl Assignment {
+    pub fn node_of(&self, variable: Variable) -> Node {
+        self.0[variable.0 as usize]
+    }
+}
+
+impl Tree {
+    pub fn parent(&self, node: Node) -> Option<Node> {
+        self.parents[node.0]
+    }
+
+    pub fn label(&self, node: Node) -> u8 {
+        self.labels[node.0]
+    }
+
+    pub fn has_child(&self, node: Node) -> bool {
+        self.parents.contains(&Some(node))
+    }
+
+    /// Walks up from `node`: is `above` the node itself or an ancestor of it?
+    pub fn is_at_or_above(&self, above: Node, node: Node) -> bool {
+        let mut here = Some(node);
+        while let Some(reached) = here {
+            if reached == above {
+                return true;
+            }
+            here = self.parent(reached);
+        }
+        false
+    }
+}
+
+pub fn meets(tree: &Tree, assignment: &Assignment, constraint: Constraint) -> bool {
+    let node = |variable| assignment.node_of(variable);
+    match constraint {
+        Constraint::Child(x, y) => tree.parent(node(y)) == Some(node(x)),
+        Constraint::Below(x, y) => tree.is_at_or_above(node(x), node(y)),
+        Constraint::StrictlyBelow(x, y) => tree.is_at_or_above(node(x), node(y)) && node(x) != node(y),
+        Constraint::Same(x, y) => node(x) == node(y),
+        Constraint::Differ(x, y) => node(x) != node(y),
+        Constraint::Root(x) => tree.parent(node(x)).is_none(),
+        Constraint::Leaf(x) => !tree.has_child(node(x)),
+        Constraint::Label(x, label) => tree.label(node(x)) == label,
+    }
+}
+
+pub fn first_unmet(tree: &Tree, assignment: &Assignment, constraints: &[Constraint]) -> Option<usize> {
+    constraints.iter().position(|&constraint| !meets(tree, assignment, constraint))
+}
