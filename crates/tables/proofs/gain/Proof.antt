@@ -1,0 +1,14 @@
+use Rattle.tables.specs.Rows.{gained}
+use borrow.Author.Needs.{needs}
+use Rattle.tables.proofs.gain.Statement.{statement}
+use Rattle.tables.proofs.gain.Tie as tie
+
+when-requires : tie.Need-when-requires
+when-requires c κs = search needs
+
+returns : tie.Need-returns
+unfolding gained
+returns c = rw (c .when .ensures)
+
+pub gain-spec : {M : Type 1} → statement M
+gain-spec = tie.close (tie.spec when-requires returns)
