@@ -20,17 +20,14 @@ use Rattle.meaning.proofs.Lists.{picked-out}
 use Rattle.meaning.proofs.Nodes.{length-picked, layers-most}
 use Rattle.rowbits.specs.Bit.{bit}
 use Rattle.tables.specs.declared.Facts.{Facts}
+use Rattle.tables.specs.Rows.{without}
 use Rattle.tables.specs.Tables.{row, has, Columns}
-use Rattle.readoff.specs.Rows.{Gathered, apart, overRow, isLow, deep, inLayer, near}
+use Rattle.tables.proofs.Bits.{all-has}
+use Rattle.readoff.specs.Rows.{Gathered, overRow, isLow, deep, inLayer, near}
 use Rattle.readoff.specs.Listing.{listed, placeIn, parentIn, nodeIn}
-use Rattle.readoff.proofs.Bits.{yes-not, bit-meet, bit-apart, all-has, sum-eq, any-eq, picked-eq, counted, ones-zero, empty, gathered-picked}
+use Rattle.readoff.proofs.Bits.{and-true, bit-meet, bit-without, sum-eq, any-eq, picked-eq, counted, ones-zero, empty, gathered-picked}
 use Rattle.readoff.proofs.Layered.{Layered}
 use Rattle.readoff.proofs.Listing.{position-eq}
-
-and-true : (a : Bool) → (a and true) ≡ a
-unfolding _and_
-and-true true = refl
-and-true false = refl
 
 and-turn : (a b : Bool) → (a and b) ≡ (b and a)
 unfolding _and_
@@ -90,13 +87,13 @@ label-is f n g h = smallest-only 256 (row (f .label) g) h
 module _ (f : Facts) (n : ℕ) (few : n ≤ 16) (m : Columns (f .below) (f .above)) where
   -- ---- over, same
 
-  over-is : (x y : ℕ) → x < 16 → y < 16 → bit (apart (row (f .above) x) (row (f .below) x)) y ≡ over n (has f) y x
+  over-is : (x y : ℕ) → x < 16 → y < 16 → bit (without (row (f .above) x) (row (f .below) x)) y ≡ over n (has f) y x
   unfolding over has
-  over-is x y h k = bit-apart (row (f .above) x) (row (f .below) x) y k ∙ ap (λ (b : Bool). b and neg (bit (row (f .below) x) y)) (m y x k h)
+  over-is x y h k = bit-without (row (f .above) x) (row (f .below) x) y k ∙ ap (λ (b : Bool). b and neg (bit (row (f .below) x) y)) (m y x k h)
 
-  under-is : (w k : ℕ) → w < 16 → k < 16 → bit (apart (row (f .below) w) (row (f .above) w)) k ≡ over n (has f) w k
+  under-is : (w k : ℕ) → w < 16 → k < 16 → bit (without (row (f .below) w) (row (f .above) w)) k ≡ over n (has f) w k
   unfolding over has
-  under-is w k h l = bit-apart (row (f .below) w) (row (f .above) w) k l ∙ ap (λ (b : Bool). bit (row (f .below) w) k and neg b) (m k w l h)
+  under-is w k h l = bit-without (row (f .below) w) (row (f .above) w) k l ∙ ap (λ (b : Bool). bit (row (f .below) w) k and neg b) (m k w l h)
 
   same-is : (x y : ℕ) → x < 16 → y < 16 → bit (bitAnd (row (f .above) x) (row (f .below) x)) y ≡ same (has f) y x
   unfolding same has
@@ -107,21 +104,21 @@ module _ (f : Facts) (n : ℕ) (few : n ≤ 16) (m : Columns (f .below) (f .abov
 
   rowOf-small : (x : ℕ) → rowOf x < 2 ^ n
   unfolding overRow
-  rowOf-small x = mask-lt (apart (row (f .above) x) (row (f .below) x)) n
+  rowOf-small x = mask-lt (without (row (f .above) x) (row (f .below) x)) n
 
   rowOf-is : (x y : ℕ) → x < 16 → y < n → bit (rowOf x) y ≡ over n (has f) y x
   unfolding overRow
   rowOf-is x y h k =
-      bit-meet (apart (row (f .above) x) (row (f .below) x)) (2 ^ n - 1) y
-      ∙ ap (λ (b : Bool). bit (apart (row (f .above) x) (row (f .below) x)) y and b) (all-has n y k) ∙ and-true _ ∙ over-is x y h (omega arith)
+      bit-meet (without (row (f .above) x) (row (f .below) x)) (2 ^ n - 1) y
+      ∙ ap (λ (b : Bool). bit (without (row (f .above) x) (row (f .below) x)) y and b) (all-has n y k) ∙ and-true _ ∙ over-is x y h (omega arith)
 
   near-is : (x w : ℕ) → x < n → w < n → near (f .below) (f .above) (rowOf x) w ≡ nearest n (has f) w x
   unfolding near nearest
   near-is x w h l =
       rw (rowOf-is x w (omega arith) l) (ap (λ (b : Bool). over n (has f) w x and b)
-      (empty n (bitAnd (rowOf x) (apart (row (f .below) w) (row (f .above) w))) (le-trans (suc-le-suc (and-le-l (rowOf x) _)) (rowOf-small x))
+      (empty n (bitAnd (rowOf x) (without (row (f .below) w) (row (f .above) w))) (le-trans (suc-le-suc (and-le-l (rowOf x) _)) (rowOf-small x))
       ∙ ap neg (any-eq n _ (λ k. over n (has f) k x and over n (has f) w k)
-      (λ k q. bit-meet (rowOf x) (apart (row (f .below) w) (row (f .above) w)) k ∙ rw (rowOf-is x k (omega arith) q, under-is w k (omega arith) (omega arith))))))
+      (λ k q. bit-meet (rowOf x) (without (row (f .below) w) (row (f .above) w)) k ∙ rw (rowOf-is x k (omega arith) q, under-is w k (omega arith) (omega arith))))))
 
   -- ---- the lowest variables, and the depth of each
 

@@ -6,7 +6,7 @@ use Rattle.meaning.proofs.Tests.{eq-yes, is-eq}
 use Rattle.readoff.specs.Rows.{near}
 use Rattle.readoff.specs.Listing.{parentIn}
 use Rattle.readoff.proofs.Bits.{yes-not}
-use Rattle.readoff.proofs.Helpers.{pick-on, pick-off}
+use Rattle.tables.proofs.Helpers.{pick-on, pick-off}
 use Rattle.readoff.proofs.Listing.{length-mapped, place-most}
 use borrow.Author.Needs.{needs}
 use Rattle.readoff.proofs.parent_of.Statement.{statement}
