@@ -1,13 +1,12 @@
 -- The three runs of bytes that are written, the blank node, the groups and the places, are the answer file.
-use mathlib.Core.Path.{_≡_, refl, sym, ap, _∙_, subst}
-use mathlib.Core.Bool.{Bool}
+use mathlib.Core.Path.{_≡_, refl, sym, ap, _∙_}
 use mathlib.Core.List.{List, [], _∷_, _++_, map}
 use Prim.Native.Nat.{ℕ, zero, suc, _+_, _*_, _≤_, _<_}
 use native.Mathlib.Nat.{zero-add}
 use native.Mathlib.Omega.{arith}
 use lib.Count.{ones}
 use lib.Dec.{eqb}
-use lib.ListN.{length, take, drop, length-append, length-map}
+use lib.ListN.{length, drop, length-append, length-map}
 use Rattle.meaning.specs.Finite.{pick, one, neg, tab}
 use Rattle.meaning.specs.ReadOff.{FactSet, order, blank, parentOf, labelOf, NodeRecord, blankRecord, nodes, place, places, nodeBytes, placeBytes, answerFile}
 use Rattle.meaning.proofs.Finite.{length-tab}

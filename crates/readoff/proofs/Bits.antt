@@ -1,22 +1,22 @@
 -- Laws of rows beyond those of `tables`: how many numbers a row has, when it is empty, and a row that gathers what passes a test.
 use mathlib.Core.Path.{_≡_, refl, sym, ap, _∙_, subst}
-use mathlib.Core.Logic.{_≢_, _⊎_, inl, inr, ⊎-elim}
-use mathlib.Core.Bool.{Bool, true, false, _||_, _&&_, not, false≢true}
+use mathlib.Core.Logic.{_≢_}
+use mathlib.Core.Bool.{Bool, true, false, _||_, false≢true}
 use mathlib.Core.List.{List, [], _∷_, _++_, append-nil}
-use Prim.Native.Nat.{ℕ, zero, suc, _+_, _-_, _*_, _/_, _%_, _^_, _<_, _≤_, zero-le}
-use native.Mathlib.Nat.{le-refl, le-trans, le-step, not-suc-le-zero, mod-lt, div-eq-of-lt, pow-suc, mod-eq-of-lt, mul-add-mod-self-right, add-zero, div-div-eq-div-mul, mul-comm, div-one, le-of-suc-le-suc}
-use native.Mathlib.Decide.{decLt, ℕ-discrete}
+use Prim.Native.Nat.{ℕ, zero, suc, _+_, _-_, _*_, _/_, _%_, _^_, _<_, _≤_}
+use native.Mathlib.Nat.{le-refl, le-trans, le-step, not-suc-le-zero, mod-lt, div-eq-of-lt, pow-suc, div-div-eq-div-mul, mul-comm, div-one}
+use native.Mathlib.Decide.{ℕ-discrete}
 use native.Mathlib.Omega.{arith}
 use lib.Arith.{lt-one}
 use lib.Bits.{bitAnd, and-mask, or-zero-r}
 use lib.Count.{ones, ones-step, ones-cat}
 use lib.Dec.{eqb}
-use lib.Pow.{pow-mono, pow-pos, pow-lt, shr-shr, shr-lt, split}
+use lib.Pow.{pow-mono, pow-pos, shr-lt, split}
 use Rattle.meaning.specs.Finite.{Yes, _and_, neg, pick, anyb, one, sum, picked}
-use Rattle.meaning.proofs.Tests.{clash, yes-case, yes-eq, no-neg, pick-yes, pick-no, is-eq, eq-yes, self-eq, and-left, and-right, and-both}
-use Rattle.meaning.proofs.Finite.{any-intro, any-elim, split-lt}
+use Rattle.meaning.proofs.Tests.{clash, yes-eq, no-neg, is-eq, eq-yes, self-eq, and-left, and-right, and-both}
+use Rattle.meaning.proofs.Finite.{any-intro, any-elim}
 use Rattle.rowbits.specs.Bit.{bit, withBit}
-use Rattle.rowbits.proofs.Laws.{bit-or, bit-and, bit-one, bit-with, bit-none, with-lt}
+use Rattle.rowbits.proofs.Laws.{bit-and, bit-with, bit-none, with-lt}
 use Rattle.tables.specs.Rows.{gained, marked, without}
 use Rattle.tables.proofs.Bits.{all-has, without-in, without-out}
 use Rattle.tables.proofs.Helpers.{and-is}

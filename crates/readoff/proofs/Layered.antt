@@ -1,16 +1,15 @@
 -- The layers as rows: one variable more goes into the layer of its depth, if it is the lowest of its group.
 use mathlib.Core.Path.{_≡_, refl, sym, ap, _∙_, subst}
-use mathlib.Core.Bool.{Bool, true, false}
+use mathlib.Core.Bool.{Bool, false}
 use mathlib.Core.List.{List}
 use Prim.Native.Nat.{ℕ, _+_, _^_, _<_}
 use native.Mathlib.Decide.{ℕ-discrete}
 use native.Mathlib.Omega.{arith}
 use lib.Bits.{bitAnd}
 use lib.Count.{ones}
-use lib.Dec.{eqb}
 use lib.ListN.{length, set, replicate, getD-replicate}
 use lib.Seq.{getD-set-same, getD-set-other}
-use Rattle.meaning.specs.Finite.{pick, _and_}
+use Rattle.meaning.specs.Finite.{_and_}
 use Rattle.meaning.proofs.Tests.{eq-yes, is-eq}
 use Rattle.rowbits.specs.Bit.{bit}
 use Rattle.tables.specs.Rows.{marked}

@@ -8,8 +8,8 @@ use native.Mathlib.Nat.{le-refl, le-step, le-trans, not-suc-le-zero, le-of-suc-l
 use native.Mathlib.Decide.{decLt, ℕ-discrete}
 use native.Mathlib.Numerals.{add-one}
 use native.Mathlib.Omega.{arith}
-use lib.ListN.{length, getD, take, drop, set, length-append, length-map, length-take, length-set, List·getD-map}
-use lib.Seq.{drop-cons, drop-nil, take-suc-set, length-take-le, getD-take, take-set-le}
+use lib.ListN.{length, getD, take, drop, set, length-append, length-map, length-set}
+use lib.Seq.{drop-cons, drop-nil, take-suc-set, length-take-le, getD-take}
 use Rattle.meaning.specs.Finite.{Yes, _and_, neg, pick, picked, position}
 use Rattle.meaning.proofs.Tests.{pick-yes, pick-no, is-eq}
 use Rattle.meaning.proofs.Lists.{picked-out, picked-none, getD-mem}

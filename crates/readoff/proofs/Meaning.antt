@@ -1,19 +1,18 @@
 -- What the rows say of groups is what the definitions say, where `above` has the columns of `below`.
-use mathlib.Core.Path.{_≡_, refl, sym, ap, _∙_, subst}
+use mathlib.Core.Path.{_≡_, refl, sym, ap, _∙_}
 use mathlib.Core.Logic.{⊎-elim}
-use mathlib.Core.Bool.{Bool, true, false, false≢true}
-use mathlib.Core.List.{List, [], _∷_, _++_, map, List·Memᴰ, List·Memᴰ·head, List·Memᴰ·tail, List·Memᴰ·append-cases, List·Memᴰ·not-nil}
+use mathlib.Core.Bool.{Bool, true, false}
+use mathlib.Core.List.{List, [], _∷_, map, List·Memᴰ, List·Memᴰ·head, List·Memᴰ·tail, List·Memᴰ·append-cases, List·Memᴰ·not-nil}
 use Prim.Native.Nat.{ℕ, zero, suc, _+_, _-_, _*_, _^_, _≤_, _<_, suc-le-suc}
 use native.Mathlib.Nat.{le-refl, le-trans, le-step}
 use native.Mathlib.Omega.{arith}
-use lib.Bits.{bitAnd, and-le-l, and-le-r, mask-lt}
+use lib.Bits.{bitAnd, and-le-l, mask-lt}
 use lib.Count.{ones}
 use lib.Dec.{eqb, ltb}
-use lib.ListN.{length, getD}
-use lib.Pow.{pow-mono, ones-lt}
-use Rattle.meaning.specs.Constraint.{below, label}
-use Rattle.meaning.specs.Finite.{Yes, pick, _and_, neg, anyb, one, sum, picked, position, smallest, tab}
-use Rattle.meaning.specs.ReadOff.{FactSet, same, over, lowest, depth, layer, layers, order, blank, place, nearest, parentOf, labelOf, NodeRecord, places}
+use lib.ListN.{length}
+use lib.Pow.{pow-mono}
+use Rattle.meaning.specs.Finite.{Yes, _and_, neg, one, sum, picked, smallest, tab}
+use Rattle.meaning.specs.ReadOff.{FactSet, same, over, lowest, depth, layer, layers, order, blank, place, nearest, parentOf, labelOf, places}
 use Rattle.meaning.proofs.Tests.{clash, yes-case, is-eq, eq-yes, self-eq, and-left, and-right, and-both, no-neg}
 use Rattle.meaning.proofs.Finite.{any-intro, any-elim, one-most, sum-bound, smallest-passes, smallest-none}
 use Rattle.meaning.proofs.Lists.{picked-out}

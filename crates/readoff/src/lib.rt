@@ -1,7 +1,6 @@
 // The answer file of settled tables: a node for each group of same variables, by depth and then by lowest variable, and the node of each
 // variable.
 ghost use mathlib.Core.Path.{_≡_};
-ghost use mathlib.Core.Bool.{Bool};
 ghost use mathlib.Core.List.{[], _∷_, _++_, map};
 ghost use Prim.Native.Nat.{ℕ, _+_, _-_, _*_, _^_, _<_, _≤_};
 ghost use lib.Bits.{bitAnd};
@@ -21,11 +20,12 @@ use ids::Var;
 use tables::Facts;
 
 // The groups in the order of their nodes, each by its lowest variable.
-pub struct Order {
-    pub group: [Var; 16],
-    pub len: usize,
+struct Order {
+    group: [Var; 16],
+    len: usize,
 }
 
+// The variables below n that are over one, which has these rows of what is above and below it.
 fn over(up: u16, down: u16, n: usize) -> u16
     requires { ⌜ n ≤ 16 ⌝ }
     ensures { λ r. ⌜ r ≡ overRow n up down ⌝ }
@@ -77,7 +77,7 @@ fn layers(below: [u16; 16], above: [u16; 16], lows: u16, n: usize) -> [u16; 17]
     layer
 }
 
-// The members of a row, put behind those of the order.
+// The order with the members of a row behind it.
 fn append(order: Order, row: u16) -> Order
     requires { ⌜ Small order × (length (groups order) + length (picked 16 (bit row)) ≤ 16) ⌝ }
     ensures { λ r. ⌜ Listed (groups order ++ picked 16 (bit row)) r ⌝ }
@@ -94,6 +94,7 @@ fn append(order: Order, row: u16) -> Order
     o
 }
 
+// The groups layer by layer.
 fn in_order(layer: [u16; 17], n: usize) -> Order
     requires { ⌜ (n ≤ 16) × (length (listed layer n) ≤ 16) ⌝ }
     ensures { λ r. ⌜ Listed (listed layer n) r ⌝ }
