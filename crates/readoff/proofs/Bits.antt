@@ -1,11 +1,10 @@
 -- Laws of rows beyond those of `tables`: how many numbers a row has, when it is empty, and a row that gathers what passes a test.
 use mathlib.Core.Path.{_≡_, refl, sym, ap, _∙_, subst}
-use mathlib.Core.Logic.{_≢_}
 use mathlib.Core.Bool.{Bool, true, false, _||_, false≢true}
 use mathlib.Core.List.{List, [], _∷_, _++_, append-nil}
 use Prim.Native.Nat.{ℕ, zero, suc, _+_, _-_, _*_, _/_, _%_, _^_, _<_, _≤_}
-use native.Mathlib.Nat.{le-refl, le-trans, le-step, not-suc-le-zero, mod-lt, div-eq-of-lt, pow-suc, div-div-eq-div-mul, mul-comm, div-one}
-use native.Mathlib.Decide.{ℕ-discrete}
+use native.Mathlib.Nat.{le-refl, le-trans, le-step, not-suc-le-zero, mod-lt, div-eq-of-lt, pow-suc}
+use native.Mathlib.Decide.{decLt, ℕ-discrete}
 use native.Mathlib.Omega.{arith}
 use lib.Arith.{lt-one}
 use lib.Bits.{bitAnd, and-mask, or-zero-r}
@@ -18,7 +17,7 @@ use Rattle.meaning.proofs.Finite.{any-intro, any-elim}
 use Rattle.rowbits.specs.Bit.{bit, withBit}
 use Rattle.rowbits.proofs.Laws.{bit-and, bit-with, bit-none, with-lt}
 use Rattle.tables.specs.Rows.{gained, marked, without}
-use Rattle.tables.proofs.Bits.{all-has, without-in, without-out}
+use Rattle.tables.proofs.Bits.{all-has, some-in, without-in, without-out}
 use Rattle.tables.proofs.Helpers.{and-is}
 use Rattle.readoff.specs.Rows.{Gathered}
 
@@ -50,23 +49,13 @@ or-false false = refl
 pub bit-meet : (a b i : ℕ) → bit (bitAnd a b) i ≡ (bit a i and bit b i)
 bit-meet a b i = bit-and a b i ∙ and-is _ _
 
-pub bit-past : (k a i : ℕ) → a < 2 ^ k → k ≤ i → bit a i ≡ false
+bit-past : (k a i : ℕ) → a < 2 ^ k → k ≤ i → bit a i ≡ false
 unfolding bit
 bit-past k a i h l =
     let m : 2 ^ k ≤ 2 ^ i = pow-mono l in
     rw (div-eq-of-lt (le-trans h m))
 
-bit-zero : (a : ℕ) → bit a 0 ≡ eqb (a % 2) 1
-unfolding bit
-bit-zero a = ap (λ (k : ℕ). eqb (k % 2) 1) (div-one a)
-
-bit-half : (a i : ℕ) → bit a (suc i) ≡ bit (a / 2) i
-unfolding bit
-bit-half a i =
-    let e : a / 2 / 2 ^ i ≡ a / 2 ^ suc i = div-div-eq-div-mul a 2 (2 ^ i) ∙ ap (λ (k : ℕ). a / k) (mul-comm 2 (2 ^ i) ∙ sym (pow-suc 2 i)) in
-    rw e
-
-pub bit-mod : (k a i : ℕ) → i < k → bit (a % 2 ^ k) i ≡ bit a i
+bit-mod : (k a i : ℕ) → i < k → bit (a % 2 ^ k) i ≡ bit a i
 bit-mod k a i h =
     ap (λ (b : ℕ). bit b i) (sym (and-mask a k)) ∙ bit-meet a (2 ^ k - 1) i ∙ ap (λ (b : Bool). bit a i and b) (all-has k i h) ∙ and-true _
 
@@ -97,7 +86,7 @@ picked-eq zero p q h = refl
 picked-eq (suc n) p q h = rw (picked-eq n p q (λ k l. h k (le-step l)), h n (le-refl _))
 
 -- nothing passes the test between k and m
-pub picked-stop : (k m : ℕ) (p : ℕ → Bool) → k ≤ m → ((y : ℕ) → k ≤ y → y < m → p y ≡ false) → picked m p ≡ picked k p
+picked-stop : (k m : ℕ) (p : ℕ → Bool) → k ≤ m → ((y : ℕ) → k ≤ y → y < m → p y ≡ false) → picked m p ≡ picked k p
 unfolding picked pick
 picked-stop k zero p l h = let e : 0 ≡ k = omega arith in ap (λ (i : ℕ). picked i p) e
 picked-stop k (suc m) p l h = go (ℕ-discrete k (suc m)) (λ q. picked-stop k m p q (λ y a b. h y a (le-step b)))
@@ -140,22 +129,19 @@ pub ones-zero : (a : ℕ) → a < 65536 → eqb (ones a) 0 ≡ eqb a 0
 unfolding ones
 ones-zero a h = yes-eq _ _ (λ t. eq-yes (ones-none 16 a h (is-eq t))) (λ t. eq-yes (ap ones (is-eq {x = a} {y = 0} t)))
 
-pub empty : (k a : ℕ) → a < 2 ^ k → eqb a 0 ≡ neg (anyb k (bit a))
-empty k a h =
+pub empty : (k a : ℕ) → k ≤ 16 → a < 2 ^ k → eqb a 0 ≡ neg (anyb k (bit a))
+empty k a l h =
     yes-eq _ _
     (λ t. no-neg (λ u. let w = any-elim k (bit a) u in not-yes (ap (λ (i : ℕ). bit i (w .0)) (is-eq t) ∙ bit-none (w .0)) (w .2)))
-    (λ z. eq-yes (none k a h (λ i l. yes-not (λ u. clash (any-intro k (bit a) i l u) z))))
+    (λ z. eq-yes (go z (ℕ-discrete a 0)))
   where
-    even : (a : ℕ) → a / 2 ≡ 0 → a % 2 ≢ 1 → Dec (a % 2 ≡ 1) → a ≡ 0
-    even a r z (yes e) = absurd (z e)
-    even a r z (no e) = omega arith
+    member : Yes (neg (anyb k (bit a))) → (i : ℕ) → Yes (bit a i) → Dec (i < k) → a ≡ 0
+    member z i u (yes q) = clash (any-intro k (bit a) i q u) z
+    member z i u (no q) = absurd (not-yes (bit-past k a i h (omega arith)) u)
 
-    none : (k a : ℕ) → a < 2 ^ k → ((i : ℕ) → i < k → bit a i ≡ false) → a ≡ 0
-    none zero a h f = lt-one h
-    none (suc k) a h f =
-        let p : 2 ^ suc k ≡ 2 ^ k * 2 = pow-suc 2 k in
-        even a (none k (a / 2) (omega arith) (λ i l. sym (bit-half a i) ∙ f (suc i) (omega arith)))
-        (λ e. not-yes (f 0 (omega arith)) (bit-zero a ∙ eq-yes e)) (ℕ-discrete (a % 2) 1)
+    go : Yes (neg (anyb k (bit a))) → Dec (a ≡ 0) → a ≡ 0
+    go z (yes e) = e
+    go z (no e) = let w = some-in a (le-trans h (pow-mono {i = k} {j = 16} l)) e in member z (w .0) (w .1) (decLt (w .0) k)
 
 -- ---- a row that gathers the numbers that pass a test
 

@@ -25,7 +25,7 @@ use Rattle.readoff.proofs.Bits.{not-yes, yes-not, and-true, bit-without
 
 -- ---- the place of the first that passes a test
 
-pub position-most : (p : ℕ → Bool) (xs : List ℕ) → position p xs ≤ length xs
+position-most : (p : ℕ → Bool) (xs : List ℕ) → position p xs ≤ length xs
 unfolding position pick
 position-most p [] = le-refl _
 position-most p (x ∷ xs) = go (p x) (position-most p xs)
@@ -39,15 +39,15 @@ unfolding position
 position-eq p q [] h = refl
 position-eq p q (x ∷ xs) h = rw (h x (List·Memᴰ·head refl), position-eq p q xs (λ y m. h y (List·Memᴰ·tail m)))
 
-pub position-here : (p : ℕ → Bool) (xs : List ℕ) (i : ℕ) → i < length xs → p (getD xs i 0) ≡ true → position p (drop i xs) ≡ 0
+position-here : (p : ℕ → Bool) (xs : List ℕ) (i : ℕ) → i < length xs → p (getD xs i 0) ≡ true → position p (drop i xs) ≡ 0
 unfolding position
 position-here p xs i l e = rw (drop-cons xs i 0) (pick-yes _ _ e)
 
-pub position-next : (p : ℕ → Bool) (xs : List ℕ) (i : ℕ) → i < length xs → p (getD xs i 0) ≡ false → position p (drop i xs) ≡ suc (position p (drop (i + 1) xs))
+position-next : (p : ℕ → Bool) (xs : List ℕ) (i : ℕ) → i < length xs → p (getD xs i 0) ≡ false → position p (drop i xs) ≡ suc (position p (drop (i + 1) xs))
 unfolding position
 position-next p xs i l e = rw (add-one, drop-cons xs i 0) (pick-no _ _ (not-yes e))
 
-pub position-end : (p : ℕ → Bool) (xs : List ℕ) (i : ℕ) → length xs ≤ i → position p (drop i xs) ≡ 0
+position-end : (p : ℕ → Bool) (xs : List ℕ) (i : ℕ) → length xs ≤ i → position p (drop i xs) ≡ 0
 unfolding position
 position-end p [] i l = ap (position p) (drop-nil i)
 position-end p (x ∷ xs) zero l = absurd (not-suc-le-zero l)
@@ -63,7 +63,7 @@ pub length-groups : (o : Order) → o .len ≤ length (o .group) → length (gro
 unfolding groups
 length-groups o h = length-map (take (o .len) (o .group)) (λ (v : Var). v .0) ∙ length-take-le (o .len) (o .group) h
 
-pub group-at : (o : Order) (i : ℕ) (d : Var) → o .len ≤ length (o .group) → i < o .len → getD (groups o) i 0 ≡ getD (o .group) i d .0
+group-at : (o : Order) (i : ℕ) (d : Var) → o .len ≤ length (o .group) → i < o .len → getD (groups o) i 0 ≡ getD (o .group) i d .0
 unfolding groups
 group-at o i d h l =
     at (take (o .len) (o .group)) i (subst (λ (k : ℕ). i < k) (sym (length-take-le (o .len) (o .group) h)) l)
@@ -120,14 +120,14 @@ picked-first (suc n) p q x l t f z h = go (ℕ-discrete x n) (λ k. picked-first
         rw (none, same, ← e, t, z)
     go (no e) r = rw (r (omega arith), h n (le-refl _) (λ d. e (sym d)))
 
-pub groups-more : (o : Order) (x : ℕ) → o .len < length (o .group) → groups (record { group = set (o .group) (o .len) record { 0 = x }; len = o .len + 1 }) ≡ groups o ++ x ∷ []
+groups-more : (o : Order) (x : ℕ) → o .len < length (o .group) → groups (record { group = set (o .group) (o .len) record { 0 = x }; len = o .len + 1 }) ≡ groups o ++ x ∷ []
 unfolding groups
 groups-more o x l =
     ap (map (λ (v : Var). v .0)) (ap (λ (k : ℕ). take k (set (o .group) (o .len) record { 0 = x })) (add-one (o .len)) ∙ take-suc-set (o .group) (o .len) record { 0 = x } l)
     ∙ map-append (λ (v : Var). v .0) (take (o .len) (o .group)) (record { 0 = x } ∷ [])
 
 -- a row's smallest number is below 16 unless the row is empty
-pub lowest-in : (a x : ℕ) → a < 65536 → a ≢ 0 → Lowest a x → x < 16
+lowest-in : (a x : ℕ) → a < 65536 → a ≢ 0 → Lowest a x → x < 16
 lowest-in a x h z w = go (decLt x 16)
   where
     go : Dec (x < 16) → x < 16

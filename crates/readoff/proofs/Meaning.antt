@@ -58,7 +58,7 @@ unfolding layers layer
 layers-inside n h zero g k = absurd (List·Memᴰ·not-nil k)
 layers-inside n h (suc d) g k = ⊎-elim (layers-inside n h d g) (λ q. picked-out n _ g q .0) (List·Memᴰ·append-cases (layers n h d) k)
 
-pub order-inside : (n : ℕ) (h : FactSet) (g : ℕ) → List·Memᴰ g (order n h) → g < n
+order-inside : (n : ℕ) (h : FactSet) (g : ℕ) → List·Memᴰ g (order n h) → g < n
 unfolding order
 order-inside n h g k = layers-inside n h n g k
 
@@ -115,7 +115,7 @@ module _ (f : Facts) (n : ℕ) (few : n ≤ 16) (m : Columns (f .below) (f .abov
   unfolding near nearest
   near-is x w h l =
       rw (rowOf-is x w (omega arith) l) (ap (λ (b : Bool). over n (has f) w x and b)
-      (empty n (bitAnd (rowOf x) (without (row (f .below) w) (row (f .above) w))) (le-trans (suc-le-suc (and-le-l (rowOf x) _)) (rowOf-small x))
+      (empty n (bitAnd (rowOf x) (without (row (f .below) w) (row (f .above) w))) few (le-trans (suc-le-suc (and-le-l (rowOf x) _)) (rowOf-small x))
       ∙ ap neg (any-eq n _ (λ k. over n (has f) k x and over n (has f) w k)
       (λ k q. bit-meet (rowOf x) (without (row (f .below) w) (row (f .above) w)) k ∙ rw (rowOf-is x k (omega arith) q, under-is w k (omega arith) (omega arith))))))
 
@@ -124,7 +124,7 @@ module _ (f : Facts) (n : ℕ) (few : n ≤ 16) (m : Columns (f .below) (f .abov
   low-is : (x : ℕ) → x < 16 → isLow (f .below) (f .above) x ≡ lowest n (has f) x
   unfolding isLow lowest
   low-is x h =
-      empty x (bitAnd (bitAnd (row (f .above) x) (row (f .below) x)) (2 ^ x - 1)) (mask-lt (bitAnd (row (f .above) x) (row (f .below) x)) x)
+      empty x (bitAnd (bitAnd (row (f .above) x) (row (f .below) x)) (2 ^ x - 1)) (omega arith) (mask-lt (bitAnd (row (f .above) x) (row (f .below) x)) x)
       ∙ ap neg (any-eq x _ (λ y. same (has f) y x) (λ y l. bit-meet (bitAnd (row (f .above) x) (row (f .below) x)) (2 ^ x - 1) y
       ∙ ap (λ (b : Bool). bit (bitAnd (row (f .above) x) (row (f .below) x)) y and b) (all-has x y l) ∙ and-true _ ∙ same-is x y h (omega arith)))
 
@@ -172,7 +172,7 @@ module _ (f : Facts) (n : ℕ) (few : n ≤ 16) (m : Columns (f .below) (f .abov
           ap (λ (k : ℕ). one (neg (eqb k 1)))
           (counted 16 (row rows 0) (le-trans (ls 0 (omega arith) .small) p) ∙ sym (length-picked 16 (bit (row rows 0))) ∙ ap length (layer-is 0 (omega arith)))
 
-    pub parent-is : (x : ℕ) → x < n → parentIn (f .below) (f .above) lows (blank n (has f)) (order n (has f)) (rowOf x) ≡ parentOf n (has f) x
+    parent-is : (x : ℕ) → x < n → parentIn (f .below) (f .above) lows (blank n (has f)) (order n (has f)) (rowOf x) ≡ parentOf n (has f) x
     unfolding parentIn parentOf
     parent-is x h =
         rw (
@@ -180,7 +180,7 @@ module _ (f : Facts) (n : ℕ) (few : n ≤ 16) (m : Columns (f .below) (f .abov
           position-eq (near (f .below) (f .above) (rowOf x)) (λ w. nearest n (has f) w x) (order n (has f)) (λ w k. near-is x w h (order-inside n (has f) w k)),
         )
 
-  pub place-is : (x : ℕ) → x < n → placeIn (f .below) (f .above) (blank n (has f)) (order n (has f)) x ≡ place n (has f) x
+  place-is : (x : ℕ) → x < n → placeIn (f .below) (f .above) (blank n (has f)) (order n (has f)) x ≡ place n (has f) x
   unfolding placeIn place
   place-is x h =
       ap (λ (k : ℕ). blank n (has f) + k)
