@@ -1,13 +1,12 @@
 -- The three runs of bytes that are written, the blank node, the groups and the places, are the answer file.
-use mathlib.Core.Path.{_≡_, refl, sym, ap, _∙_, subst}
-use mathlib.Core.Bool.{Bool}
+use mathlib.Core.Path.{_≡_, refl, sym, ap, _∙_}
 use mathlib.Core.List.{List, [], _∷_, _++_, map}
 use Prim.Native.Nat.{ℕ, zero, suc, _+_, _*_, _≤_, _<_}
 use native.Mathlib.Nat.{zero-add}
 use native.Mathlib.Omega.{arith}
 use lib.Count.{ones}
 use lib.Dec.{eqb}
-use lib.ListN.{length, take, drop, length-append, length-map}
+use lib.ListN.{length, drop, length-append, length-map}
 use Rattle.meaning.specs.Finite.{pick, one, neg, tab}
 use Rattle.meaning.specs.ReadOff.{FactSet, order, blank, parentOf, labelOf, NodeRecord, blankRecord, nodes, place, places, nodeBytes, placeBytes, answerFile}
 use Rattle.meaning.proofs.Finite.{length-tab}
@@ -62,7 +61,7 @@ module _ (n : ℕ) (few : n ≤ 16) (h : FactSet) where
       let c = length-tab n (place n h) in
       omega (arith, nodes-length)
 
-  pub answered : (old first second new : List ℕ) → 132 ≤ length old → Wrote 0 (nodeBytes 0 (front (blank n h))) old first
+  answered : (old first second new : List ℕ) → 132 ≤ length old → Wrote 0 (nodeBytes 0 (front (blank n h))) old first
       → Wrote (blank n h * 4) (nodeBytes (blank n h) rest) first second → Wrote ((blank n h + length (order n h)) * 4) (placeBytes 0 (places n h)) second new
       → Answered n h old ((blank n h + length (order n h)) * 4 + n * 4) new
   unfolding answerFile
@@ -102,17 +101,17 @@ pub room-for : (f : Facts) (n lows : ℕ) (rows : List ℕ) → n ≤ 16 → Col
 room-for f n lows rows few m g l = let a = order-most n (has f) in omega (arith, ap length (order-is f n few m lows g rows l))
 
 module _ (f : Facts) (n lows : ℕ) (rows : List ℕ) (o : Order) (s : Ordered f n lows rows o) where
-  pub groups-are : groups o ≡ order n (has f)
+  groups-are : groups o ≡ order n (has f)
   groups-are = s .these .these ∙ order-is f n (s .few) (s .columns) lows (s .low) rows (s .layered)
 
-  pub len-is : o .len ≡ length (order n (has f))
+  len-is : o .len ≡ length (order n (has f))
   len-is = let a = s .these .small .few in let b = s .long in sym (length-groups o (omega arith)) ∙ ap length groups-are
 
   pub len-most : o .len ≤ n
   len-most = omega (arith, len-is, order-most n (has f))
 
   module _ (k : ℕ) (e : k ≡ one (neg (eqb (ones (row rows 0)) 1))) where
-    pub first-is : k ≡ blank n (has f)
+    first-is : k ≡ blank n (has f)
     first-is = e ∙ blank-is f n (s .few) (s .columns) lows (s .low) rows (s .layered)
 
     pub first-most : k ≤ 1

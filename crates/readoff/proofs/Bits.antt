@@ -1,30 +1,27 @@
--- Laws of rows: what is in one and not in another, how many numbers a row has and which is the next, and when two rows meet.
+-- Laws of rows beyond those of `tables`: how many numbers a row has, when it is empty, and a row that gathers what passes a test.
 use mathlib.Core.Path.{_≡_, refl, sym, ap, _∙_, subst}
-use mathlib.Core.Logic.{_≢_, _⊎_, inl, inr, ⊎-elim}
-use mathlib.Core.Bool.{Bool, true, false, _||_, _&&_, not, false≢true}
+use mathlib.Core.Bool.{Bool, true, false, _||_, false≢true}
 use mathlib.Core.List.{List, [], _∷_, _++_, append-nil}
-use Prim.Native.Nat.{ℕ, zero, suc, _+_, _-_, _*_, _/_, _%_, _^_, _<_, _≤_, zero-le}
-use native.Mathlib.Nat.{le-refl, le-trans, le-step, not-suc-le-zero, mod-lt, div-eq-of-lt, pow-suc, mod-eq-of-lt, mul-add-mod-self-right, add-zero, div-div-eq-div-mul, mul-comm, div-one, le-of-suc-le-suc}
+use Prim.Native.Nat.{ℕ, zero, suc, _+_, _-_, _*_, _/_, _%_, _^_, _<_, _≤_}
+use native.Mathlib.Nat.{le-refl, le-trans, le-step, not-suc-le-zero, mod-lt, div-eq-of-lt, pow-suc}
 use native.Mathlib.Decide.{decLt, ℕ-discrete}
 use native.Mathlib.Omega.{arith}
 use lib.Arith.{lt-one}
-use lib.Bits.{bitOr, bitAnd, bitXor, and-le-l, and-le-r, and-mask, xor-shr, xor-step, differ as bitDiffer}
-use lib.Count.{ones, ones-step, ones-cat, trailingZeros, under}
+use lib.Bits.{bitAnd, and-mask, or-zero-r}
+use lib.Count.{ones, ones-step, ones-cat}
 use lib.Dec.{eqb}
-use lib.Pow.{pow-mono, pow-pos, pow-lt, shr-shr, shr-lt, split}
+use lib.Pow.{pow-mono, pow-pos, shr-lt, split}
 use Rattle.meaning.specs.Finite.{Yes, _and_, neg, pick, anyb, one, sum, picked}
-use Rattle.meaning.proofs.Tests.{clash, yes-case, yes-eq, no-neg, pick-yes, pick-no, is-eq, eq-yes, self-eq, and-left, and-right, and-both}
-use Rattle.meaning.proofs.Finite.{any-intro, any-elim, split-lt}
+use Rattle.meaning.proofs.Tests.{clash, yes-eq, no-neg, is-eq, eq-yes, self-eq, and-left, and-right, and-both}
+use Rattle.meaning.proofs.Finite.{any-intro, any-elim}
 use Rattle.rowbits.specs.Bit.{bit, withBit}
-use Rattle.rowbits.proofs.Laws.{bit-or, bit-and, bit-one, bit-with, bit-none, with-lt}
-use Rattle.readoff.specs.Rows.{Gathered, Next, apart}
+use Rattle.rowbits.proofs.Laws.{bit-and, bit-with, bit-none, with-lt}
+use Rattle.tables.specs.Rows.{gained, marked, without}
+use Rattle.tables.proofs.Bits.{all-has, some-in, without-in, without-out}
+use Rattle.tables.proofs.Helpers.{and-is}
+use Rattle.readoff.specs.Rows.{Gathered}
 
 -- ---- tests
-
-pub and-is : (a b : Bool) → (a && b) ≡ (a and b)
-unfolding _and_
-and-is true b = refl
-and-is false b = refl
 
 pub not-yes : {b : Bool} → b ≡ false → ¬ Yes b
 not-yes e t = false≢true (sym e ∙ t)
@@ -33,96 +30,42 @@ pub yes-not : {b : Bool} → ¬ Yes b → b ≡ false
 yes-not {b = true} f = absurd (f refl)
 yes-not {b = false} f = refl
 
-and-true : (a : Bool) → (a && true) ≡ a
+pub and-true : (a : Bool) → (a and true) ≡ a
+unfolding _and_
 and-true true = refl
 and-true false = refl
+
+pub and-false : (a : Bool) → (a and false) ≡ false
+unfolding _and_
+and-false true = refl
+and-false false = refl
 
 or-false : (a : Bool) → (a || false) ≡ a
 or-false true = refl
 or-false false = refl
-
-neither : (a b : Bool) → (a || b) ≡ false → a ≡ false
-neither true b e = e
-neither false b e = refl
-
-first-of : (a b : Bool) → b ≡ false → (a || b) ≡ true → a ≡ true
-first-of true b f e = refl
-first-of false b f e = absurd (false≢true (sym f ∙ e))
 
 -- ---- single bits
 
 pub bit-meet : (a b i : ℕ) → bit (bitAnd a b) i ≡ (bit a i and bit b i)
 bit-meet a b i = bit-and a b i ∙ and-is _ _
 
-pub bit-past : (k a i : ℕ) → a < 2 ^ k → k ≤ i → bit a i ≡ false
+bit-past : (k a i : ℕ) → a < 2 ^ k → k ≤ i → bit a i ≡ false
 unfolding bit
 bit-past k a i h l =
     let m : 2 ^ k ≤ 2 ^ i = pow-mono l in
     rw (div-eq-of-lt (le-trans h m))
 
-bit-shift : (a k i : ℕ) → bit (a / 2 ^ k) i ≡ bit a (k + i)
-unfolding bit
-bit-shift a k i = rw (shr-shr a k i)
-
-bit-zero : (a : ℕ) → bit a 0 ≡ eqb (a % 2) 1
-unfolding bit
-bit-zero a = ap (λ (k : ℕ). eqb (k % 2) 1) (div-one a)
-
-bit-half : (a i : ℕ) → bit a (suc i) ≡ bit (a / 2) i
-unfolding bit
-bit-half a i =
-    let e : a / 2 / 2 ^ i ≡ a / 2 ^ suc i = div-div-eq-div-mul a 2 (2 ^ i) ∙ ap (λ (k : ℕ). a / k) (mul-comm 2 (2 ^ i) ∙ sym (pow-suc 2 i)) in
-    rw e
-
-one-has : (j : ℕ) → bit (2 ^ j) j ≡ true
-one-has j = bit-one j j ∙ self-eq j
-
--- ---- the numbers below n
-
-and-second : (a b : Bool) → Yes (a && b) → Yes b
-and-second true b t = t
-and-second false b t = absurd (false≢true t)
-
-pub all-has : (n i : ℕ) → i < n → bit (2 ^ n - 1) i ≡ true
-all-has n i h =
-    and-second (bit (2 ^ i) i) _ (sym (bit-and (2 ^ i) (2 ^ n - 1) i)
-    ∙ ap (λ (k : ℕ). bit k i) (and-mask (2 ^ i) n ∙ mod-eq-of-lt (pow-lt h)) ∙ one-has i)
-
-pub bit-mod : (k a i : ℕ) → i < k → bit (a % 2 ^ k) i ≡ bit a i
+bit-mod : (k a i : ℕ) → i < k → bit (a % 2 ^ k) i ≡ bit a i
 bit-mod k a i h =
-    ap (λ (b : ℕ). bit b i) (sym (and-mask a k)) ∙ bit-and a (2 ^ k - 1) i ∙ ap (λ (b : Bool). bit a i && b) (all-has k i h) ∙ and-true _
+    ap (λ (b : ℕ). bit b i) (sym (and-mask a k)) ∙ bit-meet a (2 ^ k - 1) i ∙ ap (λ (b : Bool). bit a i and b) (all-has k i h) ∙ and-true _
 
 -- ---- what is in one row and not in another
 
-digit-of : (a i : ℕ) → ((bit a i ≡ true) × (a / 2 ^ i % 2 ≡ 1)) ⊎ ((bit a i ≡ false) × (a / 2 ^ i % 2 ≡ 0))
-unfolding bit
-digit-of a i = go (ℕ-discrete (a / 2 ^ i % 2) 1)
-  where
-    go : Dec (a / 2 ^ i % 2 ≡ 1) → ((eqb (a / 2 ^ i % 2) 1 ≡ true) × (a / 2 ^ i % 2 ≡ 1)) ⊎ ((eqb (a / 2 ^ i % 2) 1 ≡ false) × (a / 2 ^ i % 2 ≡ 0))
-    go (yes e) = inl (eq-yes e, e)
-    go (no e) = inr (yes-not (λ y. e (is-eq y)), omega arith)
-
-flip-digit : (a b i : ℕ) → bitXor a b / 2 ^ i % 2 ≡ bitDiffer (a / 2 ^ i % 2) (b / 2 ^ i % 2) % 2
-flip-digit a b i = rw (xor-shr a b i, xor-step (a / 2 ^ i) (b / 2 ^ i), mul-add-mod-self-right)
-
-flip-of : (a b i : ℕ) (d e : ℕ) → a / 2 ^ i % 2 ≡ d → b / 2 ^ i % 2 ≡ e → bit (bitXor a b) i ≡ eqb (bitDiffer d e % 2) 1
-unfolding bit
-flip-of a b i d e p q = rw (flip-digit a b i, p, q)
-
-bit-flip : (a i : ℕ) → i < 16 → bit (bitXor a 65535) i ≡ neg (bit a i)
-unfolding neg
-bit-flip a i h =
-    ⊎-elim
-    (λ q. ⊎-elim
-    (λ p. flip-of a 65535 i 1 1 (p .1) (q .1) ∙ ap neg (sym (p .0)))
-    (λ p. flip-of a 65535 i 0 1 (p .1) (q .1) ∙ ap neg (sym (p .0)))
-    (digit-of a i))
-    (λ q. absurd (false≢true (sym (q .0) ∙ all-has 16 i h)))
-    (digit-of 65535 i)
-
-pub bit-apart : (a b i : ℕ) → i < 16 → bit (apart a b) i ≡ (bit a i and neg (bit b i))
-unfolding apart
-bit-apart a b i h = bit-meet a (bitXor b 65535) i ∙ ap (λ (c : Bool). bit a i and c) (bit-flip b i h)
+pub bit-without : (a b i : ℕ) → i < 16 → bit (without a b) i ≡ (bit a i and neg (bit b i))
+bit-without a b i h =
+    yes-eq _ _
+    (λ t. let w = without-out a b i h t in and-both (w .0) (no-neg (w .1)))
+    (λ t. without-in a b i h (and-left _ t) (λ u. clash u (and-right (bit a i) t)))
 
 -- ---- pointwise
 
@@ -143,7 +86,7 @@ picked-eq zero p q h = refl
 picked-eq (suc n) p q h = rw (picked-eq n p q (λ k l. h k (le-step l)), h n (le-refl _))
 
 -- nothing passes the test between k and m
-pub picked-stop : (k m : ℕ) (p : ℕ → Bool) → k ≤ m → ((y : ℕ) → k ≤ y → y < m → p y ≡ false) → picked m p ≡ picked k p
+picked-stop : (k m : ℕ) (p : ℕ → Bool) → k ≤ m → ((y : ℕ) → k ≤ y → y < m → p y ≡ false) → picked m p ≡ picked k p
 unfolding picked pick
 picked-stop k zero p l h = let e : 0 ≡ k = omega arith in ap (λ (i : ℕ). picked i p) e
 picked-stop k (suc m) p l h = go (ℕ-discrete k (suc m)) (λ q. picked-stop k m p q (λ y a b. h y a (le-step b)))
@@ -186,81 +129,35 @@ pub ones-zero : (a : ℕ) → a < 65536 → eqb (ones a) 0 ≡ eqb a 0
 unfolding ones
 ones-zero a h = yes-eq _ _ (λ t. eq-yes (ones-none 16 a h (is-eq t))) (λ t. eq-yes (ap ones (is-eq {x = a} {y = 0} t)))
 
-pub empty : (k a : ℕ) → a < 2 ^ k → eqb a 0 ≡ neg (anyb k (bit a))
-empty k a h =
+pub empty : (k a : ℕ) → k ≤ 16 → a < 2 ^ k → eqb a 0 ≡ neg (anyb k (bit a))
+empty k a l h =
     yes-eq _ _
     (λ t. no-neg (λ u. let w = any-elim k (bit a) u in not-yes (ap (λ (i : ℕ). bit i (w .0)) (is-eq t) ∙ bit-none (w .0)) (w .2)))
-    (λ z. eq-yes (none k a h (λ i l. yes-not (λ u. clash (any-intro k (bit a) i l u) z))))
+    (λ z. eq-yes (go z (ℕ-discrete a 0)))
   where
-    even : (a : ℕ) → a / 2 ≡ 0 → a % 2 ≢ 1 → Dec (a % 2 ≡ 1) → a ≡ 0
-    even a r z (yes e) = absurd (z e)
-    even a r z (no e) = omega arith
+    member : Yes (neg (anyb k (bit a))) → (i : ℕ) → Yes (bit a i) → Dec (i < k) → a ≡ 0
+    member z i u (yes q) = clash (any-intro k (bit a) i q u) z
+    member z i u (no q) = absurd (not-yes (bit-past k a i h (omega arith)) u)
 
-    none : (k a : ℕ) → a < 2 ^ k → ((i : ℕ) → i < k → bit a i ≡ false) → a ≡ 0
-    none zero a h f = lt-one h
-    none (suc k) a h f =
-        let p : 2 ^ suc k ≡ 2 ^ k * 2 = pow-suc 2 k in
-        even a (none k (a / 2) (omega arith) (λ i l. sym (bit-half a i) ∙ f (suc i) (omega arith)))
-        (λ e. not-yes (f 0 (omega arith)) (bit-zero a ∙ eq-yes e)) (ℕ-discrete (a % 2) 1)
-
--- ---- the next number of a row
-
-tz-none : (k a i : ℕ) → i < trailingZeros k a → bit a i ≡ false
-unfolding trailingZeros
-tz-none zero a i l = absurd (not-suc-le-zero l)
-tz-none (suc k) a i l = go i (a % 2) refl l (λ j. tz-none k (a / 2) j)
-  where
-    go : (i d : ℕ) → a % 2 ≡ d → i < under d (trailingZeros k (a / 2)) → ((j : ℕ) → j < trailingZeros k (a / 2) → bit (a / 2) j ≡ false) → bit a i ≡ false
-    go zero zero e m r = bit-zero a ∙ ap (λ (j : ℕ). eqb j 1) e
-    go (suc i) zero e m r = bit-half a i ∙ r i (le-of-suc-le-suc m)
-    go i (suc d) e m r = absurd (not-suc-le-zero m)
-
-tz-this : (k a : ℕ) → trailingZeros k a < k → bit a (trailingZeros k a) ≡ true
-unfolding trailingZeros
-tz-this zero a l = absurd (not-suc-le-zero l)
-tz-this (suc k) a l = go (a % 2) refl l (λ m. tz-this k (a / 2) m)
-  where
-    go : (d : ℕ) → a % 2 ≡ d → under d (trailingZeros k (a / 2)) < suc k → (trailingZeros k (a / 2) < k → bit (a / 2) (trailingZeros k (a / 2)) ≡ true)
-        → bit a (under d (trailingZeros k (a / 2))) ≡ true
-    go zero e m r = bit-half a _ ∙ r (le-of-suc-le-suc m)
-    go (suc zero) e m r = bit-zero a ∙ ap (λ (j : ℕ). eqb j 1) e
-    go (suc (suc d)) e m r = absurd (omega arith)
-
-pub zeros-most : (a : ℕ) → trailingZeros 32 (bitOr a 65536) ≤ 16
-zeros-most a = go (decLt 16 (trailingZeros 32 (bitOr a 65536)))
-  where
-    go : Dec (16 < trailingZeros 32 (bitOr a 65536)) → trailingZeros 32 (bitOr a 65536) ≤ 16
-    go (yes l) =
-        absurd (false≢true (sym (tz-none 32 (bitOr a 65536) 16 l) ∙ bit-or a 65536 16 ∙ ap (λ (b : Bool). bit a 16 || b) (one-has 16) ∙ or-true (bit a 16)))
-      where
-        or-true : (b : Bool) → (b || true) ≡ true
-        or-true true = refl
-        or-true false = refl
-    go (no l) = omega arith
-
-pub next-is : (a k : ℕ) → Next a k (k + trailingZeros 32 (bitOr (a / 2 ^ k) 65536))
-next-is a k = record {
-  from = omega arith;
-  most = omega (arith, zeros-most (a / 2 ^ k));
-  none = λ y l m. ap (bit a) (omega arith) ∙ sym (bit-shift a k (y - k))
-      ∙ neither _ (bit 65536 (y - k)) (sym (bit-or (a / 2 ^ k) 65536 (y - k)) ∙ tz-none 32 (bitOr (a / 2 ^ k) 65536) (y - k) (omega arith));
-  this = λ l. sym (bit-shift a k z) ∙ first-of _ (bit 65536 z) (bit-one 16 z ∙ yes-not (λ t. let e : z ≡ 16 = is-eq t in omega arith))
-      (sym (bit-or (a / 2 ^ k) 65536 z) ∙ tz-this 32 (bitOr (a / 2 ^ k) 65536) (omega arith));
-}
-  where
-    z : ℕ
-    z = trailingZeros 32 (bitOr (a / 2 ^ k) 65536)
+    go : Yes (neg (anyb k (bit a))) → Dec (a ≡ 0) → a ≡ 0
+    go z (yes e) = e
+    go z (no e) = let w = some-in a (le-trans h (pow-mono {i = k} {j = 16} l)) e in member z (w .0) (w .1) (decLt (w .0) k)
 
 -- ---- a row that gathers the numbers that pass a test
 
 pub gather-none : (p : ℕ → Bool) → Gathered 0 p 0
 gather-none p = record { small = omega arith; each = λ y l. absurd (not-suc-le-zero l) }
 
-pub gather-more : (p : ℕ → Bool) (k a b : ℕ) (t : Bool) → t ≡ p k → b ≡ pick t (withBit a k) a → Gathered k p a → Gathered (k + 1) p b
+marked-is : (t : Bool) (a k : ℕ) → marked t a k ≡ pick t (withBit a k) a
+unfolding marked gained pick withBit
+marked-is true a k = refl
+marked-is false a k = or-zero-r a
+
+pub gather-more : (p : ℕ → Bool) (k a b : ℕ) (t : Bool) → t ≡ p k → b ≡ marked t a k → Gathered k p a → Gathered (k + 1) p b
 unfolding pick
 gather-more p k a b t e d g = record {
-  small = subst (λ (r : ℕ). r < 2 ^ (k + 1)) (sym d) (small t);
-  each = λ y l. ap (λ (r : ℕ). bit r y) d ∙ each t e y (ℕ-discrete y k) l;
+  small = subst (λ (r : ℕ). r < 2 ^ (k + 1)) (sym (d ∙ marked-is t a k)) (small t);
+  each = λ y l. ap (λ (r : ℕ). bit r y) (d ∙ marked-is t a k) ∙ each t e y (ℕ-discrete y k) l;
 }
   where
     wider : a < 2 ^ (k + 1)

@@ -1,31 +1,22 @@
 -- The layers as rows: one variable more goes into the layer of its depth, if it is the lowest of its group.
 use mathlib.Core.Path.{_≡_, refl, sym, ap, _∙_, subst}
-use mathlib.Core.Bool.{Bool, true, false}
+use mathlib.Core.Bool.{Bool, false}
 use mathlib.Core.List.{List}
-use Prim.Native.Nat.{ℕ, _+_, _<_}
+use Prim.Native.Nat.{ℕ, _+_, _^_, _<_}
 use native.Mathlib.Decide.{ℕ-discrete}
 use native.Mathlib.Omega.{arith}
 use lib.Bits.{bitAnd}
 use lib.Count.{ones}
-use lib.Dec.{eqb}
 use lib.ListN.{length, set, replicate, getD-replicate}
 use lib.Seq.{getD-set-same, getD-set-other}
-use Rattle.meaning.specs.Finite.{pick, _and_}
+use Rattle.meaning.specs.Finite.{_and_}
 use Rattle.meaning.proofs.Tests.{eq-yes, is-eq}
-use Rattle.rowbits.specs.Bit.{bit, withBit}
+use Rattle.rowbits.specs.Bit.{bit}
+use Rattle.tables.specs.Rows.{marked}
+use Rattle.tables.proofs.Helpers.{gain-off}
 use Rattle.tables.specs.Tables.{row}
 use Rattle.readoff.specs.Rows.{Gathered, overRow, deep, inLayer}
-use Rattle.readoff.proofs.Bits.{yes-not, gather-none, gather-more}
-
-and-true : (a : Bool) → a ≡ (a and true)
-unfolding _and_
-and-true true = refl
-and-true false = refl
-
-and-false : (a : Bool) → false ≡ (a and false)
-unfolding _and_
-and-false true = refl
-and-false false = refl
+use Rattle.readoff.proofs.Bits.{yes-not, and-true, and-false, gather-none, gather-more}
 
 module _ (t u : List ℕ) (n lows : ℕ) where
   unfoldable pub Layered : ℕ → List ℕ → Type 0
@@ -36,8 +27,8 @@ module _ (t u : List ℕ) (n lows : ℕ) where
   layered-none d h = subst (Gathered 0 _) (sym (getD-replicate 17 d 0 0 h)) (gather-none _)
 
   pub layered-more : (x above depth v : ℕ) (s : Bool) (layer : List ℕ) → length layer ≡ 17 → above ≡ overRow n (row u x) (row t x) → depth ≡ ones (bitAnd above lows) → s ≡ bit lows x
-      → v ≡ pick s (withBit (row layer depth) x) (row layer depth) → Layered x layer → Layered (x + 1) (set layer depth v)
-  unfolding Layered inLayer deep pick
+      → v ≡ marked s (row layer depth) x → Layered x layer → Layered (x + 1) (set layer depth v)
+  unfolding Layered inLayer deep marked
   layered-more x above depth v s layer long o c l w g d h = go (ℕ-discrete d depth)
     where
       e : depth ≡ deep t u n lows x
@@ -46,11 +37,11 @@ module _ (t u : List ℕ) (n lows : ℕ) where
       go : Dec (d ≡ depth) → Gathered (x + 1) (inLayer t u n lows d) (row (set layer depth v) d)
       go (yes q) =
           gather-more (inLayer t u n lows d) x (row layer d) (row (set layer depth v) d) s
-          (l ∙ and-true (bit lows x) ∙ ap (λ (b : Bool). bit lows x and b) (sym (eq-yes (sym e ∙ sym q))))
-          (ap (row (set layer depth v)) q ∙ getD-set-same layer depth v 0 (omega arith) ∙ w ∙ ap (λ (i : ℕ). pick s (withBit (row layer i) x) (row layer i)) (sym q))
+          (l ∙ sym (and-true (bit lows x)) ∙ ap (λ (b : Bool). bit lows x and b) (sym (eq-yes (sym e ∙ sym q))))
+          (ap (row (set layer depth v)) q ∙ getD-set-same layer depth v 0 (omega arith) ∙ w ∙ ap (λ (i : ℕ). marked s (row layer i) x) (sym q))
           (g d h)
       go (no q) =
           gather-more (inLayer t u n lows d) x (row layer d) (row (set layer depth v) d) false
-          (and-false (bit lows x) ∙ ap (λ (b : Bool). bit lows x and b) (sym (yes-not (λ y. q (sym (e ∙ is-eq y))))))
-          (getD-set-other layer depth d v 0 q)
+          (sym (and-false (bit lows x)) ∙ ap (λ (b : Bool). bit lows x and b) (sym (yes-not (λ y. q (sym (e ∙ is-eq y))))))
+          (getD-set-other layer depth d v 0 q ∙ gain-off false (row layer d) (2 ^ x) refl)
           (g d h)

@@ -1,5 +1,4 @@
 pub mod Bits
-pub mod Helpers
 pub mod Layered
 pub mod Listing
 pub mod Written

@@ -1,29 +1,31 @@
 -- The order as a list: what stands at a place, one group more, and the place of the first group that passes a test.
 use mathlib.Core.Path.{_≡_, refl, sym, ap, _∙_, subst}
-use mathlib.Core.Logic.{⊎-elim}
+use mathlib.Core.Logic.{_≢_, ⊎-elim}
 use mathlib.Core.Bool.{Bool, true, false}
 use mathlib.Core.List.{List, [], _∷_, _++_, map, map-append, append-assoc, append-nil, List·Memᴰ, List·Memᴰ·head, List·Memᴰ·tail, List·Memᴰ·append-cases, List·Memᴰ·not-nil}
-use Prim.Native.Nat.{ℕ, zero, suc, _+_, _-_, _≤_, _<_, zero-le, suc-le-suc}
+use Prim.Native.Nat.{ℕ, zero, suc, _+_, _^_, _≤_, _<_, zero-le, suc-le-suc}
 use native.Mathlib.Nat.{le-refl, le-step, le-trans, not-suc-le-zero, le-of-suc-le-suc}
-use native.Mathlib.Decide.{ℕ-discrete}
+use native.Mathlib.Decide.{decLt, ℕ-discrete}
 use native.Mathlib.Numerals.{add-one}
 use native.Mathlib.Omega.{arith}
-use lib.ListN.{length, getD, take, drop, set, length-append, length-map, length-take, length-set, List·getD-map}
-use lib.Seq.{drop-cons, drop-nil, take-suc-set, length-take-le, getD-take, take-set-le}
-use Rattle.meaning.specs.Finite.{Yes, pick, picked, position}
-use Rattle.meaning.proofs.Tests.{pick-yes, pick-no}
-use Rattle.meaning.proofs.Lists.{picked-out, getD-mem}
+use lib.ListN.{length, getD, take, drop, set, length-append, length-map, length-set}
+use lib.Seq.{drop-cons, drop-nil, take-suc-set, length-take-le, getD-take}
+use Rattle.meaning.specs.Finite.{Yes, _and_, neg, pick, picked, position}
+use Rattle.meaning.proofs.Tests.{pick-yes, pick-no, is-eq}
+use Rattle.meaning.proofs.Lists.{picked-out, picked-none, getD-mem}
 use Rattle.rowbits.specs.Bit.{bit}
+use Rattle.rowbits.proofs.Laws.{bit-one, bit-none}
 use Rattle.tables.specs.Tables.{row}
 use Rattle.ids.specs.declared.Var.{Var}
 use Rattle.readoff.specs.declared.Order.{Order}
-use Rattle.readoff.specs.Rows.{Next}
+use Rattle.tables.specs.Rows.{without, Lowest}
+use Rattle.tables.proofs.Bits.{one-has, some-in, in-row, without-less}
 use Rattle.readoff.specs.Listing.{groups, Small, listed, Listed}
-use Rattle.readoff.proofs.Bits.{not-yes, bit-past, picked-stop}
+use Rattle.readoff.proofs.Bits.{not-yes, yes-not, and-true, bit-without, picked-eq}
 
 -- ---- the place of the first that passes a test
 
-pub position-most : (p : ℕ → Bool) (xs : List ℕ) → position p xs ≤ length xs
+position-most : (p : ℕ → Bool) (xs : List ℕ) → position p xs ≤ length xs
 unfolding position pick
 position-most p [] = le-refl _
 position-most p (x ∷ xs) = go (p x) (position-most p xs)
@@ -37,15 +39,15 @@ unfolding position
 position-eq p q [] h = refl
 position-eq p q (x ∷ xs) h = rw (h x (List·Memᴰ·head refl), position-eq p q xs (λ y m. h y (List·Memᴰ·tail m)))
 
-pub position-here : (p : ℕ → Bool) (xs : List ℕ) (i : ℕ) → i < length xs → p (getD xs i 0) ≡ true → position p (drop i xs) ≡ 0
+position-here : (p : ℕ → Bool) (xs : List ℕ) (i : ℕ) → i < length xs → p (getD xs i 0) ≡ true → position p (drop i xs) ≡ 0
 unfolding position
 position-here p xs i l e = rw (drop-cons xs i 0) (pick-yes _ _ e)
 
-pub position-next : (p : ℕ → Bool) (xs : List ℕ) (i : ℕ) → i < length xs → p (getD xs i 0) ≡ false → position p (drop i xs) ≡ suc (position p (drop (i + 1) xs))
+position-next : (p : ℕ → Bool) (xs : List ℕ) (i : ℕ) → i < length xs → p (getD xs i 0) ≡ false → position p (drop i xs) ≡ suc (position p (drop (i + 1) xs))
 unfolding position
 position-next p xs i l e = rw (add-one, drop-cons xs i 0) (pick-no _ _ (not-yes e))
 
-pub position-end : (p : ℕ → Bool) (xs : List ℕ) (i : ℕ) → length xs ≤ i → position p (drop i xs) ≡ 0
+position-end : (p : ℕ → Bool) (xs : List ℕ) (i : ℕ) → length xs ≤ i → position p (drop i xs) ≡ 0
 unfolding position
 position-end p [] i l = ap (position p) (drop-nil i)
 position-end p (x ∷ xs) zero l = absurd (not-suc-le-zero l)
@@ -61,7 +63,7 @@ pub length-groups : (o : Order) → o .len ≤ length (o .group) → length (gro
 unfolding groups
 length-groups o h = length-map (take (o .len) (o .group)) (λ (v : Var). v .0) ∙ length-take-le (o .len) (o .group) h
 
-pub group-at : (o : Order) (i : ℕ) (d : Var) → o .len ≤ length (o .group) → i < o .len → getD (groups o) i 0 ≡ getD (o .group) i d .0
+group-at : (o : Order) (i : ℕ) (d : Var) → o .len ≤ length (o .group) → i < o .len → getD (groups o) i 0 ≡ getD (o .group) i d .0
 unfolding groups
 group-at o i d h l =
     at (take (o .len) (o .group)) i (subst (λ (k : ℕ). i < k) (sym (length-take-le (o .len) (o .group) h)) l)
@@ -104,72 +106,83 @@ module _ (p : ℕ → Bool) (o : Order) (long : length (o .group) ≡ 16) (s : S
 
 -- ---- the members of a row, put behind the groups
 
-picked-more : (k m : ℕ) (p : ℕ → Bool) → k ≤ m → length (picked k p) ≤ length (picked m p)
-unfolding picked
-picked-more k zero p l = let e : k ≡ 0 = omega arith in rw e (le-refl _)
-picked-more k (suc m) p l = go (ℕ-discrete k (suc m)) (λ q. picked-more k m p q)
-  where
-    go : Dec (k ≡ suc m) → (k ≤ m → length (picked k p) ≤ length (picked m p)) → length (picked k p) ≤ length (picked m p ++ pick (p m) (m ∷ []) [])
-    go (yes e) r = rw e (le-refl _)
-    go (no e) r = let a = r (omega arith) in let b = length-append (picked m p) (pick (p m) (m ∷ []) []) in omega arith
-
-picked-yes : (p : ℕ → Bool) (k : ℕ) → p k ≡ true → picked (k + 1) p ≡ picked k p ++ k ∷ []
+-- the first member, and the members of the row without it
+picked-first : (n : ℕ) (p q : ℕ → Bool) (x : ℕ) → x < n → p x ≡ true → ((i : ℕ) → i < x → ¬ Yes (p i)) → q x ≡ false → ((i : ℕ) → i < n → i ≢ x → q i ≡ p i)
+    → picked n p ≡ x ∷ picked n q
 unfolding picked pick
-picked-yes p k e = rw (add-one, e)
+picked-first zero p q x l t f z h = absurd (not-suc-le-zero l)
+picked-first (suc n) p q x l t f z h = go (ℕ-discrete x n) (λ k. picked-first n p q x k t f z (λ i k. h i (le-step k)))
+  where
+    go : Dec (x ≡ n) → (x < n → picked n p ≡ x ∷ picked n q) → picked n p ++ pick (p n) (n ∷ []) [] ≡ x ∷ (picked n q ++ pick (q n) (n ∷ []) [])
+    go (yes e) r =
+        let none : picked n p ≡ [] = picked-none n p (λ j k. f j (omega arith)) in
+        let same : picked n q ≡ [] = picked-eq n q p (λ j k. h j (le-step k) (λ d. omega arith)) ∙ none in
+        rw (none, same, ← e, t, z)
+    go (no e) r = rw (r (omega arith), h n (le-refl _) (λ d. e (sym d)))
 
-pub groups-more : (o : Order) (x : ℕ) → o .len < length (o .group) → groups (record { group = set (o .group) (o .len) record { 0 = x }; len = o .len + 1 }) ≡ groups o ++ x ∷ []
+groups-more : (o : Order) (x : ℕ) → o .len < length (o .group) → groups (record { group = set (o .group) (o .len) record { 0 = x }; len = o .len + 1 }) ≡ groups o ++ x ∷ []
 unfolding groups
 groups-more o x l =
     ap (map (λ (v : Var). v .0)) (ap (λ (k : ℕ). take k (set (o .group) (o .len) record { 0 = x })) (add-one (o .len)) ∙ take-suc-set (o .group) (o .len) record { 0 = x } l)
     ∙ map-append (λ (v : Var). v .0) (take (o .len) (o .group)) (record { 0 = x } ∷ [])
 
-module _ (a : ℕ) (gs : List ℕ) where
-  pub record Appending (x : ℕ) (o : Order) : Type 0 where
-    pub long : length (o .group) ≡ 16
-    pub few : o .len ≤ 16
-    pub these : groups o ≡ gs ++ picked x (bit a)
-    pub here : x < 16 → bit a x ≡ true
-    pub most : x ≤ 32
+-- a row's smallest number is below 16 unless the row is empty
+lowest-in : (a x : ℕ) → a < 65536 → a ≢ 0 → Lowest a x → x < 16
+lowest-in a x h z w = go (decLt x 16)
+  where
+    go : Dec (x < 16) → x < 16
+    go (yes l) = l
+    go (no l) = let i = some-in a h z in absurd (w .none (i .0) (let k = in-row a (i .0) h (i .1) in omega arith) (i .1))
 
-  pub appending-none : (x : ℕ) (o : Order) → length (o .group) ≡ 16 → o .len ≤ 16 → groups o ≡ gs → Next a 0 x → Appending x o
-  unfolding picked
-  appending-none x o l f e n = record {
-    long = l;
-    few = f;
-    these = e ∙ sym (append-nil gs) ∙ ap (λ (ys : List ℕ). gs ++ ys) (sym (picked-stop 0 x (bit a) zero-le (n .none)));
-    here = n .this;
-    most = omega (arith, n .most);
-  }
+picked-lowest : (a x : ℕ) → x < 16 → Lowest a x → picked 16 (bit a) ≡ x ∷ picked 16 (bit (without a (2 ^ x)))
+unfolding _and_ neg
+picked-lowest a x l w =
+    picked-first 16 (bit a) (bit (without a (2 ^ x))) x l (w .this l) (w .none)
+    (bit-without a (2 ^ x) x l ∙ rw (w .this l, one-has x))
+    (λ i k d. bit-without a (2 ^ x) i k ∙ rw (bit-one x i, yes-not (λ y. d (is-eq y))) (and-true (bit a i)))
 
-  module _ (room : length gs + length (picked 16 (bit a)) ≤ 16) (x : ℕ) (o : Order) (w : Appending x o) (l : x < 16) where
+-- the row a is put behind gs; the row `rest` is still to come
+pub record Appending (a : ℕ) (gs : List ℕ) (rest : ℕ) (o : Order) : Type 0 where
+  pub long : length (o .group) ≡ 16
+  pub few : o .len ≤ 16
+  pub fits : rest < 65536
+  pub these : groups o ++ picked 16 (bit rest) ≡ gs ++ picked 16 (bit a)
+
+module _ (a : ℕ) (gs : List ℕ) (rest : ℕ) (o : Order) (w : Appending a gs rest o) where
+  module _ (room : length gs + length (picked 16 (bit a)) ≤ 16) (some : rest ≢ 0) (x : ℕ) (low : Lowest rest x) where
+    pub next-in : x < 16
+    next-in = lowest-in rest x (w .fits) some low
+
     pub appending-room : o .len < 16
     appending-room =
         let k = w .few in
         let g = w .long in
         let c = length-groups o (omega arith) in
-        let e = ap length (w .these) ∙ length-append gs (picked x (bit a)) in
-        let m = picked-more (x + 1) 16 (bit a) (omega arith) in
-        let y = ap length (picked-yes (bit a) x (w .here l)) ∙ length-append (picked x (bit a)) (x ∷ []) in
+        let e = sym (length-append (groups o) (picked 16 (bit rest))) ∙ ap length (w .these) ∙ length-append gs (picked 16 (bit a)) in
+        let y = ap length (picked-lowest rest x next-in low) in
         omega arith
 
-    pub appending-more : (y : ℕ) → Next a (x + 1) y → Appending y (record { group = set (o .group) (o .len) record { 0 = x }; len = o .len + 1 })
-    appending-more y n = record {
+    pub appending-more : Appending a gs (without rest (2 ^ x)) (record { group = set (o .group) (o .len) record { 0 = x }; len = o .len + 1 })
+    appending-more = record {
       long = length-set (o .group) (o .len) record { 0 = x } ∙ w .long;
       few = omega (arith, appending-room);
-      these = groups-more o x (rw (w .long) appending-room) ∙ ap (λ (ys : List ℕ). ys ++ x ∷ []) (w .these) ∙ append-assoc gs (picked x (bit a)) (x ∷ [])
-          ∙ ap (λ (ys : List ℕ). gs ++ ys) (sym (picked-yes (bit a) x (w .here l)) ∙ sym (picked-stop (x + 1) y (bit a) (n .from) (n .none)));
-      here = n .this;
-      most = omega (arith, n .most);
+      fits = le-trans (without-less rest x next-in (low .this next-in)) (le-trans (le-step (le-refl rest)) (w .fits));
+      these = ap (λ (ys : List ℕ). ys ++ picked 16 (bit (without rest (2 ^ x)))) (groups-more o x (rw (w .long) appending-room))
+          ∙ append-assoc (groups o) (x ∷ []) (picked 16 (bit (without rest (2 ^ x))))
+          ∙ ap (λ (ys : List ℕ). groups o ++ ys) (sym (picked-lowest rest x next-in low)) ∙ w .these;
     }
 
-  pub appending-all : (x : ℕ) (o : Order) → Appending x o → 16 ≤ x → a < 65536 → ((g : ℕ) → List·Memᴰ g gs → g < 16) → Listed (gs ++ picked 16 (bit a)) o
-  appending-all x o w l h inside = record {
+  pub appending-all : rest ≡ 0 → ((g : ℕ) → List·Memᴰ g gs → g < 16) → Listed (gs ++ picked 16 (bit a)) o
+  appending-all z inside = record {
     small = record { few = w .few; inside = λ g m. ⊎-elim (inside g) (λ k. picked-out 16 (bit a) g k .0) (List·Memᴰ·append-cases gs (subst (List·Memᴰ g) these m)) };
     these = these;
   }
     where
+      empty : picked 16 (bit rest) ≡ []
+      empty = picked-none 16 (bit rest) (λ j l t. not-yes (ap (λ (r : ℕ). bit r j) z ∙ bit-none j) t)
+
       these : groups o ≡ gs ++ picked 16 (bit a)
-      these = w .these ∙ ap (λ (ys : List ℕ). gs ++ ys) (picked-stop 16 x (bit a) l (λ y p q. bit-past 16 a y h p))
+      these = sym (append-nil (groups o)) ∙ ap (λ (ys : List ℕ). groups o ++ ys) (sym empty) ∙ w .these
 
 -- ---- layer by layer
 

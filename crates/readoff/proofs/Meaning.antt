@@ -1,36 +1,32 @@
 -- What the rows say of groups is what the definitions say, where `above` has the columns of `below`.
-use mathlib.Core.Path.{_≡_, refl, sym, ap, _∙_, subst}
+use mathlib.Core.Path.{_≡_, refl, sym, ap, _∙_}
 use mathlib.Core.Logic.{⊎-elim}
-use mathlib.Core.Bool.{Bool, true, false, false≢true}
-use mathlib.Core.List.{List, [], _∷_, _++_, map, List·Memᴰ, List·Memᴰ·head, List·Memᴰ·tail, List·Memᴰ·append-cases, List·Memᴰ·not-nil}
+use mathlib.Core.Bool.{Bool, true, false}
+use mathlib.Core.List.{List, [], _∷_, map, List·Memᴰ, List·Memᴰ·head, List·Memᴰ·tail, List·Memᴰ·append-cases, List·Memᴰ·not-nil}
 use Prim.Native.Nat.{ℕ, zero, suc, _+_, _-_, _*_, _^_, _≤_, _<_, suc-le-suc}
 use native.Mathlib.Nat.{le-refl, le-trans, le-step}
 use native.Mathlib.Omega.{arith}
-use lib.Bits.{bitAnd, and-le-l, and-le-r, mask-lt}
+use lib.Bits.{bitAnd, and-le-l, mask-lt}
 use lib.Count.{ones}
 use lib.Dec.{eqb, ltb}
-use lib.ListN.{length, getD}
-use lib.Pow.{pow-mono, ones-lt}
-use Rattle.meaning.specs.Constraint.{below, label}
-use Rattle.meaning.specs.Finite.{Yes, pick, _and_, neg, anyb, one, sum, picked, position, smallest, tab}
-use Rattle.meaning.specs.ReadOff.{FactSet, same, over, lowest, depth, layer, layers, order, blank, place, nearest, parentOf, labelOf, NodeRecord, places}
+use lib.ListN.{length}
+use lib.Pow.{pow-mono}
+use Rattle.meaning.specs.Finite.{Yes, _and_, neg, one, sum, picked, smallest, tab}
+use Rattle.meaning.specs.ReadOff.{FactSet, same, over, lowest, depth, layer, layers, order, blank, place, nearest, parentOf, labelOf, places}
 use Rattle.meaning.proofs.Tests.{clash, yes-case, is-eq, eq-yes, self-eq, and-left, and-right, and-both, no-neg}
 use Rattle.meaning.proofs.Finite.{any-intro, any-elim, one-most, sum-bound, smallest-passes, smallest-none}
 use Rattle.meaning.proofs.Lists.{picked-out}
 use Rattle.meaning.proofs.Nodes.{length-picked, layers-most}
 use Rattle.rowbits.specs.Bit.{bit}
 use Rattle.tables.specs.declared.Facts.{Facts}
+use Rattle.tables.specs.Rows.{without}
 use Rattle.tables.specs.Tables.{row, has, Columns}
-use Rattle.readoff.specs.Rows.{Gathered, apart, overRow, isLow, deep, inLayer, near}
+use Rattle.tables.proofs.Bits.{all-has}
+use Rattle.readoff.specs.Rows.{Gathered, overRow, isLow, deep, inLayer, near}
 use Rattle.readoff.specs.Listing.{listed, placeIn, parentIn, nodeIn}
-use Rattle.readoff.proofs.Bits.{yes-not, bit-meet, bit-apart, all-has, sum-eq, any-eq, picked-eq, counted, ones-zero, empty, gathered-picked}
+use Rattle.readoff.proofs.Bits.{and-true, bit-meet, bit-without, sum-eq, any-eq, picked-eq, counted, ones-zero, empty, gathered-picked}
 use Rattle.readoff.proofs.Layered.{Layered}
 use Rattle.readoff.proofs.Listing.{position-eq}
-
-and-true : (a : Bool) → (a and true) ≡ a
-unfolding _and_
-and-true true = refl
-and-true false = refl
 
 and-turn : (a b : Bool) → (a and b) ≡ (b and a)
 unfolding _and_
@@ -62,7 +58,7 @@ unfolding layers layer
 layers-inside n h zero g k = absurd (List·Memᴰ·not-nil k)
 layers-inside n h (suc d) g k = ⊎-elim (layers-inside n h d g) (λ q. picked-out n _ g q .0) (List·Memᴰ·append-cases (layers n h d) k)
 
-pub order-inside : (n : ℕ) (h : FactSet) (g : ℕ) → List·Memᴰ g (order n h) → g < n
+order-inside : (n : ℕ) (h : FactSet) (g : ℕ) → List·Memᴰ g (order n h) → g < n
 unfolding order
 order-inside n h g k = layers-inside n h n g k
 
@@ -90,13 +86,13 @@ label-is f n g h = smallest-only 256 (row (f .label) g) h
 module _ (f : Facts) (n : ℕ) (few : n ≤ 16) (m : Columns (f .below) (f .above)) where
   -- ---- over, same
 
-  over-is : (x y : ℕ) → x < 16 → y < 16 → bit (apart (row (f .above) x) (row (f .below) x)) y ≡ over n (has f) y x
+  over-is : (x y : ℕ) → x < 16 → y < 16 → bit (without (row (f .above) x) (row (f .below) x)) y ≡ over n (has f) y x
   unfolding over has
-  over-is x y h k = bit-apart (row (f .above) x) (row (f .below) x) y k ∙ ap (λ (b : Bool). b and neg (bit (row (f .below) x) y)) (m y x k h)
+  over-is x y h k = bit-without (row (f .above) x) (row (f .below) x) y k ∙ ap (λ (b : Bool). b and neg (bit (row (f .below) x) y)) (m y x k h)
 
-  under-is : (w k : ℕ) → w < 16 → k < 16 → bit (apart (row (f .below) w) (row (f .above) w)) k ≡ over n (has f) w k
+  under-is : (w k : ℕ) → w < 16 → k < 16 → bit (without (row (f .below) w) (row (f .above) w)) k ≡ over n (has f) w k
   unfolding over has
-  under-is w k h l = bit-apart (row (f .below) w) (row (f .above) w) k l ∙ ap (λ (b : Bool). bit (row (f .below) w) k and neg b) (m k w l h)
+  under-is w k h l = bit-without (row (f .below) w) (row (f .above) w) k l ∙ ap (λ (b : Bool). bit (row (f .below) w) k and neg b) (m k w l h)
 
   same-is : (x y : ℕ) → x < 16 → y < 16 → bit (bitAnd (row (f .above) x) (row (f .below) x)) y ≡ same (has f) y x
   unfolding same has
@@ -107,28 +103,28 @@ module _ (f : Facts) (n : ℕ) (few : n ≤ 16) (m : Columns (f .below) (f .abov
 
   rowOf-small : (x : ℕ) → rowOf x < 2 ^ n
   unfolding overRow
-  rowOf-small x = mask-lt (apart (row (f .above) x) (row (f .below) x)) n
+  rowOf-small x = mask-lt (without (row (f .above) x) (row (f .below) x)) n
 
   rowOf-is : (x y : ℕ) → x < 16 → y < n → bit (rowOf x) y ≡ over n (has f) y x
   unfolding overRow
   rowOf-is x y h k =
-      bit-meet (apart (row (f .above) x) (row (f .below) x)) (2 ^ n - 1) y
-      ∙ ap (λ (b : Bool). bit (apart (row (f .above) x) (row (f .below) x)) y and b) (all-has n y k) ∙ and-true _ ∙ over-is x y h (omega arith)
+      bit-meet (without (row (f .above) x) (row (f .below) x)) (2 ^ n - 1) y
+      ∙ ap (λ (b : Bool). bit (without (row (f .above) x) (row (f .below) x)) y and b) (all-has n y k) ∙ and-true _ ∙ over-is x y h (omega arith)
 
   near-is : (x w : ℕ) → x < n → w < n → near (f .below) (f .above) (rowOf x) w ≡ nearest n (has f) w x
   unfolding near nearest
   near-is x w h l =
       rw (rowOf-is x w (omega arith) l) (ap (λ (b : Bool). over n (has f) w x and b)
-      (empty n (bitAnd (rowOf x) (apart (row (f .below) w) (row (f .above) w))) (le-trans (suc-le-suc (and-le-l (rowOf x) _)) (rowOf-small x))
+      (empty n (bitAnd (rowOf x) (without (row (f .below) w) (row (f .above) w))) few (le-trans (suc-le-suc (and-le-l (rowOf x) _)) (rowOf-small x))
       ∙ ap neg (any-eq n _ (λ k. over n (has f) k x and over n (has f) w k)
-      (λ k q. bit-meet (rowOf x) (apart (row (f .below) w) (row (f .above) w)) k ∙ rw (rowOf-is x k (omega arith) q, under-is w k (omega arith) (omega arith))))))
+      (λ k q. bit-meet (rowOf x) (without (row (f .below) w) (row (f .above) w)) k ∙ rw (rowOf-is x k (omega arith) q, under-is w k (omega arith) (omega arith))))))
 
   -- ---- the lowest variables, and the depth of each
 
   low-is : (x : ℕ) → x < 16 → isLow (f .below) (f .above) x ≡ lowest n (has f) x
   unfolding isLow lowest
   low-is x h =
-      empty x (bitAnd (bitAnd (row (f .above) x) (row (f .below) x)) (2 ^ x - 1)) (mask-lt (bitAnd (row (f .above) x) (row (f .below) x)) x)
+      empty x (bitAnd (bitAnd (row (f .above) x) (row (f .below) x)) (2 ^ x - 1)) (omega arith) (mask-lt (bitAnd (row (f .above) x) (row (f .below) x)) x)
       ∙ ap neg (any-eq x _ (λ y. same (has f) y x) (λ y l. bit-meet (bitAnd (row (f .above) x) (row (f .below) x)) (2 ^ x - 1) y
       ∙ ap (λ (b : Bool). bit (bitAnd (row (f .above) x) (row (f .below) x)) y and b) (all-has x y l) ∙ and-true _ ∙ same-is x y h (omega arith)))
 
@@ -176,7 +172,7 @@ module _ (f : Facts) (n : ℕ) (few : n ≤ 16) (m : Columns (f .below) (f .abov
           ap (λ (k : ℕ). one (neg (eqb k 1)))
           (counted 16 (row rows 0) (le-trans (ls 0 (omega arith) .small) p) ∙ sym (length-picked 16 (bit (row rows 0))) ∙ ap length (layer-is 0 (omega arith)))
 
-    pub parent-is : (x : ℕ) → x < n → parentIn (f .below) (f .above) lows (blank n (has f)) (order n (has f)) (rowOf x) ≡ parentOf n (has f) x
+    parent-is : (x : ℕ) → x < n → parentIn (f .below) (f .above) lows (blank n (has f)) (order n (has f)) (rowOf x) ≡ parentOf n (has f) x
     unfolding parentIn parentOf
     parent-is x h =
         rw (
@@ -184,7 +180,7 @@ module _ (f : Facts) (n : ℕ) (few : n ≤ 16) (m : Columns (f .below) (f .abov
           position-eq (near (f .below) (f .above) (rowOf x)) (λ w. nearest n (has f) w x) (order n (has f)) (λ w k. near-is x w h (order-inside n (has f) w k)),
         )
 
-  pub place-is : (x : ℕ) → x < n → placeIn (f .below) (f .above) (blank n (has f)) (order n (has f)) x ≡ place n (has f) x
+  place-is : (x : ℕ) → x < n → placeIn (f .below) (f .above) (blank n (has f)) (order n (has f)) x ≡ place n (has f) x
   unfolding placeIn place
   place-is x h =
       ap (λ (k : ℕ). blank n (has f) + k)

@@ -1,8 +1,8 @@
 -- Bytes written one run after another are written as one, and the records of a longer list are those of the shorter one and one more.
 use mathlib.Core.Path.{_≡_, refl, sym, ap, _∙_, subst}
 use mathlib.Core.List.{List, [], _∷_, _++_, map, map-append, append-assoc, append-nil}
-use Prim.Native.Nat.{ℕ, zero, suc, _+_, _*_, _≤_, _<_}
-use native.Mathlib.Nat.{add-zero, zero-add}
+use Prim.Native.Nat.{ℕ, suc, _+_, _*_, _≤_, _<_}
+use native.Mathlib.Nat.{add-zero}
 use native.Mathlib.Numerals.{add-one}
 use native.Mathlib.Omega.{arith}
 use lib.ListN.{length, getD, take, drop, set, length-append, length-map, take-append-drop}
@@ -21,7 +21,7 @@ use Rattle.readoff.specs.Written.{Wrote}
 use Rattle.readoff.proofs.Bits.{yes-not}
 use Rattle.readoff.proofs.Listing.{member-at}
 
-pub wrote-none : (at : ℕ) (old : List ℕ) → Wrote at [] old old
+wrote-none : (at : ℕ) (old : List ℕ) → Wrote at [] old old
 wrote-none at old = rw (add-zero, append-nil (take at old)) (sym (take-append-drop at old))
 
 pub wrote-four : (at a b c d : ℕ) (old : List ℕ) → at + 4 ≤ length old
@@ -53,16 +53,6 @@ wrote-more at next bs cs ds old mid new w e v d h =
         ∙ ap (drop (length cs)) (ap (drop (at + length bs)) w ∙ drop-at (take at old ++ bs) _ _ reach)
         ∙ drop-drop (length cs) (at + length bs) old
         ∙ ap (λ (k : ℕ). drop k old) ends
-
-pub wrote-length : (at : ℕ) (bs old new : List ℕ) → at + length bs ≤ length old → Wrote at bs old new → length new ≡ length old
-wrote-length at bs old new h w =
-    let a = ap length w ∙ length-append (take at old ++ bs) (drop (at + length bs) old) in
-    let b = length-append (take at old) bs in
-    let c = length-take-le at old (omega arith) in
-    let d = length-append (take (at + length bs) old) (drop (at + length bs) old) in
-    let e = ap length (take-append-drop (at + length bs) old) in
-    let f = length-take-le (at + length bs) old h in
-    omega arith
 
 -- ---- records
 
@@ -137,7 +127,7 @@ numbers-length : (vs : List Node) (x : ℕ) → x ≤ length vs → length (node
 unfolding nodeNumbers
 numbers-length vs x l = length-map (take x vs) (λ (v : Node). v .0) ∙ length-take-le x vs l
 
-pub numbers-set : (vs : List Node) (x v : ℕ) → x < length vs → nodeNumbers (x + 1) (set vs x record { 0 = v }) ≡ nodeNumbers x vs ++ v ∷ []
+numbers-set : (vs : List Node) (x v : ℕ) → x < length vs → nodeNumbers (x + 1) (set vs x record { 0 = v }) ≡ nodeNumbers x vs ++ v ∷ []
 unfolding nodeNumbers
 numbers-set vs x v l =
     ap (map (λ (v : Node). v .0)) (ap (λ (k : ℕ). take k (set vs x record { 0 = v })) (add-one x) ∙ take-suc-set vs x record { 0 = v } l)

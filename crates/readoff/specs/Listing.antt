@@ -1,11 +1,10 @@
 -- The groups in the order of their nodes, as a list, and what is read from it.
 use mathlib.Core.Path.{_≡_}
-use mathlib.Core.Bool.{Bool}
 use mathlib.Core.List.{List, [], _++_, map, List·Memᴰ}
 use Prim.Native.Nat.{ℕ, zero, suc, _+_, _≤_, _<_}
 use lib.Bits.{bitAnd}
 use lib.Dec.{eqb}
-use lib.ListN.{getD, take, length}
+use lib.ListN.{take}
 use Rattle.meaning.specs.Finite.{pick, picked, position}
 use Rattle.meaning.specs.ReadOff.{NodeRecord}
 use Rattle.rowbits.specs.Bit.{bit}

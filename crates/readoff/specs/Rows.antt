@@ -1,14 +1,15 @@
 -- What the rows of the tables say of groups: which variables are over one, which are the lowest of their group, and how deep one is.
 -- t is the table `below` and u its columns, `above`.
 use mathlib.Core.Path.{_≡_}
-use mathlib.Core.Bool.{Bool, true, false}
+use mathlib.Core.Bool.{Bool}
 use mathlib.Core.List.{List}
-use Prim.Native.Nat.{ℕ, _+_, _-_, _^_, _≤_, _<_}
-use lib.Bits.{bitAnd, bitXor}
+use Prim.Native.Nat.{ℕ, _-_, _^_, _<_}
+use lib.Bits.{bitAnd}
 use lib.Count.{ones}
 use lib.Dec.{eqb}
 use Rattle.meaning.specs.Finite.{_and_}
 use Rattle.rowbits.specs.Bit.{bit}
+use Rattle.tables.specs.Rows.{without}
 use Rattle.tables.specs.Tables.{row}
 
 -- the numbers below k that pass a test, as a row
@@ -16,20 +17,9 @@ pub record Gathered (k : ℕ) (p : ℕ → Bool) (r : ℕ) : Type 0 where
   pub small : r < 2 ^ k
   pub each : (y : ℕ) → y < k → bit r y ≡ p y
 
--- the smallest number of a row from k on; 16 or more where there is none
-pub record Next (a k r : ℕ) : Type 0 where
-  pub from : k ≤ r
-  pub most : r ≤ k + 16
-  pub none : (y : ℕ) → k ≤ y → y < r → bit a y ≡ false
-  pub this : r < 16 → bit a r ≡ true
-
--- what is in a and not in b
-unfoldable pub apart : ℕ → ℕ → ℕ
-apart a b = bitAnd a (bitXor b 65535)
-
 -- the variables below n that are over one with these two rows
 unfoldable pub overRow : ℕ → ℕ → ℕ → ℕ
-overRow n up down = bitAnd (apart up down) (2 ^ n - 1)
+overRow n up down = bitAnd (without up down) (2 ^ n - 1)
 
 module _ (t u : List ℕ) where
   -- no smaller variable is the same
@@ -45,4 +35,4 @@ module _ (t u : List ℕ) where
 
   -- w is among these, which are over one variable, and over none of them
   unfoldable pub near : ℕ → ℕ → Bool
-  near above w = bit above w and eqb (bitAnd above (apart (row t w) (row u w))) 0
+  near above w = bit above w and eqb (bitAnd above (without (row t w) (row u w))) 0

@@ -1,7 +1,6 @@
 // The answer file of settled tables: a node for each group of same variables, by depth and then by lowest variable, and the node of each
 // variable.
 ghost use mathlib.Core.Path.{_≡_};
-ghost use mathlib.Core.Bool.{Bool};
 ghost use mathlib.Core.List.{[], _∷_, _++_, map};
 ghost use Prim.Native.Nat.{ℕ, _+_, _-_, _*_, _^_, _<_, _≤_};
 ghost use lib.Bits.{bitAnd};
@@ -10,9 +9,10 @@ ghost use lib.Dec.{eqb};
 ghost use lib.ListN.{length};
 ghost use Rattle.meaning.specs.Finite.{pick, _and_, neg, one, picked, position, tab};
 ghost use Rattle.meaning.specs.ReadOff.{nodeBytes, placeBytes, blankRecord};
-ghost use Rattle.rowbits.specs.Bit.{bit, withBit};
+ghost use Rattle.rowbits.specs.Bit.{bit};
+ghost use Rattle.tables.specs.Rows.{without};
 ghost use Rattle.tables.specs.Tables.{row, has, Mirrored};
-ghost use Rattle.readoff.specs.Rows.{Gathered, Next, apart, overRow, isLow, inLayer, near};
+ghost use Rattle.readoff.specs.Rows.{Gathered, overRow, isLow, inLayer, near};
 ghost use Rattle.readoff.specs.Listing.{groups, Small, listed, Listed, nodeNumbers, placeIn, parentIn, nodeIn};
 ghost use Rattle.readoff.specs.Written.{Wrote, Answered};
 use ids::Node;
@@ -20,41 +20,17 @@ use ids::Var;
 use tables::Facts;
 
 // The groups in the order of their nodes, each by its lowest variable.
-pub struct Order {
-    pub group: [Var; 16],
-    pub len: usize,
+struct Order {
+    group: [Var; 16],
+    len: usize,
 }
 
-// The numbers below n.
-fn all(n: usize) -> u16
-    requires { ⌜ n ≤ 16 ⌝ }
-    ensures { λ r. ⌜ r ≡ 2 ^ n - 1 ⌝ }
-{
-    let p: u32 = 1 << n;
-    (p - 1) as u16
-}
-
+// The variables below n that are over one, which has these rows of what is above and below it.
 fn over(up: u16, down: u16, n: usize) -> u16
     requires { ⌜ n ≤ 16 ⌝ }
     ensures { λ r. ⌜ r ≡ overRow n up down ⌝ }
 {
-    without(up, down) & all(n)
-}
-
-fn without(a: u16, b: u16) -> u16
-    ensures { λ r. ⌜ r ≡ apart a b ⌝ }
-{
-    a & (b ^ 65535)
-}
-
-fn mark(t: bool, row: u16, y: usize) -> u16
-    requires { ⌜ y < 16 ⌝ }
-    ensures { λ r. ⌜ r ≡ pick t (withBit row y) row ⌝ }
-{
-    if t {
-        return rowbits::with(row, y);
-    }
-    row
+    tables::except(up, down) & tables::all(n)
 }
 
 fn count(row: u16) -> usize
@@ -63,21 +39,12 @@ fn count(row: u16) -> usize
     u32::count_ones(row as u32) as usize
 }
 
-// The smallest number of a row from k on.
-fn next(row: u16, k: usize) -> usize
-    requires { ⌜ k ≤ 16 ⌝ }
-    ensures { λ r. ⌜ Next row k r ⌝ }
-{
-    let rest = (row as u32 >> k) | 65536;
-    k + u32::trailing_zeros(rest) as usize
-}
-
 // Whether no smaller variable is in the group of x.
 fn is_low(up: u16, down: u16, x: Var) -> bool
     requires { ⌜ x .0 < 16 ⌝ }
     ensures { λ r. ⌜ r ≡ eqb (bitAnd (bitAnd up down) (2 ^ (x .0) - 1)) 0 ⌝ }
 {
-    up & down & all(x.0 as usize) == 0
+    up & down & tables::all(x.0 as usize) == 0
 }
 
 // The lowest variables of the groups.
@@ -89,7 +56,7 @@ fn lows(below: [u16; 16], above: [u16; 16], n: usize) -> u16
     for x in 0..n {
         let up = above[x];
         let down = below[x];
-        a = mark(is_low(up, down, Var(x as u8)), a, x);
+        a = tables::mark(is_low(up, down, Var(x as u8)), a, x);
     }
     a
 }
@@ -105,27 +72,29 @@ fn layers(below: [u16; 16], above: [u16; 16], lows: u16, n: usize) -> [u16; 17]
         let down = below[x];
         let depth = count(over(up, down, n) & lows);
         let old = layer[depth];
-        layer[depth] = mark(rowbits::has(lows, x), old, x);
+        layer[depth] = tables::mark(rowbits::has(lows, x), old, x);
     }
     layer
 }
 
-// The members of a row, put behind those of the order.
+// The order with the members of a row behind it.
 fn append(order: Order, row: u16) -> Order
     requires { ⌜ Small order × (length (groups order) + length (picked 16 (bit row)) ≤ 16) ⌝ }
     ensures { λ r. ⌜ Listed (groups order ++ picked 16 (bit row)) r ⌝ }
 {
     let mut o = order;
-    let mut x = next(row, 0);
-    while x < 16 {
+    let mut rest = row;
+    while rest != 0 {
+        let x = tables::lowest(rest);
         let at = o.len;
         o.group[at] = Var(x as u8);
         o.len = at + 1;
-        x = next(row, x + 1);
+        rest = tables::except(rest, tables::one(x));
     }
     o
 }
 
+// The groups layer by layer.
 fn in_order(layer: [u16; 17], n: usize) -> Order
     requires { ⌜ (n ≤ 16) × (length (listed layer n) ≤ 16) ⌝ }
     ensures { λ r. ⌜ Listed (listed layer n) r ⌝ }
@@ -158,9 +127,9 @@ fn find(order: Order, row: u16) -> usize
 // Whether w is over, and over nothing else that is.
 fn is_near(over: u16, w: Var, down: u16, up: u16) -> bool
     requires { ⌜ w .0 < 16 ⌝ }
-    ensures { λ r. ⌜ r ≡ (bit over (w .0) and eqb (bitAnd over (apart down up)) 0) ⌝ }
+    ensures { λ r. ⌜ r ≡ (bit over (w .0) and eqb (bitAnd over (without down up)) 0) ⌝ }
 {
-    rowbits::has(over, w.0 as usize) & (over & without(down, up) == 0)
+    rowbits::has(over, w.0 as usize) & (over & tables::except(down, up) == 0)
 }
 
 // The place of the nearest group of those over one variable.

@@ -1,6 +1,6 @@
 -- `readoff::assign` meets its contract: at x the variables below x have their nodes.
-use mathlib.Core.Path.{_≡_, sym, ap, _∙_}
-use Prim.Native.Nat.{ℕ, _≤_, _+_, _-_}
+use mathlib.Core.Path.{_≡_, ap}
+use Prim.Native.Nat.{ℕ, _<_, _≤_, _+_, _-_}
 use native.Mathlib.Omega.{arith}
 use lib.Bits.{bitAnd}
 use lib.ListN.{length}
@@ -19,6 +19,14 @@ Inv-loop order blank n below above nodes₀ x₀ nodes x = (x ≤ n) × (length 
 
 abbrev μ-loop : tie.MeasureT-loop
 μ-loop order blank n below above nodes₀ x₀ nodes x = n - x
+
+-- the node's number is a byte
+number-fits : (c : tie.After-find Inv-loop μ-loop) → c .before .before .before .args .blank + c .find .result < 256
+number-fits c =
+    let i = c .before .before in
+    let s = i .before in
+    let m = place-most (bit (bitAnd (row (s .args .t3) (i .loop .x)) (row (s .args .t2) (i .loop .x)))) (s .args .order) (search (needs, length-mapped)) (s .pre .0) in
+    omega (arith, c .find .ensures, s .pre .1)
 
 loop-holds : tie.Need-loop-holds Inv-loop μ-loop
 loop-holds c = (search needs, search needs, assigned-none _ _)
@@ -39,18 +47,10 @@ find-requires : tie.Need-find-requires Inv-loop μ-loop
 find-requires c κs = c .before .before .pre .0
 
 add-t15 : tie.Need-add-t15 Inv-loop μ-loop
-add-t15 c =
-    let i = c .before .before in
-    let s = i .before in
-    let m = place-most (bit (bitAnd (row (s .args .t3) (i .loop .x)) (row (s .args .t2) (i .loop .x)))) (s .args .order) (search (needs, length-mapped)) (s .pre .0) in
-    omega (arith, c .find .ensures, s .pre .1)
+add-t15 c = omega (arith, number-fits c)
 
 cast-t21 : tie.Need-cast-t21 Inv-loop μ-loop
-cast-t21 c =
-    let i = c .before .before in
-    let s = i .before in
-    let m = place-most (bit (bitAnd (row (s .args .t3) (i .loop .x)) (row (s .args .t2) (i .loop .x)))) (s .args .order) (search (needs, length-mapped)) (s .pre .0) in
-    omega (arith, c .find .ensures, s .pre .1)
+cast-t21 c = omega (arith, number-fits c)
 
 array-set-from-nodes : tie.Need-array-set-from-nodes Inv-loop μ-loop
 array-set-from-nodes c = search needs

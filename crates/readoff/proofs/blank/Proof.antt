@@ -1,6 +1,8 @@
 -- `readoff::blank` meets its contract.
 use mathlib.Core.Path.{sym, _∙_}
-use Rattle.readoff.proofs.Helpers.{not-one, is-one}
+use Rattle.meaning.specs.Finite.{one, neg}
+use Rattle.meaning.proofs.Tests.{eq-yes, is-eq}
+use Rattle.readoff.proofs.Bits.{yes-not}
 use borrow.Author.Needs.{needs}
 use Rattle.readoff.proofs.blank.Statement.{statement}
 use Rattle.readoff.proofs.blank.Tie as tie
@@ -9,10 +11,12 @@ count-requires : tie.Need-count-requires
 count-requires c κs = search needs
 
 returns : tie.Need-returns
-returns c = not-one _ (sym (c .before .count .ensures .0) ∙ c .if1 .taken)
+unfolding one neg
+returns c = rw (eq-yes (sym (c .before .count .ensures .0) ∙ c .if1 .taken))
 
 returns-2 : tie.Need-returns-2
-returns-2 c = is-one _ (λ e. c .if1 .left (c .before .count .ensures .0 ∙ e))
+unfolding one neg
+returns-2 c = rw (yes-not (λ y. c .if1 .left (c .before .count .ensures .0 ∙ is-eq y)))
 
 pub blank-spec : {M : Type 1} → statement M
 blank-spec = tie.close (tie.spec count-requires returns returns-2)

@@ -1,7 +1,6 @@
 -- `readoff::count` meets its contract: sixteen digits have at most sixteen set.
 use native.Mathlib.Omega.{arith}
 use lib.Count.{ones-le}
-use borrow.Author.Needs.{needs}
 use Rattle.readoff.proofs.count.Statement.{statement}
 use Rattle.readoff.proofs.count.Tie as tie
 

@@ -2,7 +2,7 @@
 use mathlib.Core.Path.{_≡_, sym, _∙_}
 use Prim.Native.Nat.{_≤_, _+_, _-_}
 use native.Mathlib.Omega.{arith}
-use lib.ListN.{length, drop}
+use lib.ListN.{drop}
 use Rattle.meaning.specs.Finite.{position}
 use Rattle.rowbits.specs.Bit.{bit}
 use Rattle.readoff.specs.Listing.{groups}

@@ -1,8 +1,8 @@
 -- `readoff::nearest` meets its contract: at every place the groups before it and the place in the rest make the whole.
 use mathlib.Core.Path.{_≡_, sym, _∙_}
-use Prim.Native.Nat.{_≤_, _+_, _-_}
+use Prim.Native.Nat.{_<_, _≤_, _+_, _-_}
 use native.Mathlib.Omega.{arith}
-use lib.ListN.{length, drop}
+use lib.ListN.{getD, drop}
 use Rattle.meaning.specs.Finite.{position}
 use Rattle.readoff.specs.Rows.{near}
 use Rattle.readoff.specs.Listing.{groups}
@@ -17,6 +17,10 @@ Inv-loop over order below above len i₀ i = (i ≤ len) × (i + position (near 
 abbrev μ-loop : tie.MeasureT-loop
 μ-loop over order below above len i₀ i = len - i
 
+-- the group that is looked at is a variable
+variable-in : (c : tie.After-struct-known Inv-loop μ-loop) → let i = c .before .before .before in getD (i .before .args .t1 .group) (i .loop .i) record { 0 = 0 } .0 < 16
+variable-in c = let i = c .before .before .before in inside-at (i .before .args .t1) (search (needs, length-mapped)) (i .before .pre) (i .loop .i) (search needs)
+
 loop-holds : tie.Need-loop-holds Inv-loop μ-loop
 loop-holds c = (search needs, omega arith)
 
@@ -27,25 +31,26 @@ cast-w : tie.Need-cast-w Inv-loop μ-loop
 cast-w c = search needs
 
 mul-down : tie.Need-mul-down Inv-loop μ-loop
-mul-down c = let i = c .before .before .before in let s = inside-at (i .before .args .t1) (search (needs, length-mapped)) (i .before .pre) (i .loop .i) (search needs) in omega arith
+mul-down c = omega (arith, variable-in c)
 
 array-read-down : tie.Need-array-read-down Inv-loop μ-loop
-array-read-down c = let i = c .before .before .before in inside-at (i .before .args .t1) (search (needs, length-mapped)) (i .before .pre) (i .loop .i) (search needs)
+array-read-down c = variable-in c
 
 mul-up : tie.Need-mul-up Inv-loop μ-loop
-mul-up c = let i = c .before .before .before in let s = inside-at (i .before .args .t1) (search (needs, length-mapped)) (i .before .pre) (i .loop .i) (search needs) in omega arith
+mul-up c = omega (arith, variable-in c)
 
 array-read-up : tie.Need-array-read-up Inv-loop μ-loop
-array-read-up c = let i = c .before .before .before in inside-at (i .before .args .t1) (search (needs, length-mapped)) (i .before .pre) (i .loop .i) (search needs)
+array-read-up c = variable-in c
 
 is-near-requires : tie.Need-is-near-requires Inv-loop μ-loop
-is-near-requires c κs = let i = c .before .before .before in inside-at (i .before .args .t1) (search (needs, length-mapped)) (i .before .pre) (i .loop .i) (search needs)
+is-near-requires c κs = variable-in c
 
 returns : tie.Need-returns Inv-loop μ-loop
 unfolding near
 returns c =
     let i = c .before .before .before .before .before in
-    scan-here (near (i .before .args .t3) (i .before .args .t4) (i .before .args .over)) (i .before .args .t1) (search (needs, length-mapped)) (i .before .pre) (i .loop .i) (search needs) (sym (c .before .is-near .ensures) ∙ c .if1 .taken) (i .loop .inv .1)
+    scan-here (near (i .before .args .t3) (i .before .args .t4) (i .before .args .over)) (i .before .args .t1) (search (needs, length-mapped)) (i .before .pre) (i .loop .i) (search needs)
+    (sym (c .before .is-near .ensures) ∙ c .if1 .taken) (i .loop .inv .1)
 
 add-i : tie.Need-add-i Inv-loop μ-loop
 add-i c = search needs

@@ -4,15 +4,15 @@ use borrow.Author.Needs.{needs}
 use Rattle.readoff.proofs.over.Statement.{statement}
 use Rattle.readoff.proofs.over.Tie as tie
 
-without-requires : tie.Need-without-requires
-without-requires c κs = search needs
+except-requires : tie.Need-except-requires
+except-requires c κs = search needs
 
 all-requires : tie.Need-all-requires
 all-requires c κs = search needs
 
 returns : tie.Need-returns
 unfolding overRow
-returns c = rw (c .before .without .ensures, c .all .ensures)
+returns c = rw (c .before .except .ensures, c .all .ensures)
 
 pub over-spec : {M : Type 1} → statement M
-over-spec = tie.close (tie.spec without-requires all-requires returns)
+over-spec = tie.close (tie.spec except-requires all-requires returns)

@@ -1,16 +1,23 @@
 -- `readoff::parent_of` meets its contract.
 use mathlib.Core.Path.{ap, _∙_}
-use Prim.Native.Nat.{ℕ, _+_}
+use Prim.Native.Nat.{ℕ, _<_, _+_}
 use native.Mathlib.Omega.{arith}
 use Rattle.meaning.proofs.Tests.{eq-yes, is-eq}
 use Rattle.readoff.specs.Rows.{near}
 use Rattle.readoff.specs.Listing.{parentIn}
 use Rattle.readoff.proofs.Bits.{yes-not}
-use Rattle.readoff.proofs.Helpers.{pick-on, pick-off}
+use Rattle.tables.proofs.Helpers.{pick-on, pick-off}
 use Rattle.readoff.proofs.Listing.{length-mapped, place-most}
 use borrow.Author.Needs.{needs}
 use Rattle.readoff.proofs.parent_of.Statement.{statement}
 use Rattle.readoff.proofs.parent_of.Tie as tie
+
+-- the node's number is a byte
+number-fits : (c : tie.After-nearest) → c .before .before .args .blank + c .nearest .result < 256
+number-fits c =
+    let s = c .before .before in
+    let m = place-most (near (s .args .below) (s .args .above) (s .args .over)) (s .args .order) (search (needs, length-mapped)) (s .pre .0) in
+    omega (arith, c .nearest .ensures, s .pre .1)
 
 returns : tie.Need-returns
 unfolding parentIn
@@ -20,10 +27,10 @@ nearest-requires : tie.Need-nearest-requires
 nearest-requires c κs = search needs
 
 add-t10 : tie.Need-add-t10
-add-t10 c = let s = c .before .before in let m = place-most (near (s .args .below) (s .args .above) (s .args .over)) (s .args .order) (search (needs, length-mapped)) (s .pre .0) in omega (arith, c .nearest .ensures, s .pre .1)
+add-t10 c = omega (arith, number-fits c)
 
 cast-t11 : tie.Need-cast-t11
-cast-t11 c = let s = c .before .before in let m = place-most (near (s .args .below) (s .args .above) (s .args .over)) (s .args .order) (search (needs, length-mapped)) (s .pre .0) in omega (arith, c .nearest .ensures, s .pre .1)
+cast-t11 c = omega (arith, number-fits c)
 
 returns-2 : tie.Need-returns-2
 unfolding parentIn

@@ -1,6 +1,6 @@
 -- `readoff::put_places` meets its contract: at x the places of the variables below x are written.
-use mathlib.Core.Path.{_≡_, subst}
-use Prim.Native.Nat.{ℕ, _≤_, _-_}
+use mathlib.Core.Path.{_≡_}
+use Prim.Native.Nat.{_≤_, _-_}
 use native.Mathlib.Omega.{arith}
 use lib.ListN.{length}
 use Rattle.readoff.specs.Written.{Wrote}
