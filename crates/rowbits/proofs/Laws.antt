@@ -1,13 +1,12 @@
 -- The bits of a row: of a union, of a meet, of one number, of the row with one number more, and bounds.
--- Assumes nothing.
 use mathlib.Core.Path.{_≡_, refl, sym, ap, _∙_}
 use mathlib.Core.Logic.{_⊎_, inl, inr, ⊎-elim}
 use mathlib.Core.Bool.{Bool, true, false, _||_, _&&_}
 use Prim.Native.Nat.{ℕ, zero, suc, _+_, _-_, _*_, _/_, _%_, _^_, _<_, _≤_, min, max}
-use native.Mathlib.Nat.{mod-lt, zero-lt-suc, div-eq-of-lt, mul-div-cancel, pow-suc, div-self, mul-add-mod-self-right, eq-or-lt-of-le, one-mul, mod-eq-of-lt}
+use native.Mathlib.Nat.{mod-lt, zero-lt-suc, div-eq-of-lt, pow-suc, div-self, mul-add-mod-self-right, eq-or-lt-of-le, one-mul, mod-eq-of-lt}
 use native.Mathlib.Omega.{arith}
 use lib.Dec.{eqb, ltb}
-use lib.Bits.{bitOr, bitAnd, or-shr, and-shr, or-step, and-step, or-lt, and-lt, and-mask}
+use lib.Bits.{bitOr, bitAnd, or-shr, and-shr, or-step, and-step, or-lt}
 use lib.Pow.{pow-pos, pow-lt, pow-add, shl-shr}
 use borrow.Author.Tests.{eq-eqb, ne-eqb, ltb-true, ltb-false}
 use Rattle.rowbits.specs.Bit.{bit, withBit}
@@ -82,10 +81,6 @@ pub with-lt : (k a j : ℕ) → a < 2 ^ k → j < k → withBit a j < 2 ^ k
 unfolding withBit
 with-lt k a j h l = or-lt k a (2 ^ j) h (pow-lt l)
 
--- what the code computes: a masked shift, and a shifted one
-pub masked : (a i : ℕ) → eqb (bitAnd (a / 2 ^ i) 1) 1 ≡ bit a i
-unfolding bit
-masked a i = rw (and-mask (a / 2 ^ i) 1)
-
+-- what the code computes: a shifted one
 pub shifted-one : (w j : ℕ) → j < w → (1 * 2 ^ j) % 2 ^ w ≡ 2 ^ j
 shifted-one w j l = rw (one-mul (2 ^ j), mod-eq-of-lt (pow-lt l))

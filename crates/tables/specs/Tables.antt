@@ -5,12 +5,12 @@ use mathlib.Core.List.{List, List·Memᴰ}
 use Prim.Native.Nat.{ℕ, _<_}
 use lib.Dec.{eqb}
 use lib.ListN.{getD}
-use Rattle.rowbits.specs.Bit.{bit}
 use Rattle.meaning.specs.Constraint.{Fact, child, below, differ, root, leaf, label}
 use Rattle.meaning.specs.Settled.{Settled, Clash}
 use Rattle.meaning.specs.Finite.{Yes, _and_, neg}
 use Rattle.meaning.specs.ReadOff.{Decides}
 use Rattle.meaning.proofs.Facts.{Inside}
+use Rattle.rowbits.specs.Bit.{bit}
 use Rattle.tables.specs.declared.Facts.{Facts}
 
 -- a row of a table

@@ -1,5 +1,10 @@
 // The facts of a settled set as tables of rows, one row for each variable. A row is a set of variables: bit y of row x of `below` says
 // below(x, y). They go into an alternative by value.
+ghost use mathlib.Core.Path.{_≡_};
+ghost use Prim.Native.Nat.{_<_, _≤_, _^_, _-_};
+ghost use Rattle.meaning.specs.Finite.{pick};
+ghost use Rattle.tables.specs.Rows.{gained, meets, both, marked, without, Gathers, Transposed, Raised, Lowest};
+ghost use Rattle.tables.specs.Tables.{row};
 
 // `parent` and `above` are the columns of `child` and `below`, kept as rows: bit x of row y. A label of 0 is no label fact.
 // root and leaf lie apart: a compiler that loads two neighbours as one number waits for both to be stored.
@@ -12,4 +17,116 @@ pub struct Facts {
     pub root: u16,
     pub label: [u8; 16],
     pub leaf: u16,
+}
+
+// What settling answers: settled tables, or a clash and the tables that came in.
+pub struct Settled {
+    pub clash: bool,
+    pub facts: Facts,
+}
+
+pub fn one(y: usize) -> u16
+    requires { ⌜ y < 16 ⌝ }
+    ensures { λ r. ⌜ r ≡ 2 ^ y ⌝ }
+{
+    1 << y
+}
+
+// Every number below n.
+pub fn all(n: usize) -> u16
+    requires { ⌜ n ≤ 16 ⌝ }
+    ensures { λ r. ⌜ r ≡ 2 ^ n - 1 ⌝ }
+{
+    let p: u32 = 1 << n;
+    (p - 1) as u16
+}
+
+pub fn when(t: bool, more: u16) -> u16
+    ensures { λ r. ⌜ r ≡ pick t more 0 ⌝ }
+{
+    if t {
+        return more;
+    }
+    0
+}
+
+pub fn gain(t: bool, row: u16, more: u16) -> u16
+    ensures { λ r. ⌜ r ≡ gained t row more ⌝ }
+{
+    row | when(t, more)
+}
+
+pub fn mark(t: bool, row: u16, y: usize) -> u16
+    requires { ⌜ y < 16 ⌝ }
+    ensures { λ r. ⌜ r ≡ marked t row y ⌝ }
+{
+    gain(t, row, one(y))
+}
+
+pub fn meet(a: u16, b: u16) -> bool
+    ensures { λ r. ⌜ r ≡ meets a b ⌝ }
+{
+    a & b != 0
+}
+
+pub fn has_both(a: u16, i: usize, b: u16, j: usize) -> bool
+    requires { ⌜ (i < 16) × (j < 16) ⌝ }
+    ensures { λ r. ⌜ r ≡ both a i b j ⌝ }
+{
+    rowbits::has(a, i) & rowbits::has(b, j)
+}
+
+pub fn except(a: u16, b: u16) -> u16
+    ensures { λ r. ⌜ r ≡ without a b ⌝ }
+{
+    a & (b ^ 65535)
+}
+
+// The smallest number in a row, or 16.
+pub fn lowest(row: u16) -> usize
+    ensures { λ r. ⌜ Lowest row r ⌝ }
+{
+    u16::trailing_zeros(row) as usize
+}
+
+// The numbers of the rows that meet c.
+pub fn meeting(t: [u16; 16], c: u16) -> u16
+    ensures { λ r. ⌜ Gathers (λ y. meets (row t y) c) r ⌝ }
+{
+    let mut a: u16 = 0;
+    if c == 0 {
+        return a;
+    }
+    for y in 0usize..16 {
+        let v = t[y];
+        a = mark(meet(v, c), a, y);
+    }
+    a
+}
+
+// The columns of a table as rows.
+pub fn transpose(t: [u16; 16]) -> [u16; 16]
+    ensures { λ r. ⌜ Transposed t r ⌝ }
+{
+    let mut a = [0u16; 16];
+    for y in 0usize..16 {
+        let v = t[y];
+        for x in 0usize..16 {
+            let w = a[x];
+            a[x] = mark(rowbits::has(v, x), w, y);
+        }
+    }
+    a
+}
+
+// A row added to each row whose number is in `which`.
+pub fn raise(t: [u16; 16], which: u16, by: u16) -> [u16; 16]
+    ensures { λ r. ⌜ Raised t which by r ⌝ }
+{
+    let mut a = t;
+    for x in 0usize..16 {
+        let v = a[x];
+        a[x] = gain(rowbits::has(which, x), v, by);
+    }
+    a
 }

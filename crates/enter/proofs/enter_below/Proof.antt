@@ -1,0 +1,84 @@
+use Prim.Native.Nat.{ℕ, _<_}
+use lib.ListN.{getD}
+use mir.Val.{Fits}
+use mir.Syntax.{w16}
+-- `enter::enter_below` meets its contract: by rows or by settling, as the test says.
+use mathlib.Core.Path.{sym, _∙_}
+use mathlib.Core.Bool.{false≢true}
+use borrow.Author.Needs.{needs}
+use Rattle.tables.specs.Tables.{has}
+use Rattle.tables.proofs.Bits.{meets-in}
+use Rattle.enter.proofs.Enter.{raised-ready, entered-well, entered-same, or-no}
+use Rattle.enter.proofs.enter_below.Statement.{statement}
+use Rattle.enter.proofs.enter_below.Tie as tie
+
+above-small : (c : tie.Start) (i : ℕ) → getD (c .args .f .above) i 0 < 65536
+above-small c i = let h : Fits w16 (getD (c .args .f .above) i 0) = search needs in h .fits
+
+cast-i : tie.Need-cast-i
+cast-i c = search needs
+
+cast-j : tie.Need-cast-j
+cast-j c = search needs
+
+mul-down : tie.Need-mul-down
+mul-down c = search needs
+
+array-read-down : tie.Need-array-read-down
+array-read-down c = search needs
+
+mul-up : tie.Need-mul-up
+mul-up c = search needs
+
+array-read-up : tie.Need-array-read-up
+array-read-up c = search needs
+
+has-requires : tie.Need-has-requires
+has-requires c κs = search needs
+
+meet-requires : tie.Need-meet-requires
+meet-requires c κs = search needs
+
+enter-same-requires : tie.Need-enter-same-requires
+enter-same-requires c κs = search needs
+
+returns : tie.Need-returns
+returns c =
+    let test = c .before in
+    let m = test .before in
+    let s = m .before .before .before .before .before .before in
+    entered-same _ _ _ _ _ (s .pre .2) (s .pre .0) (above-small s _) _ _ (m .before .has .ensures) (m .meet .ensures) (test .if1 .taken) (c .enter-same .ensures)
+
+raise-requires : tie.Need-raise-requires
+raise-requires c κs = search needs
+
+raise-requires-2 : tie.Need-raise-requires-2
+raise-requires-2 c κs = search needs
+
+returns-2 : tie.Need-returns-2
+unfolding has
+returns-2 c =
+    let m = c .before .before .before in
+    let s = m .before .before .before .before .before .before in
+    let o = or-no _ _ (c .before .before .if1 .left) in
+    entered-well _ _ _ _ _ (λ S q. raised-ready _ (s .pre .2) S _ _ _ (s .pre .0) (s .pre .1) q _ _ (c .before .raise .ensures) (c .raise2 .ensures)
+    (λ u. false≢true (sym (o .0) ∙ m .before .has .ensures ∙ u))
+    (λ k u v. false≢true (sym (o .1) ∙ m .meet .ensures ∙ meets-in _ _ k u v)))
+
+pub enter-below-spec : {M : Type 1} → statement M
+enter-below-spec =
+    tie.close
+    (tie.spec
+    cast-i
+    cast-j
+    mul-down
+    array-read-down
+    mul-up
+    array-read-up
+    has-requires
+    meet-requires
+    enter-same-requires
+    returns
+    raise-requires
+    raise-requires-2
+    returns-2)

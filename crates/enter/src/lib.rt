@@ -1,0 +1,32 @@
+// Entering below(a, b) into settled tables.
+ghost use Prim.Native.Nat.{_<_, _≤_};
+ghost use Rattle.enter.specs.Entered.{EnteredOf};
+use ids::Var;
+use tables::Facts;
+use tables::Settled;
+
+// The tables with below(a, b), settled again. Where b is not at or above a and no leaf is, nothing becomes the same: the new facts are
+// below(u, v) with u at or above a and v at or below b. Elsewhere a and b become the same.
+pub fn enter_below(f: Facts, n: usize, a: Var, b: Var) -> Settled
+    requires { ⌜ (a .0 < n) × (b .0 < n) × (n ≤ 16) ⌝ }
+    ensures { λ r. ⌜ EnteredOf n f (a .0) (b .0) r ⌝ }
+{
+    let i = a.0 as usize;
+    let j = b.0 as usize;
+    let rows = f.below;
+    let columns = f.above;
+    let down = rows[j];
+    let up = columns[i];
+    if rowbits::has(down, i) | tables::meet(up, f.leaf) {
+        return merge::enter_same(f, n, a, b);
+    }
+    let mut g = f;
+    let below = tables::raise(rows, up, down);
+    let above = tables::raise(columns, down, up);
+    g.below = below;
+    g.above = above;
+    Settled {
+        clash: false,
+        facts: g,
+    }
+}

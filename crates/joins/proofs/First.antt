@@ -1,0 +1,256 @@
+-- A join is read from the rows of z, x and y. With the parents of z all the same, any of them, y, tells whether x makes a parent join; of
+-- two variables that are apart the smaller is found first, so it is the x of a chain join.
+use mathlib.Core.Path.{_≡_, refl, sym, ap, _∙_, subst}
+use mathlib.Core.Logic.{_⊎_, ⊎-elim}
+use mathlib.Core.Bool.{Bool}
+use mathlib.Core.List.{List}
+use mathlib.Core.Option.{Option, none, some}
+use Prim.Native.Nat.{ℕ, _+_, _-_, _^_, _<_, _≤_}
+use native.Mathlib.Nat.{le-trans, le-of-lt}
+use native.Mathlib.Decide.{decLt, ℕ-discrete}
+use native.Mathlib.Omega.{arith}
+use lib.Bits.{bitAnd, bitOr}
+use Rattle.meaning.specs.Tree.{Var}
+use Rattle.meaning.specs.Constraint.{Fact, child, below}
+use Rattle.meaning.specs.Settled.{self-below, chain, one-parent}
+use Rattle.meaning.specs.Finite.{Yes}
+use Rattle.meaning.specs.ReadOff.{FactSet, same}
+use Rattle.meaning.specs.FixedSearch.{Join, parent-join, chain-join}
+use Rattle.meaning.proofs.Tests.{clash, and-left, and-right, and-both, no-neg, is-lt, lt-yes}
+use Rattle.theory.specs.Find.{orElse}
+use Rattle.theory.specs.Search.{isParentJoin, isChainJoin, firstOf, firstJoin}
+use Rattle.rowbits.specs.Bit.{bit}
+use Rattle.tables.specs.Tables.{row, has, Ready}
+use Rattle.tables.specs.Rows.{Gathers, Lowest, meets, without}
+use Rattle.tables.specs.declared.Facts.{Facts}
+use Rattle.tables.proofs.Bits.{in-both, both-in, or-l, or-r, or-case, all-is, all-has, without-in, without-out, flip-has, flip-not, meets-in, meets-out}
+use Rattle.tables.proofs.Loops.{below-cases}
+use Rattle.joins.specs.Found.{Apart}
+use Rattle.joins.proofs.Find.{firstOf-is-none, firstOf-is-some}
+
+-- no join at a z that was passed
+abbrev pub NoneBefore : (FactSet → Var → Var → Var → Bool) → ℕ → Facts → ℕ → Type 0
+NoneBefore p n f z = (S : List Fact) → Ready n S f → (k x y : Var) → k < z → x < n → y < n → ¬ Yes (p (has f) k x y)
+
+pub none-more : (p : FactSet → Var → Var → Var → Bool) (n : ℕ) (f : Facts) (z : ℕ) → NoneBefore p n f z
+    → ((S : List Fact) → Ready n S f → (x y : Var) → x < n → y < n → ¬ Yes (p (has f) z x y)) → NoneBefore p n f (z + 1)
+none-more p n f z before at S r k x y l hx hy =
+    ⊎-elim (λ e. subst (λ (i : ℕ). ¬ Yes (p (has f) i x y)) (sym e) (at S r x y hx hy)) (λ m. before S r k x y m hx hy) (below-cases l)
+
+-- the members of a row that are variables
+vars-in : (a vars n i : ℕ) → vars ≡ 2 ^ n - 1 → i < n → Yes (bit a i) → Yes (bit (bitAnd a vars) i)
+vars-in a vars n i e h u = both-in a vars i u (subst (λ (k : ℕ). Yes (bit k i)) (sym e) (all-has n i h))
+
+vars-out : (a vars n i : ℕ) → vars ≡ 2 ^ n - 1 → Yes (bit (bitAnd a vars) i) → Yes (bit a i) × (i < n)
+vars-out a vars n i e u = let q = in-both a vars i u in (q .0, all-is n i (subst (λ (k : ℕ). Yes (bit k i)) e (q .1)))
+
+module _ (n : ℕ) (small : n ≤ 16) (S : List Fact) (f : Facts) (r : Ready n S f) where
+  abbrev h : FactSet
+  h = has f
+
+  -- the mirrors say what the tables say
+  above-is : (x z : Var) → x < n → z < n → bit (row (f .above) z) x ≡ h (below x z)
+  unfolding has
+  above-is x z hx hz = r .mirrored .ancestors x z (le-trans hx small) (le-trans hz small)
+
+  parent-is : (y z : Var) → y < n → z < n → bit (row (f .parent) z) y ≡ h (child y z)
+  unfolding has
+  parent-is y z hy hz = r .mirrored .parents y z (le-trans hy small) (le-trans hz small)
+
+  below-is : (x y : Var) → bit (row (f .below) x) y ≡ h (below x y)
+  unfolding has
+  below-is x y = refl
+
+  -- what is above one parent is above every other
+  any-parent : (x y z k : Var) → Yes (h (child y z)) → Yes (h (child k z)) → Yes (h (below x y)) → Yes (h (below x k))
+  any-parent x y z k c d u = r .decides .complete (chain (r .decides .sound u) (one-parent (r .decides .sound c) (r .decides .sound d)))
+
+  -- ---- a parent join
+
+  module _ (z x y : Var) (hz : z < n) (hx : x < n) (hy : y < n) where
+    record ParentParts : Type 0 where
+      parent : Yes (h (child y z))
+      above : Yes (bit (row (f .above) z) x)
+      not-below : ¬ Yes (bit (row (f .below) z) x)
+      not-above : ¬ Yes (h (below x y))
+
+    parent-parts : Yes (isParentJoin h z x y) → ParentParts
+    unfolding isParentJoin same
+    parent-parts u = record {
+      parent = and-left _ u;
+      above = above-is x z hx hz ∙ and-left _ (and-right _ u);
+      not-below = λ t. clash (and-both (and-left _ (and-right (h (child y z)) u)) (sym (below-is z x) ∙ t)) (and-left _ (and-right _ (and-right _ u)));
+      not-above = λ t. clash t (and-right _ (and-right _ (and-right _ u)));
+    }
+
+    parts-parent : ParentParts → Yes (isParentJoin h z x y)
+    unfolding isParentJoin same
+    parts-parent p =
+        and-both (p .parent) (and-both (sym (above-is x z hx hz) ∙ p .above)
+        (and-both (no-neg (λ s. p .not-below (below-is z x ∙ and-right _ s))) (no-neg (p .not-above))))
+
+    -- ---- a chain join
+
+    record ChainParts : Type 0 where
+      ordered : x < y
+      above-x : Yes (bit (row (f .above) z) x)
+      above-y : Yes (bit (row (f .above) z) y)
+      apart : ¬ Yes (bit (bitOr (row (f .below) x) (row (f .above) x)) y)
+
+    chain-parts : Yes (isChainJoin h z x y) → ChainParts
+    unfolding isChainJoin
+    chain-parts u =
+        let v = and-right _ u in record {
+          ordered = is-lt (and-left _ u);
+          above-x = above-is x z hx hz ∙ and-left _ v;
+          above-y = above-is y z hy hz ∙ and-left _ (and-right _ v);
+          apart = λ t. ⊎-elim (λ b. clash (sym (below-is x y) ∙ b) (and-left _ (and-right _ (and-right _ v))))
+              (λ a. clash (sym (above-is y x hy hx) ∙ a) (and-right _ (and-right _ (and-right _ v)))) (or-case _ _ y t);
+        }
+
+    parts-chain : ChainParts → Yes (isChainJoin h z x y)
+    unfolding isChainJoin
+    parts-chain p =
+        and-both (lt-yes (p .ordered)) (and-both (sym (above-is x z hx hz) ∙ p .above-x) (and-both (sym (above-is y z hy hz) ∙ p .above-y)
+        (and-both (no-neg (λ t. p .apart (or-l (row (f .below) x) (row (f .above) x) y (below-is x y ∙ t)))) (no-neg (λ t. p .apart (or-r (row (f .below) x) (row (f .above) x) y (above-is y x hy hx ∙ t)))))))
+
+    apart-back : ¬ Yes (bit (bitOr (row (f .below) x) (row (f .above) x)) y) → ¬ Yes (bit (bitOr (row (f .below) y) (row (f .above) y)) x)
+    apart-back p t = p (⊎-elim (λ b. or-r (row (f .below) x) (row (f .above) x) y (above-is y x hy hx ∙ sym (below-is y x) ∙ b))
+        (λ a. or-l (row (f .below) x) (row (f .above) x) y (below-is x y ∙ sym (above-is x y hx hy) ∙ a)) (or-case _ _ x t))
+
+  self-together : (x : Var) → x < n → Yes (bit (bitOr (row (f .below) x) (row (f .above) x)) x)
+  self-together x hx = or-l (row (f .below) x) (row (f .above) x) x (below-is x x ∙ r .decides .complete (self-below hx))
+
+-- ---- the parent joins at z
+
+module _ (n : ℕ) (small : n ≤ 16) (f : Facts) (vars : ℕ) (ev : vars ≡ 2 ^ n - 1) (z : Var) (hz : z < n)
+    (y : ℕ) (ly : Lowest (bitAnd (row (f .parent) z) vars) y) where
+  passed-parent : (S : List Fact) (r : Ready n S f) (i k : Var) → i < n → k < n → Yes (isParentJoin (has f) z i k) → Yes (bit (bitAnd (row (f .parent) z) vars) k)
+  passed-parent S r i k hi hk u = vars-in _ vars n k ev hk (parent-is n small S f r k z hk hz ∙ parent-parts n small S f r z i k hz hi hk u .parent)
+
+  pub none-without-parent : 16 ≤ y → (S : List Fact) → Ready n S f → (i k : Var) → i < n → k < n → ¬ Yes (isParentJoin (has f) z i k)
+  none-without-parent l S r i k hi hk u = ly .none k (omega arith) (passed-parent S r i k hi hk u)
+
+  module _ (l : y < 16) (x : ℕ) (lx : Lowest (without (bitAnd (row (f .above) z) vars) (bitOr (row (f .below) z) (row (f .above) y))) x) where
+    y-in : Yes (bit (row (f .parent) z) y) × (y < n)
+    y-in = vars-out _ vars n y ev (ly .this l)
+
+    passed-x : (S : List Fact) (r : Ready n S f) (i k : Var) → i < n → k < n → Yes (isParentJoin (has f) z i k)
+        → Yes (bit (without (bitAnd (row (f .above) z) vars) (bitOr (row (f .below) z) (row (f .above) y))) i)
+    passed-x S r i k hi hk u =
+        let p = parent-parts n small S f r z i k hz hi hk u in
+        without-in (bitAnd (row (f .above) z) vars) (bitOr (row (f .below) z) (row (f .above) y)) i (le-trans hi small) (vars-in _ vars n i ev hi (p .above))
+        (λ t. ⊎-elim (p .not-below) (λ a. p .not-above (any-parent n small S f r i y z k (sym (parent-is n small S f r y z (y-in .1) hz) ∙ y-in .0) (p .parent)
+        (sym (above-is n small S f r i y hi (y-in .1)) ∙ a))) (or-case _ _ i t))
+
+    pub none-without-x : 16 ≤ x → (S : List Fact) → Ready n S f → (i k : Var) → i < n → k < n → ¬ Yes (isParentJoin (has f) z i k)
+    none-without-x m S r i k hi hk u = lx .none i (omega arith) (passed-x S r i k hi hk u)
+
+    module _ (m : x < 16) where
+      x-out : Yes (bit (bitAnd (row (f .above) z) vars) x) × (¬ Yes (bit (bitOr (row (f .below) z) (row (f .above) y)) x))
+      x-out = without-out _ _ x m (lx .this m)
+
+      x-in : Yes (bit (row (f .above) z) x) × (x < n)
+      x-in = vars-out _ vars n x ev (x-out .0)
+
+      pub parent-named : (z < n) × (x < n) × (y < n)
+      parent-named = (hz, x-in .1, y-in .1)
+
+      pub parent-first : NoneBefore isParentJoin n f z → (S : List Fact) → Ready n S f → some (parent-join z x y) ≡ firstOf n (isParentJoin (has f)) parent-join
+      parent-first before S r =
+          sym (firstOf-is-some n (isParentJoin (has f)) parent-join z x y hz (x-in .1) (y-in .1)
+          (parts-parent n small S f r z x y hz (x-in .1) (y-in .1) record {
+            parent = sym (parent-is n small S f r y z (y-in .1) hz) ∙ y-in .0;
+            above = x-in .0;
+            not-below = λ t. x-out .1 (or-l (row (f .below) z) (row (f .above) y) x t);
+            not-above = λ t. x-out .1 (or-r (row (f .below) z) (row (f .above) y) x (above-is n small S f r x y (x-in .1) (y-in .1) ∙ t));
+          })
+          (before S r)
+          (λ i k l' hk u. lx .none i l' (passed-x S r i k (le-trans l' (le-of-lt (x-in .1))) hk u))
+          (λ k l' u. ly .none k l' (passed-parent S r x k (x-in .1) (le-trans l' (le-of-lt (y-in .1))) u)))
+
+-- ---- the chain joins at z
+
+module _ (n : ℕ) (small : n ≤ 16) (f : Facts) (vars : ℕ) (ev : vars ≡ 2 ^ n - 1) (apart : List ℕ) (ea : Apart (f .below) (f .above) apart) (z : Var) (hz : z < n)
+    (g : ℕ) (gp : Gathers (λ k. meets (row apart k) (bitAnd (row (f .above) z) vars)) g)
+    (x : ℕ) (lx : Lowest (bitAnd (bitAnd (row (f .above) z) vars) g) x) where
+  abbrev u : ℕ
+  u = bitAnd (row (f .above) z) vars
+
+  apart-in : (i k : Var) → i < 16 → k < 16 → ¬ Yes (bit (bitOr (row (f .below) i) (row (f .above) i)) k) → Yes (bit (row apart i) k)
+  apart-in i k hi hk p = subst (λ (j : ℕ). Yes (bit j k)) (sym (ea i hi)) (flip-has _ k hk p)
+
+  apart-out : (i k : Var) → i < 16 → k < 16 → Yes (bit (row apart i) k) → ¬ Yes (bit (bitOr (row (f .below) i) (row (f .above) i)) k)
+  apart-out i k hi hk p = flip-not _ k hk (subst (λ (j : ℕ). Yes (bit j k)) (ea i hi) p)
+
+  -- a member of u that is apart from another
+  in-c : (i k : Var) → i < 16 → Yes (bit u i) → Yes (bit u k) → Yes (bit (row apart i) k) → Yes (bit (bitAnd u g) i)
+  in-c i k hi ui uk p = both-in u g i ui (gp .to i hi (meets-in (row apart i) u k p uk))
+
+  record Passed (i k : Var) : Type 0 where
+    u-i : Yes (bit u i)
+    u-k : Yes (bit u k)
+    apart-i : Yes (bit (row apart i) k)
+
+  passed : (S : List Fact) → Ready n S f → (i k : Var) → i < n → k < n → Yes (isChainJoin (has f) z i k) → Passed i k
+  passed S r i k hi hk t =
+      let p = chain-parts n small S f r z i k hz hi hk t in
+      record { u-i = vars-in _ vars n i ev hi (p .above-x); u-k = vars-in _ vars n k ev hk (p .above-y); apart-i = apart-in i k (le-trans hi small) (le-trans hk small) (p .apart) }
+
+  pub none-apart : 16 ≤ x → (S : List Fact) → Ready n S f → (i k : Var) → i < n → k < n → ¬ Yes (isChainJoin (has f) z i k)
+  none-apart l S r i k hi hk t = let p = passed S r i k hi hk t in lx .none i (omega arith) (in-c i k (le-trans hi small) (p .u-i) (p .u-k) (p .apart-i))
+
+  module _ (m : x < 16) (fits : row apart x < 65536) (y : ℕ) (ly : Lowest (bitAnd u (row apart x)) y) where
+    x-at : Yes (bit u x) × Yes (bit g x)
+    x-at = in-both u g x (lx .this m)
+
+    x-n : Yes (bit (row (f .above) z) x) × (x < n)
+    x-n = vars-out _ vars n x ev (x-at .0)
+
+    y-16 : y < 16
+    y-16 = go (meets-out (row apart x) u fits (gp .from x (x-at .1))) (decLt y 16)
+      where
+        go : (i : ℕ) × Yes (bit (row apart x) i) × Yes (bit u i) → Dec (y < 16) → y < 16
+        go q (yes l) = l
+        go q (no l) = absurd (ly .none (q .0) (let i : q .0 < n = vars-out (row (f .above) z) vars n (q .0) ev (q .2) .1 in omega arith) (both-in u (row apart x) (q .0) (q .2) (q .1)))
+
+    y-at : Yes (bit u y) × Yes (bit (row apart x) y)
+    y-at = in-both u (row apart x) y (ly .this y-16)
+
+    y-n : Yes (bit (row (f .above) z) y) × (y < n)
+    y-n = vars-out _ vars n y ev (y-at .0)
+
+    pub chain-named : (z < n) × (x < n) × (y < n)
+    chain-named = (hz, x-n .1, y-n .1)
+
+    -- the smaller of two that are apart is found first
+    x<y : (S : List Fact) → Ready n S f → x < y
+    x<y S r = go (decLt x y) (ℕ-discrete x y)
+      where
+        go : Dec (x < y) → Dec (x ≡ y) → x < y
+        go (yes q) _ = q
+        go (no q) (yes e) =
+            absurd (apart-out x y m y-16 (y-at .1) (subst (λ (k : ℕ). Yes (bit (bitOr (row (f .below) x) (row (f .above) x)) k)) e (self-together n small S f r x (x-n .1))))
+        go (no q) (no e) =
+            absurd (lx .none y (omega arith) (in-c y x y-16 (y-at .0) (x-at .0)
+            (apart-in y x y-16 m (apart-back n small S f r z x y hz (x-n .1) (y-n .1) (apart-out x y m y-16 (y-at .1))))))
+
+    pub chain-first : NoneBefore isChainJoin n f z → (S : List Fact) → Ready n S f → some (chain-join z x y) ≡ firstOf n (isChainJoin (has f)) chain-join
+    chain-first before S r =
+        sym (firstOf-is-some n (isChainJoin (has f)) chain-join z x y hz (x-n .1) (y-n .1)
+        (parts-chain n small S f r z x y hz (x-n .1) (y-n .1) record { ordered = x<y S r; above-x = x-n .0; above-y = y-n .0; apart = apart-out x y m y-16 (y-at .1) })
+        (before S r)
+        (λ i k l hk t. let p = passed S r i k (le-trans l (le-of-lt (x-n .1))) hk t in lx .none i l (in-c i k (omega arith) (p .u-i) (p .u-k) (p .apart-i)))
+        (λ k l t. let p = passed S r x k (x-n .1) (le-trans l (le-of-lt (y-n .1))) t in ly .none k l (both-in u (row apart x) k (p .u-k) (p .apart-i))))
+
+-- ---- no z is left
+
+pub none-first : (p : FactSet → Var → Var → Var → Bool) (j : Var → Var → Var → Join) (n : ℕ) (f : Facts) (z : ℕ) → n ≤ z → NoneBefore p n f z
+    → (S : List Fact) → Ready n S f → none ≡ firstOf n (p (has f)) j
+none-first p j n f z l before S r = sym (firstOf-is-none n (p (has f)) j (λ k x y hk. before S r k x y (le-trans hk l)))
+
+-- parent joins come first
+pub parents-before : (n : ℕ) (f : Facts) (o : Option Join) → o ≡ firstOf n (isParentJoin (has f)) parent-join
+    → orElse o (firstOf n (isChainJoin (has f)) chain-join) ≡ firstJoin n (has f)
+unfolding firstJoin
+parents-before n f o e = ap (λ (p : Option Join). orElse p (firstOf n (isChainJoin (has f)) chain-join)) e

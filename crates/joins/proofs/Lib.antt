@@ -1,0 +1,2 @@
+mod Find
+mod First

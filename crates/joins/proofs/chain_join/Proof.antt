@@ -1,0 +1,119 @@
+-- `joins::chain_join` meets its contract: the loop has passed no z with a chain join.
+use Prim.Native.Nat.{_≤_, _-_}
+use native.Mathlib.Nat.{not-suc-le-zero}
+use lib.ListN.{getD}
+use mir.Val.{Fits}
+use mir.Syntax.{w16}
+use borrow.Author.Needs.{needs}
+use Rattle.meaning.specs.FixedSearch.{chain-join}
+use Rattle.theory.specs.Search.{isChainJoin}
+use Rattle.joins.specs.Found.{joinOf}
+use Rattle.joins.proofs.First.{NoneBefore, none-more, none-apart, chain-named, chain-first, none-first}
+use Rattle.joins.proofs.chain_join.Statement.{statement}
+use Rattle.joins.proofs.chain_join.Tie as tie
+
+abbrev Inv-loop : tie.InvT-loop
+Inv-loop n f vars apart z₀ z = (z ≤ n) × NoneBefore isChainJoin n f z
+
+abbrev μ-loop : tie.MeasureT-loop
+μ-loop n f vars apart z₀ z = n - z
+
+all-requires : tie.Need-all-requires Inv-loop μ-loop
+all-requires c κs = search needs
+
+apart-rows-requires : tie.Need-apart-rows-requires Inv-loop μ-loop
+apart-rows-requires c κs = search needs
+
+loop-holds : tie.Need-loop-holds Inv-loop μ-loop
+loop-holds c = (search needs, λ S r k x y l. absurd (not-suc-le-zero l))
+
+mul-v : tie.Need-mul-v Inv-loop μ-loop
+mul-v c = search needs
+
+element-copy-out-v : tie.Need-element-copy-out-v Inv-loop μ-loop
+element-copy-out-v c = search needs
+
+meeting-requires : tie.Need-meeting-requires Inv-loop μ-loop
+meeting-requires c κs = search needs
+
+lowest-requires : tie.Need-lowest-requires Inv-loop μ-loop
+lowest-requires c κs = search needs
+
+mul-a : tie.Need-mul-a Inv-loop μ-loop
+mul-a c = search needs
+
+array-read-a : tie.Need-array-read-a Inv-loop μ-loop
+array-read-a c = search needs
+
+lowest-requires-2 : tie.Need-lowest-requires-2 Inv-loop μ-loop
+lowest-requires-2 c κs = search needs
+
+cast-t26 : tie.Need-cast-t26 Inv-loop μ-loop
+cast-t26 c = search needs
+
+cast-t28 : tie.Need-cast-t28 Inv-loop μ-loop
+cast-t28 c = search needs
+
+cast-t30 : tie.Need-cast-t30 Inv-loop μ-loop
+cast-t30 c = search needs
+
+returns : tie.Need-returns Inv-loop μ-loop
+unfolding joinOf
+returns c =
+    let l = c .before .before in
+    let i = l .before .before .before in
+    let r = i .before .before in
+    let s = r .before .before .before in
+    let h : Fits w16 (getD (r .apart-rows .result) (l .lowest .result) 0) = search needs in
+    record {
+      first = chain-first _ (s .before .pre) _ _ (s .all .ensures) (r .apart-rows .result) (r .apart-rows .ensures) _ (i .loop-test .taken) _ (l .before .meeting .ensures) _ (l .lowest .ensures)
+          (c .before .if1 .taken) (h .fits) _ (c .lowest2 .ensures) (i .before .loop .inv .1);
+      named = chain-named _ (s .before .pre) (s .before .args .t1) _ (s .all .ensures) (r .apart-rows .result) (r .apart-rows .ensures) _ (i .loop-test .taken) _ (l .before .meeting .ensures) _ (l .lowest .ensures)
+          (c .before .if1 .taken) (h .fits) _ (c .lowest2 .ensures);
+    }
+
+add-z : tie.Need-add-z Inv-loop μ-loop
+add-z c = search needs
+
+loop-less : tie.Need-loop-less Inv-loop μ-loop
+loop-less c = search needs
+
+loop-again : tie.Need-loop-again Inv-loop μ-loop
+loop-again c =
+    let l = c .before in
+    let i = l .before .before .before in
+    let r = i .before .before in
+    let s = r .before .before .before in (
+      search needs,
+      none-more isChainJoin _ _ _ (i .before .loop .inv .1)
+          (none-apart _ (s .before .pre) _ _ (s .all .ensures) (r .apart-rows .result) (r .apart-rows .ensures) _ (i .loop-test .taken) _ (l .before .meeting .ensures) _ (l .lowest .ensures) (c .if1 .left)),
+    )
+
+returns-2 : tie.Need-returns-2 Inv-loop μ-loop
+unfolding joinOf
+returns-2 c = record { first = none-first isChainJoin chain-join _ _ _ (c .loop-test .left) (c .before .loop .inv .1); named = tt }
+
+pub chain-join-spec : {M : Type 1} → statement M
+chain-join-spec =
+    tie.close
+    (tie.spec
+    Inv-loop
+    μ-loop
+    all-requires
+    apart-rows-requires
+    loop-holds
+    mul-v
+    element-copy-out-v
+    meeting-requires
+    lowest-requires
+    mul-a
+    array-read-a
+    lowest-requires-2
+    cast-t26
+    cast-t28
+    cast-t30
+    returns
+    add-z
+    loop-less
+    loop-again
+    returns-2)

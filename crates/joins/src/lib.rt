@@ -1,0 +1,69 @@
+// The first join of a settled set, in the fixed order: parent joins, then chain joins; the smallest z, then x, then y.
+ghost use Prim.Native.Nat.{_≤_};
+ghost use Rattle.joins.specs.Found.{Apart, ChainOf, FoundOf};
+use ids::Var;
+use tables::Facts;
+
+// A join by its kind and its variables, in the order z, x, y.
+pub enum Found {
+    Nothing,
+    Parent(Var, Var, Var),
+    Chain(Var, Var, Var),
+}
+
+// The variables that are neither above nor below each.
+fn apart_rows(below: [u16; 16], above: [u16; 16]) -> [u16; 16]
+    ensures { λ r. ⌜ Apart below above r ⌝ }
+{
+    let mut a = below;
+    for x in 0usize..16 {
+        let v = a[x];
+        let w = above[x];
+        a[x] = (v | w) ^ 65535;
+    }
+    a
+}
+
+// The first chain join: two variables above z that are apart, found from the smaller one.
+fn chain_join(f: Facts, n: usize) -> Found
+    requires { ⌜ n ≤ 16 ⌝ }
+    ensures { λ r. ⌜ ChainOf n f r ⌝ }
+{
+    let vars = tables::all(n);
+    let below = f.below;
+    let above = f.above;
+    let apart = apart_rows(below, above);
+    for z in 0..n {
+        let v = f.above[z];
+        let u = v & vars;
+        let x = tables::lowest(u & tables::meeting(apart, u));
+        if x < 16 {
+            let a = apart[x];
+            let y = tables::lowest(u & a);
+            return Found::Chain(Var(z as u8), Var(x as u8), Var(y as u8));
+        }
+    }
+    Found::Nothing
+}
+
+// Parent joins, then chain joins. The parents of z are the same, so the lowest of them decides which x above z are above a parent.
+pub fn first_join(f: Facts, n: usize) -> Found
+    requires { ⌜ n ≤ 16 ⌝ }
+    ensures { λ r. ⌜ FoundOf n f r ⌝ }
+{
+    let vars = tables::all(n);
+    for z in 0..n {
+        let p = f.parent[z];
+        let y = tables::lowest(p & vars);
+        if y < 16 {
+            let u = f.above[z];
+            let b = f.below[z];
+            let a = f.above[y];
+            let x = tables::lowest(tables::except(u & vars, b | a));
+            if x < 16 {
+                return Found::Parent(Var(z as u8), Var(x as u8), Var(y as u8));
+            }
+        }
+    }
+    chain_join(f, n)
+}

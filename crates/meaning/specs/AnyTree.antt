@@ -1,0 +1,60 @@
+-- A tree as the paper has it (source 004, definition 2.1), without its document order ≺: the nodes are any finite set and bear no numbers.
+-- When such a tree meets the constraints, and when a tree of document 01 is that tree with its nodes numbered.
+use mathlib.Core.Path.{_≡_}
+use mathlib.Core.Logic.{_≢_, _↔_}
+use mathlib.Core.List.{List, List·Memᴰ}
+use Prim.Native.Nat.{_≤_, _<_}
+use Rattle.meaning.specs.Tree.{Var, Node, Label, Tree, Parent}
+use Rattle.meaning.specs.Constraint.{Constraint, is-child, is-below, is-strictly-below, is-same, is-differ, is-root, is-leaf, is-label}
+
+-- u ◁* v: the reflexive and transitive closure of a relation
+pub data Reaches {N : Type 0} (R : N → N → Type 0) (u : N) : N → Type 0 where
+  here : Reaches R u u
+  down : {v w : N} → R w v → Reaches R u w → Reaches R u v
+
+-- T = (N, ◁, r, λ)
+pub record AnyTree (N : Type 0) : Type 1 where
+  -- N is finite: every node has a place in a list (so two nodes can be told apart)
+  pub nodes : List N
+  pub listed : (v : N) → List·Memᴰ v nodes
+  -- u ◁ v: u is the parent of v
+  pub IsParent : N → N → Type 0
+  -- ◁ defines a tree with root r: r has no parent, no node has two, and r ◁* every node
+  pub root : N
+  pub no-parent : (u : N) → ¬ IsParent u root
+  pub one-parent : {u v w : N} → IsParent u w → IsParent v w → u ≡ v
+  pub reached : (v : N) → Reaches IsParent root v
+  -- λ, with numbers for the paper's infinite set Σ of tag names
+  pub label : N → Label
+
+-- document 01 has the labels 0 to 255 only
+abbrev pub ByteLabelled : {N : Type 0} → AnyTree N → Type 0
+ByteLabelled {N} T = (v : N) → T .label v ≤ 255
+
+-- the eight kinds, as in `Meets`
+abbrev pub MeetsAny : {N : Type 0} → AnyTree N → (Var → N) → Constraint → Type 0
+MeetsAny T a (is-child x y) = T .IsParent (a x) (a y)
+MeetsAny T a (is-below x y) = Reaches (T .IsParent) (a x) (a y)
+MeetsAny T a (is-strictly-below x y) = Reaches (T .IsParent) (a x) (a y) × (a x ≢ a y)
+MeetsAny T a (is-same x y) = a x ≡ a y
+MeetsAny T a (is-differ x y) = a x ≢ a y
+MeetsAny {N} T a (is-root x) = (u : N) → ¬ T .IsParent u (a x)
+MeetsAny {N} T a (is-leaf x) = (v : N) → ¬ T .IsParent (a x) v
+MeetsAny T a (is-label x l) = T .label (a x) ≡ l
+
+-- every constraint is met; every variable is on a node, since N has nothing else
+abbrev pub MeetsAllAny : {N : Type 0} → AnyTree N → (Var → N) → List Constraint → Type 0
+MeetsAllAny T a cs = (c : Constraint) → List·Memᴰ c cs → MeetsAny T a c
+
+-- no such tree, of any nodes, meets the constraints under any assignment
+abbrev pub NoAnyTree : List Constraint → Type 1
+NoAnyTree cs = (N : Type 0) (T : AnyTree N) (a : Var → N) → ¬ MeetsAllAny T a cs
+
+-- t is T with its nodes numbered 0 .. size - 1, one to one
+pub record Numbering {N : Type 0} (T : AnyTree N) (t : Tree) : Type 0 where
+  pub number : N → Node
+  pub inside : (v : N) → number v < t .size
+  pub one-to-one : (u v : N) → number u ≡ number v → u ≡ v
+  pub onto : (i : Node) → i < t .size → (v : N) × (number v ≡ i)
+  pub same-parents : (u v : N) → T .IsParent u v ↔ Parent t (number u) (number v)
+  pub same-labels : (v : N) → t .label (number v) ≡ T .label v

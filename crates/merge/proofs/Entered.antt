@@ -1,0 +1,155 @@
+-- From settled tables to tables in which a and b have yet to become the same, and from tables in which nothing has to any more back to settled
+-- ones. A caller cites `back-tested`: when below(b,a) follows from below(a,b).
+use mathlib.Core.Path.{_≡_, refl, sym, _∙_, subst}
+use mathlib.Core.Logic.{_⊎_, inl, inr, ⊎-elim}
+use mathlib.Core.Bool.{true, false, false≢true}
+use mathlib.Core.List.{List, _∷_, List·Memᴰ, List·Memᴰ·head, List·Memᴰ·tail, List·Memᴰ·cases-cons}
+use Prim.Native.Nat.{ℕ, _^_, _<_, _≤_}
+use native.Mathlib.Nat.{le-trans}
+use lib.Bits.{bitOr}
+use Rattle.meaning.specs.Tree.{Var}
+use Rattle.meaning.specs.Constraint.{Fact, child, below, leaf}
+use Rattle.meaning.specs.Settled.{Settled, given, chain, leaf-below, self-below, one-parent, Clash, differs, labels}
+use Rattle.meaning.specs.Finite.{Yes}
+use Rattle.meaning.specs.ReadOff.{Decides}
+use Rattle.meaning.proofs.Rules.{Rules}
+use Rattle.meaning.proofs.Least.{settled-mono, settled-rules}
+use Rattle.meaning.proofs.Facts.{Within}
+use Rattle.theory.proofs.Closure.{rules-decide}
+use Rattle.rowbits.specs.Bit.{bit}
+use Rattle.tables.specs.Tables.{row, has, Ready}
+use Rattle.tables.specs.Rows.{meets}
+use Rattle.tables.specs.declared.Facts.{Facts}
+use Rattle.tables.proofs.Shape.{label-is}
+use Rattle.merge.specs.Rows.{Apart}
+use Rattle.merge.specs.Merging.{Sharing, Awaits, held, waits, In, Held, Pending, MergedOf}
+use Rattle.tables.proofs.Bits.{or-case, or-l, or-r, one-is, one-has, meets-out, in-row}
+use Rattle.merge.proofs.Rounds.{sharing-same, none-left, narrow}
+
+sharing-of : {n : ℕ} {P : Fact → Type 0} → Rules n P → Sharing n P
+sharing-of r = record {
+  child-below = r .child-below;
+  child-differ = r .child-differ;
+  self-below = r .self-below;
+  chain = r .chain;
+  root-below = r .root-below;
+  leaf-below = r .leaf-below;
+  differ-back = r .differ-back;
+  same-parent = r .same-parent;
+  same-child = r .same-child;
+  same-differ = r .same-differ;
+  same-root = r .same-root;
+  same-leaf = r .same-leaf;
+  same-label = r .same-label;
+}
+
+rules-of : {n : ℕ} {P : Fact → Type 0} → Sharing n P → ((x y z : Var) → P (child x z) → P (child y z) → P (below x y)) → Rules n P
+rules-of s o = record {
+  child-below = s .child-below;
+  child-differ = s .child-differ;
+  self-below = s .self-below;
+  chain = s .chain;
+  root-below = s .root-below;
+  leaf-below = s .leaf-below;
+  one-parent = o;
+  differ-back = s .differ-back;
+  same-parent = s .same-parent;
+  same-child = s .same-child;
+  same-differ = s .same-differ;
+  same-root = s .same-root;
+  same-leaf = s .same-leaf;
+  same-label = s .same-label;
+}
+
+-- ---- below(a,b) entered
+
+module _ (n : ℕ) (S : List Fact) (a b : Var) where
+  more : {φ : Fact} → Settled n S φ → Settled n (below a b ∷ S) φ
+  more h = settled-mono n S (below a b ∷ S) (λ φ m. List·Memᴰ·tail m) h
+
+  entered : Settled n (below a b ∷ S) (below a b)
+  entered = given (List·Memᴰ·head refl)
+
+  pub back-held : Settled n S (below b a) → Settled n (below a b ∷ S) (below b a)
+  back-held h = more h
+
+  -- what is below a leaf is the same as the leaf
+  pub back-leaf : (u : Var) → Settled n S (leaf u) → Settled n S (below u a) → Settled n (below a b ∷ S) (below b a)
+  back-leaf u l h = chain (leaf-below (more l) (chain (more h) entered)) (more h)
+
+  module _ (few : n ≤ 16) (ha : a < n) (hb : b < n) (f : Facts) (r : Ready n S f) (back : Settled n (below a b ∷ S) (below b a)) where
+    abbrev pair : ℕ
+    pair = bitOr (2 ^ a) (2 ^ b)
+
+    a-or-b : (i : Var) → In pair i → (i ≡ a) ⊎ (i ≡ b)
+    a-or-b i u = ⊎-elim (λ y. inl (one-is a i y)) (λ y. inr (one-is b i y)) (or-case (2 ^ a) (2 ^ b) i u)
+
+    by-two : (Q : Var → Type 0) → Q a → Q b → (i : Var) → In pair i → Q i
+    by-two Q p q i u = ⊎-elim (λ e. subst Q (sym e) p) (λ e. subst Q (sym e) q) (a-or-b i u)
+
+    together : (i j : Var) → In pair i → In pair j → Settled n (below a b ∷ S) (below i j)
+    together i j u v =
+        by-two (λ i. Settled n (below a b ∷ S) (below i j)) (by-two (λ j. Settled n (below a b ∷ S) (below a j)) (self-below ha) entered j v)
+        (by-two (λ j. Settled n (below a b ∷ S) (below b j)) back (self-below hb) j v) i u
+
+    start-sound : (φ : Fact) → Awaits (In pair) (Held f) φ → Settled n (below a b ∷ S) φ
+    start-sound φ (held u) = more (r .decides .sound u)
+    start-sound φ (waits {x = i} {y = j} u v) = together i j u v
+
+    start-complete : (φ : Fact) → List·Memᴰ φ (below a b ∷ S) → Awaits (In pair) (Held f) φ
+    start-complete φ m =
+        ⊎-elim (λ e. subst (Awaits (In pair) (Held f)) (sym e) (waits (or-l (2 ^ a) (2 ^ b) a (one-has a)) (or-r (2 ^ a) (2 ^ b) b (one-has b))))
+        (λ k. held (r .decides .complete (given k))) (List·Memᴰ·cases-cons m)
+
+    pub start : Pending n (below a b ∷ S) pair f
+    start = record {
+      few = few;
+      inside = λ φ m. ⊎-elim (λ e. subst (Within n) (sym e) (ha, hb)) (r .inside φ) (List·Memᴰ·cases-cons m);
+      sound = start-sound;
+      complete = start-complete;
+      sharing = sharing-same n (Settled n S) (Held f) (λ φ h. r .decides .complete h) (λ φ u. r .decides .sound u) (sharing-of (settled-rules n S));
+      one-parent = λ x y z u v. held (r .decides .complete (one-parent (r .decides .sound u) (r .decides .sound v)));
+      apart = λ x u. r .free (differs (r .decides .sound u));
+      mirrored = r .mirrored;
+    }
+
+-- ---- nothing has to become the same any more
+
+module _ (n : ℕ) (T : List Fact) (f : Facts) (p : Pending n T 0 f) where
+  done-decides : Decides n T (has f)
+  done-decides =
+      rules-decide n T (has f) (λ φ u. p .sound φ (held u)) (λ φ m. none-left f φ (p .complete φ m))
+      (rules-of (p .sharing) (λ x y z u v. none-left f (below x y) (p .one-parent x y z u v)))
+
+  done-free : ¬ Clash n T
+  done-free (differs {x} c) = p .apart x (done-decides .complete c)
+  done-free (labels {x} {l} {m} c d z) = z (sym (label-is f x l (done-decides .complete c) .0) ∙ label-is f x m (done-decides .complete d) .0)
+
+  pub done : Ready n T f
+  done = record { inside = p .inside; free = done-free; decides = done-decides; mirrored = p .mirrored }
+
+-- ---- the contract
+
+module _ (n : ℕ) (f : Facts) (a b : Var) (few : n ≤ 16) (ha : a < n) (hb : b < n) (x : ℕ) (h : Apart (f .below) (bitOr (2 ^ a) (2 ^ b)) x) where
+  begun : (S : List Fact) → Ready n S f → Settled n (below a b ∷ S) (below b a) → Pending n (below a b ∷ S) x f
+  begun S r back = narrow n (below a b ∷ S) f _ x h (start n S a b few ha hb f r back)
+
+  pub merged-clash : ((T : List Fact) → Pending n T x f → Clash n T) → MergedOf n f a b (record { clash = true; facts = f })
+  merged-clash k = record { clashes = λ _ S r back. k _ (begun S r back); kept = λ _. refl; settles = λ e. absurd (false≢true (sym e)) }
+
+  pub merged-well : (g : Facts) → ((T : List Fact) → Pending n T x f → Pending n T 0 g) → MergedOf n f a b (record { clash = false; facts = g })
+  merged-well g k = record {
+    clashes = λ e. absurd (false≢true e);
+    kept = λ e. absurd (false≢true e);
+    settles = λ _ S r back. done n _ g (k _ (begun S r back));
+  }
+
+-- what a caller tests: below(b,a) is held, or a leaf is at or above a
+pub back-tested : (n : ℕ) (S : List Fact) (f : Facts) (a b : Var) → n ≤ 16 → a < n → row (f .above) a < 65536 → Ready n S f
+    → Yes (bit (row (f .below) b) a) ⊎ Yes (meets (row (f .above) a) (f .leaf)) → Settled n (below a b ∷ S) (below b a)
+unfolding has
+back-tested n S f a b few ha small r t =
+    ⊎-elim (λ y. back-held n S a b (r .decides .sound {f = below b a} y))
+    (λ y. let k = meets-out (row (f .above) a) (f .leaf) small y in
+    back-leaf n S a b (k .0) (r .decides .sound {f = leaf (k .0)} (k .2))
+    (r .decides .sound {f = below (k .0) a} (sym (r .mirrored .ancestors (k .0) a (in-row _ (k .0) small (k .1)) (le-trans ha few)) ∙ k .1))) t

@@ -1,0 +1,201 @@
+-- `merge::unify` meets its contract: what its helpers ensure is what a round has to have made (proofs/Rounds.antt).
+use Prim.Native.Nat.{_<_}
+use mathlib.Core.Path.{sym, _∙_}
+use mathlib.Core.Logic.{inl, inr, ⊎-elim}
+use mir.Val.{Fits}
+use mir.Syntax.{w16}
+use Rattle.merge.proofs.Tested.{or-yes, or-no, not-yes}
+use Rattle.merge.proofs.Rounds.{round-clash, round-well}
+use borrow.Author.Needs.{needs}
+use Rattle.merge.proofs.unify.Statement.{statement}
+use Rattle.merge.proofs.unify.Tie as tie
+
+x-small : (c : tie.Start) → c .args .x < 65536
+x-small c = let h : Fits w16 (c .args .x) = search needs in h .fits
+
+root-small : (c : tie.Start) → c .args .f .root < 65536
+root-small c = let h : Fits w16 (c .args .f .root) = search needs in h .fits
+
+leaf-small : (c : tie.Start) → c .args .f .leaf < 65536
+leaf-small c = let h : Fits w16 (c .args .f .leaf) = search needs in h .fits
+
+union-rows-requires : tie.Need-union-rows-requires
+union-rows-requires c κs = search needs
+
+union-rows-requires-2 : tie.Need-union-rows-requires-2
+union-rows-requires-2 c κs = search needs
+
+meet-requires : tie.Need-meet-requires
+meet-requires c κs = search needs
+
+when-requires : tie.Need-when-requires
+when-requires c κs = search needs
+
+union-rows-requires-3 : tie.Need-union-rows-requires-3
+union-rows-requires-3 c κs = search needs
+
+union-rows-requires-4 : tie.Need-union-rows-requires-4
+union-rows-requires-4 c κs = search needs
+
+label-of-requires : tie.Need-label-of-requires
+label-of-requires c κs = search needs
+
+meet-requires-2 : tie.Need-meet-requires-2
+meet-requires-2 c κs = search needs
+
+two-labels-requires : tie.Need-two-labels-requires
+two-labels-requires c κs = search needs
+
+returns : tie.Need-returns
+returns c =
+    let test = c .before in
+    let differing = test .before in
+    let shown = differing .before in
+    let others = shown .before in
+    let far = others .before in
+    let leafy = far .before in
+    let met = leafy .before in
+    let near = met .before in
+    let down = near .before in
+    let s = down .before .before .before .before .before .before .before in
+    round-clash _ _ _ _ _ _ (x-small s) (down .union-rows .ensures) (near .union-rows2 .ensures) (far .union-rows3 .ensures) (rw (leafy .when .ensures, met .meet .ensures))
+    _ _ (others .union-rows4 .ensures) (shown .label-of .ensures)
+    (⊎-elim (λ y. inl (sym (differing .meet2 .ensures) ∙ y)) (λ y. inr (test .two-labels .ensures .two y)) (or-yes _ _ (c .if1 .taken)))
+
+union-rows-requires-5 : tie.Need-union-rows-requires-5
+union-rows-requires-5 c κs = search needs
+
+union-rows-requires-6 : tie.Need-union-rows-requires-6
+union-rows-requires-6 c κs = search needs
+
+raise-requires : tie.Need-raise-requires
+raise-requires c κs = search needs
+
+raise-requires-2 : tie.Need-raise-requires-2
+raise-requires-2 c κs = search needs
+
+raise-requires-3 : tie.Need-raise-requires-3
+raise-requires-3 c κs = search needs
+
+raise-requires-4 : tie.Need-raise-requires-4
+raise-requires-4 c κs = search needs
+
+raise-requires-5 : tie.Need-raise-requires-5
+raise-requires-5 c κs = search needs
+
+raise-requires-6 : tie.Need-raise-requires-6
+raise-requires-6 c κs = search needs
+
+raise-requires-7 : tie.Need-raise-requires-7
+raise-requires-7 c κs = search needs
+
+raise-requires-8 : tie.Need-raise-requires-8
+raise-requires-8 c κs = search needs
+
+paint-requires : tie.Need-paint-requires
+paint-requires c κs = search needs
+
+meet-requires-3 : tie.Need-meet-requires-3
+meet-requires-3 c κs = search needs
+
+gain-requires : tie.Need-gain-requires
+gain-requires c κs = search needs
+
+meet-requires-4 : tie.Need-meet-requires-4
+meet-requires-4 c κs = search needs
+
+gain-requires-2 : tie.Need-gain-requires-2
+gain-requires-2 c κs = search needs
+
+apart-requires : tie.Need-apart-requires
+apart-requires c κs = search needs
+
+returns-2 : tie.Need-returns-2
+returns-2 c =
+    let leaf = c .before in
+    let leaf-met = leaf .before in
+    let root = leaf-met .before in
+    let root-met = root .before in
+    let label = root-met .before in
+    let differ = label .before in
+    let differ-first = differ .before in
+    let parent = differ-first .before in
+    let parent-first = parent .before in
+    let child = parent-first .before in
+    let child-first = child .before in
+    let above = child-first .before in
+    let below = above .before in
+    let parents = below .before in
+    let children = parents .before in
+    let free = children .before in
+    let test = free .before in
+    let differing = test .before in
+    let shown = differing .before in
+    let others = shown .before in
+    let far = others .before in
+    let leafy = far .before in
+    let met = leafy .before in
+    let near = met .before in
+    let down = near .before in
+    let s = down .before .before .before .before .before .before .before in
+    let o = or-no _ _ (free .if1 .left) in
+    round-well _ _ _ _ _ _ (x-small s) (down .union-rows .ensures) (near .union-rows2 .ensures) (far .union-rows3 .ensures) (rw (leafy .when .ensures, met .meet .ensures))
+    (root-small s) (leaf-small s) _ _
+    (record {
+      is-parents = parents .union-rows6 .ensures;
+      children = _;
+      is-children = children .union-rows5 .ensures;
+      others = _;
+      is-others = others .union-rows4 .ensures;
+      apart = λ y. not-yes (sym (differing .meet2 .ensures) ∙ o .0) y;
+      shown = _;
+      is-shown = shown .label-of .ensures;
+      only = test .two-labels .ensures .one (o .1);
+      below = below .raise .ensures;
+      above = above .raise2 .ensures;
+      child-half = _;
+      child-first = child-first .raise3 .ensures;
+      child = child .raise4 .ensures;
+      parent-half = _;
+      parent-first = parent-first .raise5 .ensures;
+      parent = parent .raise6 .ensures;
+      differ-half = _;
+      differ-first = differ-first .raise7 .ensures;
+      differ = differ .raise8 .ensures;
+      root = rw (root .gain .ensures, root-met .meet3 .ensures);
+      leaf = rw (leaf .gain2 .ensures, leaf-met .meet4 .ensures);
+      label = label .paint .ensures;
+    })
+    _ (c .apart .ensures)
+
+pub unify-spec : {M : Type 1} → statement M
+unify-spec =
+    tie.close
+    (tie.spec
+    union-rows-requires
+    union-rows-requires-2
+    meet-requires
+    when-requires
+    union-rows-requires-3
+    union-rows-requires-4
+    label-of-requires
+    meet-requires-2
+    two-labels-requires
+    returns
+    union-rows-requires-5
+    union-rows-requires-6
+    raise-requires
+    raise-requires-2
+    raise-requires-3
+    raise-requires-4
+    raise-requires-5
+    raise-requires-6
+    raise-requires-7
+    raise-requires-8
+    paint-requires
+    meet-requires-3
+    gain-requires
+    meet-requires-4
+    gain-requires-2
+    apart-requires
+    returns-2)

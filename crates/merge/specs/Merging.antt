@@ -1,0 +1,73 @@
+-- Tables in which some variables have yet to become the same, and what a round and what the whole does to them.
+use mathlib.Core.Path.{_≡_}
+use mathlib.Core.Logic.{_≢_}
+use mathlib.Core.Bool.{true, false}
+use mathlib.Core.List.{List, _∷_, List·Memᴰ}
+use Prim.Native.Nat.{ℕ, _<_, _≤_}
+use Rattle.rowbits.specs.Bit.{bit}
+use Rattle.meaning.specs.Tree.{Var, Label}
+use Rattle.meaning.specs.Constraint.{Fact, child, below, differ, root, leaf, label}
+use Rattle.meaning.specs.Settled.{Settled, Clash}
+use Rattle.meaning.specs.Finite.{Yes, neg, sum, one}
+use Rattle.meaning.proofs.Facts.{Inside}
+use Rattle.tables.specs.Tables.{row, has, Mirrored, Ready}
+use Rattle.tables.specs.declared.Facts.{Facts}
+use Rattle.merge.specs.declared.Round.{Round}
+use Rattle.tables.specs.declared.Settled.{Settled as Result}
+use Rattle.merge.specs.Rows.{Gap}
+
+-- every rule of settling but that of one parent
+pub record Sharing (n : ℕ) (P : Fact → Type 0) : Type 0 where
+  pub child-below : (x y : Var) → P (child x y) → P (below x y)
+  pub child-differ : (x y : Var) → P (child x y) → P (differ x y)
+  pub self-below : (x : Var) → x < n → P (below x x)
+  pub chain : (x y z : Var) → P (below x y) → P (below y z) → P (below x z)
+  pub root-below : (x y : Var) → P (root x) → y < n → P (below x y)
+  pub leaf-below : (x y : Var) → P (leaf x) → P (below x y) → P (below y x)
+  pub differ-back : (x y : Var) → P (differ x y) → P (differ y x)
+  pub same-parent : (x y u : Var) → P (below x u) → P (below u x) → P (child x y) → P (child u y)
+  pub same-child : (x y u : Var) → P (below y u) → P (below u y) → P (child x y) → P (child x u)
+  pub same-differ : (x y u : Var) → P (below x u) → P (below u x) → P (differ x y) → P (differ u y)
+  pub same-root : (x u : Var) → P (below x u) → P (below u x) → P (root x) → P (root u)
+  pub same-leaf : (x u : Var) → P (below x u) → P (below u x) → P (leaf x) → P (leaf u)
+  pub same-label : (x u : Var) (l : Label) → P (below x u) → P (below u x) → P (label x l) → P (label u l)
+
+-- a fact that is held, or that two variables of X wait for
+pub data Awaits (X : Var → Type 0) (P : Fact → Type 0) : Fact → Type 0 where
+  held : {φ : Fact} → P φ → Awaits X P φ
+  waits : {x y : Var} → X x → X y → Awaits X P (below x y)
+
+abbrev pub In : ℕ → Var → Type 0
+In row x = Yes (bit row x)
+
+abbrev pub Held : Facts → Fact → Type 0
+Held f φ = Yes (has f φ)
+
+-- The tables hold what is settled of T, and are closed but for this: the variables of x have yet to become the same, among them any two
+-- parents of one variable that are not.
+pub record Pending (n : ℕ) (T : List Fact) (x : ℕ) (f : Facts) : Type 0 where
+  pub few : n ≤ 16
+  pub inside : Inside n T
+  pub sound : (φ : Fact) → Awaits (In x) (Held f) φ → Settled n T φ
+  pub complete : (φ : Fact) → List·Memᴰ φ T → Awaits (In x) (Held f) φ
+  pub sharing : Sharing n (Held f)
+  pub one-parent : (x₁ x₂ y : Var) → Held f (child x₁ y) → Held f (child x₂ y) → Awaits (In x) (Held f) (below x₁ x₂)
+  pub apart : (y : Var) → ¬ Held f (differ y y)
+  pub mirrored : Mirrored f
+
+-- how many pairs a table lacks
+unfoldable pub lacking : List ℕ → ℕ
+lacking t = sum 16 (λ i. sum 16 (λ j. one (neg (bit (row t i) j))))
+
+pub record RoundOf (f : Facts) (x : ℕ) (r : Round) : Type 0 where
+  pub clashes : r .clash ≡ true → (n : ℕ) (T : List Fact) → Pending n T x f → Clash n T
+  pub goes-on : r .clash ≡ false → (n : ℕ) (T : List Fact) → Pending n T x f → Pending n T (r .next) (r .facts)
+  pub gap : r .next ≢ 0 → Gap (r .facts .below) (r .next)
+  -- with each group that is merged below lacks less
+  pub falls : r .clash ≡ false → Gap (f .below) x → lacking (r .facts .below) < lacking (f .below)
+
+-- below(a,b) entered, where below(b,a) follows from it: below(b,a) is settled already, or a leaf is at or above a
+pub record MergedOf (n : ℕ) (f : Facts) (a b : Var) (r : Result) : Type 0 where
+  pub clashes : r .clash ≡ true → (S : List Fact) → Ready n S f → Settled n (below a b ∷ S) (below b a) → Clash n (below a b ∷ S)
+  pub kept : r .clash ≡ true → r .facts ≡ f
+  pub settles : r .clash ≡ false → (S : List Fact) → Ready n S f → Settled n (below a b ∷ S) (below b a) → Ready n (below a b ∷ S) (r .facts)

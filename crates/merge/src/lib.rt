@@ -1,0 +1,168 @@
+// Entering below(a, b) where it makes variables the same: their group is merged by rows, then that of its parents, and so on upwards.
+ghost use mathlib.Core.Path.{_≡_};
+ghost use Prim.Native.Nat.{_<_, _≤_};
+ghost use Rattle.meaning.specs.Finite.{pick};
+ghost use Rattle.merge.specs.Rows.{Union, Apart, LabelOf, TwoLabels, Painted};
+ghost use Rattle.merge.specs.Merging.{RoundOf, MergedOf};
+use ids::Var;
+use tables::Facts;
+use tables::Settled;
+
+fn choose(t: bool, l: u8, m: u8) -> u8
+    ensures { λ r. ⌜ r ≡ pick t l m ⌝ }
+{
+    if t {
+        return l;
+    }
+    m
+}
+
+// What the rows named hold together.
+fn union_rows(t: [u16; 16], rows: u16) -> u16
+    ensures { λ r. ⌜ Union t rows r ⌝ }
+{
+    let mut a: u16 = 0;
+    if rows == 0 {
+        return a;
+    }
+    for x in 0usize..16 {
+        let v = t[x];
+        a = tables::gain(rowbits::has(rows, x), a, v);
+    }
+    a
+}
+
+// The rows named, if one of them lacks one of them; else no row.
+fn apart(t: [u16; 16], rows: u16) -> u16
+    ensures { λ r. ⌜ Apart t rows r ⌝ }
+{
+    let mut a: u16 = 0;
+    if rows == 0 {
+        return a;
+    }
+    for x in 0usize..16 {
+        let v = t[x];
+        a = tables::gain(rowbits::has(rows, x), a, tables::except(rows, v));
+    }
+    tables::when(a != 0, rows)
+}
+
+// A label of the variables named, or 0 where none has one.
+fn label_of(t: [u8; 16], rows: u16) -> u8
+    ensures { λ r. ⌜ LabelOf t rows r ⌝ }
+{
+    let mut a: u8 = 0;
+    for x in 0usize..16 {
+        let v = t[x];
+        a = choose(rowbits::has(rows, x) & (v != 0), v, a);
+    }
+    a
+}
+
+// Whether one of the variables named has another label than l.
+fn two_labels(t: [u8; 16], rows: u16, l: u8) -> bool
+    ensures { λ r. ⌜ TwoLabels t rows l r ⌝ }
+{
+    let mut a = false;
+    for x in 0usize..16 {
+        let v = t[x];
+        a = a | (rowbits::has(rows, x) & (v != 0) & (v != l));
+    }
+    a
+}
+
+// The label l given to each of the variables named.
+fn paint(t: [u8; 16], rows: u16, l: u8) -> [u8; 16]
+    ensures { λ r. ⌜ Painted t rows l r ⌝ }
+{
+    let mut a = t;
+    for x in 0usize..16 {
+        let v = a[x];
+        a[x] = choose(rowbits::has(rows, x), l, v);
+    }
+    a
+}
+
+// The tables after a round, and the variables that have to become the same in the next one.
+struct Round {
+    clash: bool,
+    next: u16,
+    facts: Facts,
+}
+
+// One round: the variables of x become the same. All that is at or above one of them and at or below one becomes one group, and shares every
+// fact; a leaf at or above x is the same as all below it, so that these join the group. The parents of the group are left to the next round.
+fn unify(f: Facts, x: u16) -> Round
+    ensures { λ r. ⌜ RoundOf f x r ⌝ }
+{
+    let below = f.below;
+    let above = f.above;
+    let child = f.child;
+    let parent = f.parent;
+    let differ = f.differ;
+    let label = f.label;
+    let down = x | union_rows(below, x);
+    let near = x | union_rows(above, x);
+    let far = union_rows(above, tables::when(tables::meet(near, f.leaf), down));
+    let up = near | far;
+    let group = up & down;
+    let others = union_rows(differ, group);
+    let shown = label_of(label, group);
+    if tables::meet(others, group) | two_labels(label, group, shown) {
+        return Round {
+            clash: true,
+            next: 0,
+            facts: f,
+        };
+    }
+    let children = union_rows(child, group);
+    let parents = union_rows(parent, group);
+    let new_below = tables::raise(below, up, down);
+    let new_above = tables::raise(above, down, up);
+    let new_child = tables::raise(tables::raise(child, group, children), parents, group);
+    let new_parent = tables::raise(tables::raise(parent, children, group), group, parents);
+    let new_differ = tables::raise(tables::raise(differ, group, others), others, group);
+    let new_label = paint(label, group, shown);
+    let root = tables::gain(tables::meet(f.root, group), f.root, group);
+    let leaf = tables::gain(tables::meet(f.leaf, group), f.leaf, group);
+    let next = apart(new_below, parents);
+    Round {
+        clash: false,
+        next,
+        facts: Facts {
+            child: new_child,
+            parent: new_parent,
+            below: new_below,
+            above: new_above,
+            differ: new_differ,
+            root,
+            label: new_label,
+            leaf,
+        },
+    }
+}
+
+// Settled tables with below(a, b), settled again, where below(b, a) follows from it. With a clash they come back as they went in.
+pub fn enter_same(f: Facts, n: usize, a: Var, b: Var) -> Settled
+    requires { ⌜ (a .0 < n) × (b .0 < n) × (n ≤ 16) ⌝ }
+    ensures { λ r. ⌜ MergedOf n f (a .0) (b .0) r ⌝ }
+{
+    let below = f.below;
+    let mut g = f;
+    let mut x = apart(below, tables::one(a.0 as usize) | tables::one(b.0 as usize));
+    while x != 0 {
+        let r = unify(g, x);
+        if r.clash {
+            return Settled {
+                clash: true,
+                facts: f,
+            };
+        }
+        g = r.facts;
+        x = r.next;
+    }
+    Settled {
+        clash: false,
+        facts: g,
+    }
+}

@@ -1,0 +1,56 @@
+-- The layers as rows: one variable more goes into the layer of its depth, if it is the lowest of its group.
+use mathlib.Core.Path.{_≡_, refl, sym, ap, _∙_, subst}
+use mathlib.Core.Bool.{Bool, true, false}
+use mathlib.Core.List.{List}
+use Prim.Native.Nat.{ℕ, _+_, _<_}
+use native.Mathlib.Decide.{ℕ-discrete}
+use native.Mathlib.Omega.{arith}
+use lib.Bits.{bitAnd}
+use lib.Count.{ones}
+use lib.Dec.{eqb}
+use lib.ListN.{length, set, replicate, getD-replicate}
+use lib.Seq.{getD-set-same, getD-set-other}
+use Rattle.meaning.specs.Finite.{pick, _and_}
+use Rattle.meaning.proofs.Tests.{eq-yes, is-eq}
+use Rattle.rowbits.specs.Bit.{bit, withBit}
+use Rattle.tables.specs.Tables.{row}
+use Rattle.readoff.specs.Rows.{Gathered, overRow, deep, inLayer}
+use Rattle.readoff.proofs.Bits.{yes-not, gather-none, gather-more}
+
+and-true : (a : Bool) → a ≡ (a and true)
+unfolding _and_
+and-true true = refl
+and-true false = refl
+
+and-false : (a : Bool) → false ≡ (a and false)
+unfolding _and_
+and-false true = refl
+and-false false = refl
+
+module _ (t u : List ℕ) (n lows : ℕ) where
+  unfoldable pub Layered : ℕ → List ℕ → Type 0
+  Layered x layer = (d : ℕ) → d < 17 → Gathered x (inLayer t u n lows d) (row layer d)
+
+  pub layered-none : Layered 0 (replicate 17 0)
+  unfolding Layered
+  layered-none d h = subst (Gathered 0 _) (sym (getD-replicate 17 d 0 0 h)) (gather-none _)
+
+  pub layered-more : (x above depth v : ℕ) (s : Bool) (layer : List ℕ) → length layer ≡ 17 → above ≡ overRow n (row u x) (row t x) → depth ≡ ones (bitAnd above lows) → s ≡ bit lows x
+      → v ≡ pick s (withBit (row layer depth) x) (row layer depth) → Layered x layer → Layered (x + 1) (set layer depth v)
+  unfolding Layered inLayer deep pick
+  layered-more x above depth v s layer long o c l w g d h = go (ℕ-discrete d depth)
+    where
+      e : depth ≡ deep t u n lows x
+      e = c ∙ ap (λ (a : ℕ). ones (bitAnd a lows)) o
+
+      go : Dec (d ≡ depth) → Gathered (x + 1) (inLayer t u n lows d) (row (set layer depth v) d)
+      go (yes q) =
+          gather-more (inLayer t u n lows d) x (row layer d) (row (set layer depth v) d) s
+          (l ∙ and-true (bit lows x) ∙ ap (λ (b : Bool). bit lows x and b) (sym (eq-yes (sym e ∙ sym q))))
+          (ap (row (set layer depth v)) q ∙ getD-set-same layer depth v 0 (omega arith) ∙ w ∙ ap (λ (i : ℕ). pick s (withBit (row layer i) x) (row layer i)) (sym q))
+          (g d h)
+      go (no q) =
+          gather-more (inLayer t u n lows d) x (row layer d) (row (set layer depth v) d) false
+          (and-false (bit lows x) ∙ ap (λ (b : Bool). bit lows x and b) (sym (yes-not (λ y. q (sym (e ∙ is-eq y))))))
+          (getD-set-other layer depth d v 0 q)
+          (g d h)

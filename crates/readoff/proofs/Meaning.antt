@@ -1,0 +1,204 @@
+-- What the rows say of groups is what the definitions say, where `above` has the columns of `below`.
+use mathlib.Core.Path.{_≡_, refl, sym, ap, _∙_, subst}
+use mathlib.Core.Logic.{⊎-elim}
+use mathlib.Core.Bool.{Bool, true, false, false≢true}
+use mathlib.Core.List.{List, [], _∷_, _++_, map, List·Memᴰ, List·Memᴰ·head, List·Memᴰ·tail, List·Memᴰ·append-cases, List·Memᴰ·not-nil}
+use Prim.Native.Nat.{ℕ, zero, suc, _+_, _-_, _*_, _^_, _≤_, _<_, suc-le-suc}
+use native.Mathlib.Nat.{le-refl, le-trans, le-step}
+use native.Mathlib.Omega.{arith}
+use lib.Bits.{bitAnd, and-le-l, and-le-r, mask-lt}
+use lib.Count.{ones}
+use lib.Dec.{eqb, ltb}
+use lib.ListN.{length, getD}
+use lib.Pow.{pow-mono, ones-lt}
+use Rattle.meaning.specs.Constraint.{below, label}
+use Rattle.meaning.specs.Finite.{Yes, pick, _and_, neg, anyb, one, sum, picked, position, smallest, tab}
+use Rattle.meaning.specs.ReadOff.{FactSet, same, over, lowest, depth, layer, layers, order, blank, place, nearest, parentOf, labelOf, NodeRecord, places}
+use Rattle.meaning.proofs.Tests.{clash, yes-case, is-eq, eq-yes, self-eq, and-left, and-right, and-both, no-neg}
+use Rattle.meaning.proofs.Finite.{any-intro, any-elim, one-most, sum-bound, smallest-passes, smallest-none}
+use Rattle.meaning.proofs.Lists.{picked-out}
+use Rattle.meaning.proofs.Nodes.{length-picked, layers-most}
+use Rattle.rowbits.specs.Bit.{bit}
+use Rattle.tables.specs.declared.Facts.{Facts}
+use Rattle.tables.specs.Tables.{row, has, Columns}
+use Rattle.readoff.specs.Rows.{Gathered, apart, overRow, isLow, deep, inLayer, near}
+use Rattle.readoff.specs.Listing.{listed, placeIn, parentIn, nodeIn}
+use Rattle.readoff.proofs.Bits.{yes-not, bit-meet, bit-apart, all-has, sum-eq, any-eq, picked-eq, counted, ones-zero, empty, gathered-picked}
+use Rattle.readoff.proofs.Layered.{Layered}
+use Rattle.readoff.proofs.Listing.{position-eq}
+
+and-true : (a : Bool) → (a and true) ≡ a
+unfolding _and_
+and-true true = refl
+and-true false = refl
+
+and-turn : (a b : Bool) → (a and b) ≡ (b and a)
+unfolding _and_
+and-turn true true = refl
+and-turn true false = refl
+and-turn false true = refl
+and-turn false false = refl
+
+map-eq : {A : Type 0} (f g : ℕ → A) (xs : List ℕ) → ((x : ℕ) → List·Memᴰ x xs → f x ≡ g x) → map f xs ≡ map g xs
+map-eq f g [] h = refl
+map-eq f g (x ∷ xs) h = rw (h x (List·Memᴰ·head refl), map-eq f g xs (λ y m. h y (List·Memᴰ·tail m)))
+
+tab-eq : (n : ℕ) (f g : ℕ → ℕ) → ((x : ℕ) → x < n → f x ≡ g x) → tab n f ≡ tab n g
+unfolding tab
+tab-eq zero f g h = refl
+tab-eq (suc n) f g h = rw (tab-eq n f g (λ x l. h x (le-step l)), h n (le-refl _))
+
+-- ---- of any facts
+
+pub order-most : (n : ℕ) (h : FactSet) → length (order n h) ≤ n
+unfolding order
+order-most n h =
+    let a = layers-most n h n in
+    let b : sum n (λ x. one (ltb (depth n h x) n)) ≤ n * 1 = sum-bound n 1 _ (λ x l. one-most _) in
+    omega arith
+
+layers-inside : (n : ℕ) (h : FactSet) (d g : ℕ) → List·Memᴰ g (layers n h d) → g < n
+unfolding layers layer
+layers-inside n h zero g k = absurd (List·Memᴰ·not-nil k)
+layers-inside n h (suc d) g k = ⊎-elim (layers-inside n h d g) (λ q. picked-out n _ g q .0) (List·Memᴰ·append-cases (layers n h d) k)
+
+pub order-inside : (n : ℕ) (h : FactSet) (g : ℕ) → List·Memᴰ g (order n h) → g < n
+unfolding order
+order-inside n h g k = layers-inside n h n g k
+
+-- ---- of the tables
+
+-- the only number that passes, or 0
+smallest-only : (k r : ℕ) → r < k → r ≡ smallest k (λ l. eqb r l and neg (eqb l 0))
+smallest-only k r h = ⊎-elim nothing this (yes-case (eqb r 0))
+  where
+    nothing : Yes (eqb r 0) → r ≡ smallest k (λ l. eqb r l and neg (eqb l 0))
+    nothing z =
+        let e : r ≡ 0 = is-eq z in
+        e ∙ sym (smallest-none k (λ l. eqb r l and neg (eqb l 0)) (no-neg (λ y. let w = any-elim k (λ l. eqb r l and neg (eqb l 0)) y in
+        let q : r ≡ w .0 = is-eq (and-left _ (w .2)) in
+        clash (eq-yes {x = w .0} {y = 0} (sym q ∙ e)) (and-right (eqb r (w .0)) (w .2)))))
+
+    this : Yes (neg (eqb r 0)) → r ≡ smallest k (λ l. eqb r l and neg (eqb l 0))
+    this z = is-eq (and-left _ (smallest-passes k (λ l. eqb r l and neg (eqb l 0)) (any-intro k (λ l. eqb r l and neg (eqb l 0)) r h (and-both (self-eq r) z)) .1))
+
+-- a label of 0 is no label fact
+label-is : (f : Facts) (n g : ℕ) → row (f .label) g < 256 → row (f .label) g ≡ labelOf n (has f) g
+unfolding labelOf has
+label-is f n g h = smallest-only 256 (row (f .label) g) h
+
+module _ (f : Facts) (n : ℕ) (few : n ≤ 16) (m : Columns (f .below) (f .above)) where
+  -- ---- over, same
+
+  over-is : (x y : ℕ) → x < 16 → y < 16 → bit (apart (row (f .above) x) (row (f .below) x)) y ≡ over n (has f) y x
+  unfolding over has
+  over-is x y h k = bit-apart (row (f .above) x) (row (f .below) x) y k ∙ ap (λ (b : Bool). b and neg (bit (row (f .below) x) y)) (m y x k h)
+
+  under-is : (w k : ℕ) → w < 16 → k < 16 → bit (apart (row (f .below) w) (row (f .above) w)) k ≡ over n (has f) w k
+  unfolding over has
+  under-is w k h l = bit-apart (row (f .below) w) (row (f .above) w) k l ∙ ap (λ (b : Bool). bit (row (f .below) w) k and neg b) (m k w l h)
+
+  same-is : (x y : ℕ) → x < 16 → y < 16 → bit (bitAnd (row (f .above) x) (row (f .below) x)) y ≡ same (has f) y x
+  unfolding same has
+  same-is x y h k = bit-meet (row (f .above) x) (row (f .below) x) y ∙ ap (λ (b : Bool). b and bit (row (f .below) x) y) (m y x k h)
+
+  abbrev rowOf : ℕ → ℕ
+  rowOf x = overRow n (row (f .above) x) (row (f .below) x)
+
+  rowOf-small : (x : ℕ) → rowOf x < 2 ^ n
+  unfolding overRow
+  rowOf-small x = mask-lt (apart (row (f .above) x) (row (f .below) x)) n
+
+  rowOf-is : (x y : ℕ) → x < 16 → y < n → bit (rowOf x) y ≡ over n (has f) y x
+  unfolding overRow
+  rowOf-is x y h k =
+      bit-meet (apart (row (f .above) x) (row (f .below) x)) (2 ^ n - 1) y
+      ∙ ap (λ (b : Bool). bit (apart (row (f .above) x) (row (f .below) x)) y and b) (all-has n y k) ∙ and-true _ ∙ over-is x y h (omega arith)
+
+  near-is : (x w : ℕ) → x < n → w < n → near (f .below) (f .above) (rowOf x) w ≡ nearest n (has f) w x
+  unfolding near nearest
+  near-is x w h l =
+      rw (rowOf-is x w (omega arith) l) (ap (λ (b : Bool). over n (has f) w x and b)
+      (empty n (bitAnd (rowOf x) (apart (row (f .below) w) (row (f .above) w))) (le-trans (suc-le-suc (and-le-l (rowOf x) _)) (rowOf-small x))
+      ∙ ap neg (any-eq n _ (λ k. over n (has f) k x and over n (has f) w k)
+      (λ k q. bit-meet (rowOf x) (apart (row (f .below) w) (row (f .above) w)) k ∙ rw (rowOf-is x k (omega arith) q, under-is w k (omega arith) (omega arith))))))
+
+  -- ---- the lowest variables, and the depth of each
+
+  low-is : (x : ℕ) → x < 16 → isLow (f .below) (f .above) x ≡ lowest n (has f) x
+  unfolding isLow lowest
+  low-is x h =
+      empty x (bitAnd (bitAnd (row (f .above) x) (row (f .below) x)) (2 ^ x - 1)) (mask-lt (bitAnd (row (f .above) x) (row (f .below) x)) x)
+      ∙ ap neg (any-eq x _ (λ y. same (has f) y x) (λ y l. bit-meet (bitAnd (row (f .above) x) (row (f .below) x)) (2 ^ x - 1) y
+      ∙ ap (λ (b : Bool). bit (bitAnd (row (f .above) x) (row (f .below) x)) y and b) (all-has x y l) ∙ and-true _ ∙ same-is x y h (omega arith)))
+
+  module _ (lows : ℕ) (g : Gathered n (isLow (f .below) (f .above)) lows) where
+    lows-is : (x : ℕ) → x < n → bit lows x ≡ lowest n (has f) x
+    lows-is x l = g .each x l ∙ low-is x (omega arith)
+
+    above-small : (x : ℕ) → bitAnd (rowOf x) lows < 2 ^ n
+    above-small x = le-trans (suc-le-suc (and-le-l (rowOf x) lows)) (rowOf-small x)
+
+    depth-is : (x : ℕ) → x < 16 → deep (f .below) (f .above) n lows x ≡ depth n (has f) x
+    unfolding deep depth
+    depth-is x h =
+        counted n (bitAnd (rowOf x) lows) (above-small x)
+        ∙ sum-eq n _ _ (λ y l. ap one (bit-meet (rowOf x) lows y ∙ and-turn _ _ ∙ rw (lows-is y l, rowOf-is x y h l)))
+
+    top-is : (x : ℕ) → x < 16 → eqb (bitAnd (rowOf x) lows) 0 ≡ eqb (depth n (has f) x) 0
+    unfolding deep
+    top-is x h =
+        let p : 2 ^ n ≤ 2 ^ 16 = pow-mono few in
+        sym (ones-zero (bitAnd (rowOf x) lows) (le-trans (above-small x) p)) ∙ ap (λ (k : ℕ). eqb k 0) (depth-is x h)
+
+    -- ---- the order of the groups
+
+    module _ (rows : List ℕ) (ls : Layered (f .below) (f .above) n lows n rows) where
+      layer-is : (d : ℕ) → d < 17 → picked 16 (bit (row rows d)) ≡ layer n (has f) d
+      unfolding layer inLayer Layered
+      layer-is d h =
+          gathered-picked n _ (row rows d) few (ls d h)
+          ∙ picked-eq n _ _ (λ x l. rw (lows-is x l, depth-is x (omega arith)))
+
+      listed-is : (d : ℕ) → d ≤ 17 → listed rows d ≡ layers n (has f) d
+      unfolding listed layers
+      listed-is zero h = refl
+      listed-is (suc d) h = rw (listed-is d (omega arith), layer-is d h)
+
+      pub order-is : listed rows n ≡ order n (has f)
+      unfolding order
+      order-is = listed-is n (omega arith)
+
+      pub blank-is : one (neg (eqb (ones (row rows 0)) 1)) ≡ blank n (has f)
+      unfolding blank Layered
+      blank-is =
+          let p : 2 ^ n ≤ 2 ^ 16 = pow-mono few in
+          ap (λ (k : ℕ). one (neg (eqb k 1)))
+          (counted 16 (row rows 0) (le-trans (ls 0 (omega arith) .small) p) ∙ sym (length-picked 16 (bit (row rows 0))) ∙ ap length (layer-is 0 (omega arith)))
+
+    pub parent-is : (x : ℕ) → x < n → parentIn (f .below) (f .above) lows (blank n (has f)) (order n (has f)) (rowOf x) ≡ parentOf n (has f) x
+    unfolding parentIn parentOf
+    parent-is x h =
+        rw (
+          top-is x (omega arith),
+          position-eq (near (f .below) (f .above) (rowOf x)) (λ w. nearest n (has f) w x) (order n (has f)) (λ w k. near-is x w h (order-inside n (has f) w k)),
+        )
+
+  pub place-is : (x : ℕ) → x < n → placeIn (f .below) (f .above) (blank n (has f)) (order n (has f)) x ≡ place n (has f) x
+  unfolding placeIn place
+  place-is x h =
+      ap (λ (k : ℕ). blank n (has f) + k)
+      (position-eq (bit (bitAnd (row (f .above) x) (row (f .below) x))) (λ g. same (has f) g x) (order n (has f))
+      (λ g k. same-is x g (omega arith) (let l = order-inside n (has f) g k in omega arith)))
+
+  pub places-are : tab n (placeIn (f .below) (f .above) (blank n (has f)) (order n (has f))) ≡ places n (has f)
+  unfolding places
+  places-are = tab-eq n _ _ place-is
+
+  pub nodes-are : (lows : ℕ) → Gathered n (isLow (f .below) (f .above)) lows → ((g : ℕ) → row (f .label) g < 256)
+      → map (nodeIn (f .below) (f .above) (f .label) n lows (blank n (has f)) (order n (has f))) (order n (has f))
+      ≡ map (λ (g : ℕ). record { up = parentOf n (has f) g; mark = labelOf n (has f) g }) (order n (has f))
+  unfolding nodeIn
+  nodes-are lows g bytes =
+      map-eq (nodeIn (f .below) (f .above) (f .label) n lows (blank n (has f)) (order n (has f))) (λ (x : ℕ). record { up = parentOf n (has f) x; mark = labelOf n (has f) x }) (order n (has f))
+      (λ x k. rw (parent-is lows g x (order-inside n (has f) x k), label-is f n x (bytes x)))

@@ -1,0 +1,70 @@
+-- `readoff::lows` meets its contract: at x the row holds the lowest variables below x.
+use mathlib.Core.Path.{_≡_}
+use Prim.Native.Nat.{_≤_, _-_}
+use Rattle.readoff.specs.Rows.{Gathered, isLow}
+use Rattle.readoff.proofs.Bits.{gather-none, gather-more}
+use borrow.Author.Needs.{needs}
+use Rattle.readoff.proofs.lows.Statement.{statement}
+use Rattle.readoff.proofs.lows.Tie as tie
+
+abbrev Inv-loop : tie.InvT-loop
+Inv-loop n below above a₀ x₀ a x = (x ≤ n) × Gathered x (isLow below above) a
+
+abbrev μ-loop : tie.MeasureT-loop
+μ-loop n below above a₀ x₀ a x = n - x
+
+loop-holds : tie.Need-loop-holds Inv-loop μ-loop
+loop-holds c = (search needs, gather-none _)
+
+mul-up : tie.Need-mul-up Inv-loop μ-loop
+mul-up c = search needs
+
+array-read-up : tie.Need-array-read-up Inv-loop μ-loop
+array-read-up c = search needs
+
+mul-down : tie.Need-mul-down Inv-loop μ-loop
+mul-down c = search needs
+
+array-read-down : tie.Need-array-read-down Inv-loop μ-loop
+array-read-down c = search needs
+
+cast-t17 : tie.Need-cast-t17 Inv-loop μ-loop
+cast-t17 c = search needs
+
+is-low-requires : tie.Need-is-low-requires Inv-loop μ-loop
+is-low-requires c κs = search needs
+
+mark-requires : tie.Need-mark-requires Inv-loop μ-loop
+mark-requires c κs = search needs
+
+add-x : tie.Need-add-x Inv-loop μ-loop
+add-x c = search needs
+
+loop-less : tie.Need-loop-less Inv-loop μ-loop
+loop-less c = search needs
+
+loop-again : tie.Need-loop-again Inv-loop μ-loop
+unfolding isLow
+loop-again c = (search needs, gather-more _ _ _ _ _ (c .before .is-low .ensures) (c .mark .ensures) (c .before .before .before .loop .inv .1))
+
+returns : tie.Need-returns Inv-loop μ-loop
+returns c = let e : c .before .loop .x ≡ c .before .before .args .n = search needs in rw (← e) (c .before .loop .inv .1)
+
+pub lows-spec : {M : Type 1} → statement M
+lows-spec =
+    tie.close
+    (tie.spec
+    Inv-loop
+    μ-loop
+    loop-holds
+    mul-up
+    array-read-up
+    mul-down
+    array-read-down
+    cast-t17
+    is-low-requires
+    mark-requires
+    add-x
+    loop-less
+    loop-again
+    returns)

@@ -1,0 +1,48 @@
+-- The groups in the order of their nodes, as a list, and what is read from it.
+use mathlib.Core.Path.{_≡_}
+use mathlib.Core.Bool.{Bool}
+use mathlib.Core.List.{List, [], _++_, map, List·Memᴰ}
+use Prim.Native.Nat.{ℕ, zero, suc, _+_, _≤_, _<_}
+use lib.Bits.{bitAnd}
+use lib.Dec.{eqb}
+use lib.ListN.{getD, take, length}
+use Rattle.meaning.specs.Finite.{pick, picked, position}
+use Rattle.meaning.specs.ReadOff.{NodeRecord}
+use Rattle.rowbits.specs.Bit.{bit}
+use Rattle.tables.specs.Tables.{row}
+use Rattle.ids.specs.declared.Var.{Var}
+use Rattle.ids.specs.declared.Node.{Node}
+use Rattle.readoff.specs.declared.Order.{Order}
+use Rattle.readoff.specs.Rows.{overRow, near}
+
+-- the numbers of the groups' variables
+unfoldable pub groups : Order → List ℕ
+groups o = map (λ (v : Var). v .0) (take (o .len) (o .group))
+
+pub record Small (o : Order) : Type 0 where
+  pub few : o .len ≤ 16
+  pub inside : (g : ℕ) → List·Memᴰ g (groups o) → g < 16
+
+-- the members of the first d rows, row by row
+unfoldable pub listed : List ℕ → ℕ → List ℕ
+listed t zero = []
+listed t (suc d) = listed t d ++ picked 16 (bit (row t d))
+
+pub record Listed (gs : List ℕ) (o : Order) : Type 0 where
+  pub small : Small o
+  pub these : groups o ≡ gs
+
+-- the numbers of the first n nodes
+unfoldable pub nodeNumbers : ℕ → List Node → List ℕ
+nodeNumbers n vs = map (λ (v : Node). v .0) (take n vs)
+
+-- the node of a variable, where gs are the groups in the order of their nodes
+unfoldable pub placeIn : (t u : List ℕ) (blank : ℕ) (gs : List ℕ) → ℕ → ℕ
+placeIn t u blank gs x = blank + position (bit (bitAnd (row u x) (row t x))) gs
+
+-- the parent of a group with this row of variables over it
+unfoldable pub parentIn : (t u : List ℕ) (lows blank : ℕ) (gs : List ℕ) → ℕ → ℕ
+parentIn t u lows blank gs above = pick (eqb (bitAnd above lows) 0) 0 (blank + position (near t u above) gs)
+
+unfoldable pub nodeIn : (t u labels : List ℕ) (n lows blank : ℕ) (gs : List ℕ) → ℕ → NodeRecord
+nodeIn t u labels n lows blank gs g = record { up = parentIn t u lows blank gs (overRow n (row u g) (row t g)); mark = row labels g }

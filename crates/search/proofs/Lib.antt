@@ -1,0 +1,3 @@
+pub mod Entering
+pub mod Reporting
+pub mod Lines

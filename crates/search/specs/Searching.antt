@@ -1,0 +1,77 @@
+-- What a line of the search starts from, and what it reports of the fixed search.
+use mathlib.Core.Path.{_≡_}
+use mathlib.Core.Logic.{_≢_}
+use mathlib.Core.Bool.{true, false}
+use mathlib.Core.List.{List, _∷_, _++_}
+use mathlib.Core.Option.{none, some}
+use Prim.Native.Nat.{ℕ, suc, _+_, _≤_, _<_}
+use Rattle.meaning.specs.Constraint.{Fact, below}
+use Rattle.meaning.specs.Settled.{Clash}
+use Rattle.meaning.specs.FixedSearch.{Join, first-alternative, second-alternative, Outcome, in-none, in-tree}
+use Rattle.meaning.specs.Finite.{neg, pick, sum, one}
+use Rattle.meaning.proofs.Facts.{Inside}
+use Rattle.theory.specs.Search.{firstJoin, search}
+use Rattle.tables.specs.Tables.{has, Ready}
+use Rattle.tables.specs.declared.Facts.{Facts}
+use Rattle.tables.specs.declared.Settled.{Settled}
+use Rattle.search.specs.declared.Below.{Below}
+use Rattle.search.specs.declared.Step.{Step}
+use Rattle.search.specs.declared.Step.the-variants.{Solved, Split}
+use Rattle.search.specs.declared.End.{End}
+use Rattle.search.specs.declared.End.the-variants.{Tree, None, Spent}
+use Rattle.search.specs.declared.Searched.{Searched}
+
+-- ---- one step
+
+abbrev pub fact : Below → Fact
+fact p = below (p .upper .0) (p .lower .0)
+
+pub record Named (n : ℕ) (p : Below) : Type 0 where
+  pub upper : p .upper .0 < n
+  pub lower : p .lower .0 < n
+
+-- entering p into the settled set of S is entering the facts A
+pub record Enters (n : ℕ) (S : List Fact) (p : Below) (A : List Fact) : Type 0 where
+  pub ready : {g : Facts} → Ready n (fact p ∷ S) g → Ready n (A ++ S) g
+  pub clash : Clash n (fact p ∷ S) → Clash n (A ++ S)
+
+-- p and q enter the alternatives of the first join
+pub record Alternatives (n : ℕ) (S : List Fact) (f : Facts) (p q : Below) : Type 0 where
+  pub join : Join
+  pub is-first : firstJoin n (has f) ≡ some join
+  pub first : Enters n S p (first-alternative join)
+  pub second : Enters n S q (second-alternative join)
+
+abbrev pub StepOf : ℕ → Facts → Step → Type 0
+StepOf n f Solved = (S : List Fact) → Ready n S f → firstJoin n (has f) ≡ none
+StepOf n f (Split p q) = Named n p × Named n q × ((S : List Fact) → Ready n S f → Alternatives n S f p q)
+
+-- ---- a line
+
+-- tables that were settled for S: they decide its settled set, or S has a clash
+pub record Line (n : ℕ) (S : List Fact) (s : Settled) : Type 0 where
+  pub inside : Inside n S
+  pub clashes : s .clash ≡ true → Clash n S
+  pub ready : s .clash ≡ false → Ready n S (s .facts)
+
+-- how many pairs of variables are not in below: it falls with every alternative
+unfoldable pub missing : ℕ → Facts → ℕ
+missing n f = sum n (λ x. sum n (λ y. one (neg (has f (below x y)))))
+
+unfoldable pub left : ℕ → Settled → ℕ
+left n s = pick (s .clash) 0 (suc (missing n (s .facts)))
+
+-- r reports a search that ends in o after entering c alternatives in all
+pub record Reports (A n : ℕ) (o : Outcome) (c : ℕ) (r : Searched) : Type 0 where
+  pub spent : A < c → (r .end ≡ Spent) × (r .count ≡ A)
+  pub none : c ≤ A → o ≡ in-none → (r .end ≡ None) × (r .count ≡ c)
+  pub tree : c ≤ A → {R : List Fact} → o ≡ in-tree R → (r .end ≡ Tree) × (r .count ≡ c) × Ready n R (r .facts)
+
+-- with c alternatives entered before
+abbrev pub LineOf : ℕ → ℕ → Settled → ℕ → Searched → Type 0
+LineOf A n s c r = (S : List Fact) → Line n S s → Reports A n (search n S .outcome) (c + search n S .count) r
+
+pub record SearchedOf (A n : ℕ) (s : Settled) (r : Searched) : Type 0 where
+  pub reports : (S : List Fact) → Line n S s → Reports A n (search n S .outcome) (search n S .count) r
+  -- the tables come back as they went in, unless they are those of a tree
+  pub kept : r .end ≢ Tree → r .facts ≡ s .facts

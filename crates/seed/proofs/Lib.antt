@@ -1,0 +1,4 @@
+pub mod Tests
+pub mod Bytes
+pub mod Step
+pub mod Seeding

@@ -1,0 +1,118 @@
+-- What the rules for itself, child, root and chain make of the rows of below.
+use mathlib.Core.Path.{_≡_, sym, subst}
+use mathlib.Core.Logic.{_⊎_, inl, inr, ⊎-elim}
+use mathlib.Core.List.{List}
+use Prim.Native.Nat.{ℕ, _+_, _-_, _^_, _<_, _≤_}
+use native.Mathlib.Nat.{le-trans, not-suc-le-zero}
+use native.Mathlib.Decide.{decLt}
+use native.Mathlib.Omega.{arith}
+use lib.Bits.{bitOr}
+use Rattle.meaning.specs.Constraint.{Fact, child, below, root}
+use Rattle.meaning.specs.Settled.{Settled, child-below, self-below, chain, root-below}
+use Rattle.meaning.specs.Finite.{Yes}
+use Rattle.rowbits.specs.Bit.{bit}
+use Rattle.tables.specs.Tables.{row}
+use Rattle.tables.specs.Rows.{Up, gained}
+use Rattle.tables.proofs.Loops.{below-cases, Rowing}
+use Rattle.tables.proofs.Bits.{or-l, or-r, or-case, up-or, up-self, up-trans, all-is, all-has, gained-up, gained-has, gained-case, one-is, one-has}
+use Rattle.settle.specs.Rows.{Lifted, Chained, firstRow}
+
+pub lifted : (t : List ℕ) (y x : ℕ) (r : List ℕ) → 16 ≤ x → x ≤ 16 → Rowing (λ k v. gained (bit v y) v (row t y)) 16 t x r → Lifted t y r
+lifted t y x r h h2 w = record { within = λ k l. w .done k (le-trans l h); beyond = λ k l. w .rest k (le-trans h2 l) }
+
+-- ---- the rows of below
+
+first-up : (b c r x n : ℕ) → Up b (firstRow b c r x n)
+unfolding firstRow
+first-up b c r x n = up-trans (up-trans (up-or b c) (up-or _ _)) (gained-up _ _ _)
+
+first-self : (b c r x n : ℕ) → Yes (bit (firstRow b c r x n) x)
+unfolding firstRow
+first-self b c r x n = gained-up (bit r x) (bitOr (bitOr b c) (2 ^ x)) (2 ^ n - 1) .kept x (or-r (bitOr b c) (2 ^ x) x (one-has x))
+
+first-child : (b c r x n i : ℕ) → Yes (bit c i) → Yes (bit (firstRow b c r x n) i)
+unfolding firstRow
+first-child b c r x n i u = gained-up (bit r x) (bitOr (bitOr b c) (2 ^ x)) (2 ^ n - 1) .kept i (or-l (bitOr b c) (2 ^ x) i (or-r b c i u))
+
+first-root : (b c r x n i : ℕ) → Yes (bit r x) → i < n → Yes (bit (firstRow b c r x n) i)
+unfolding firstRow
+first-root b c r x n i u l = gained-has (bit r x) (bitOr (bitOr b c) (2 ^ x)) (2 ^ n - 1) i u (all-has n i l)
+
+first-case : (b c r x n i : ℕ) → Yes (bit (firstRow b c r x n) i) → Yes (bit b i) ⊎ Yes (bit c i) ⊎ (i ≡ x) ⊎ (Yes (bit r x) × (i < n))
+unfolding firstRow
+first-case b c r x n i t =
+    ⊎-elim
+    (λ u. ⊎-elim (λ v. ⊎-elim inl (λ w. inr (inl w)) (or-case b c i v)) (λ v. inr (inr (inl (one-is x i v)))) (or-case _ _ i u))
+    (λ u. inr (inr (inr (u .0, all-is n i (u .1))))) (gained-case _ _ _ i t)
+
+pub record Lifting (n : ℕ) (t : List ℕ) (y : ℕ) (a : List ℕ) : Type 0 where
+  pub up : (x : ℕ) → Up (row t x) (row a x)
+  pub sound : (S : List Fact) → ((x z : ℕ) → Yes (bit (row t x) z) → Settled n S (below x z)) → (x z : ℕ) → Yes (bit (row a x) z) → Settled n S (below x z)
+  pub chained : (x k z : ℕ) → x < 16 → k < y → Yes (bit (row t x) k) → Yes (bit (row t k) z) → Yes (bit (row a x) z)
+
+pub lifting-none : (n : ℕ) (t : List ℕ) → Lifting n t 0 t
+lifting-none n t = record { up = λ x. up-self _; sound = λ S h. h; chained = λ x k z l m. absurd (not-suc-le-zero m) }
+
+module _ (n : ℕ) (t : List ℕ) (y : ℕ) (a b : List ℕ) (w : Lifted a y b) (g : Lifting n t y a) where
+  one-up : (x : ℕ) → Up (row a x) (row b x)
+  one-up x = go (decLt x 16)
+    where
+      go : Dec (x < 16) → Up (row a x) (row b x)
+      go (yes h) = subst (λ (k : ℕ). Up (row a x) k) (sym (w .within x h)) (gained-up _ _ _)
+      go (no h) = subst (λ (k : ℕ). Up (row a x) k) (sym (w .beyond x (omega arith))) (up-self _)
+
+  one-sound : (S : List Fact) → ((x z : ℕ) → Yes (bit (row a x) z) → Settled n S (below x z)) → (x z : ℕ) → Yes (bit (row b x) z) → Settled n S (below x z)
+  one-sound S s x z u = go (decLt x 16)
+    where
+      go : Dec (x < 16) → Settled n S (below x z)
+      go (yes h) =
+          ⊎-elim (s x z) (λ v. chain (s x y (v .0)) (s y z (v .1)))
+          (gained-case _ _ _ z (subst (λ (k : ℕ). Yes (bit k z)) (w .within x h) u))
+      go (no h) = s x z (subst (λ (k : ℕ). Yes (bit k z)) (w .beyond x (omega arith)) u)
+
+  pub lifting-more : Lifting n t (y + 1) b
+  lifting-more = record {
+    up = λ x. up-trans (g .up x) (one-up x);
+    sound = λ S s. one-sound S (g .sound S s);
+    chained = λ x k z h l p q. ⊎-elim
+        (λ e. subst (λ (i : ℕ). Yes (bit i z)) (sym (w .within x h))
+        (gained-has _ _ _ z (g .up x .kept y (subst (λ (i : ℕ). Yes (bit (row t x) i)) e p))
+        (g .up y .kept z (subst (λ (i : ℕ). Yes (bit (row t i) z)) e q))))
+        (λ m. one-up x .kept z (g .chained x k z h m p q)) (below-cases l);
+  }
+
+module _ (n : ℕ) (small : n ≤ 16) (t children : List ℕ) (roots x y : ℕ) (a r : List ℕ) (hx : n ≤ x) (hx2 : x ≤ n) (hy : n ≤ y)
+    (f : Rowing (λ k v. firstRow v (row children k) roots k n) n t x a) (g : Lifting n a y r) where
+  firsts-up : (k : ℕ) → Up (row t k) (row a k)
+  firsts-up k = go (decLt k n)
+    where
+      go : Dec (k < n) → Up (row t k) (row a k)
+      go (yes h) = subst (λ (i : ℕ). Up (row t k) i) (sym (f .done k (omega arith))) (first-up _ _ _ _ _)
+      go (no h) = subst (λ (i : ℕ). Up (row t k) i) (sym (f .rest k (omega arith))) (up-self _)
+
+  firsts-sound : (S : List Fact) → ((x y : ℕ) → Yes (bit (row t x) y) → Settled n S (below x y))
+      → ((x y : ℕ) → Yes (bit (row children x) y) → Settled n S (child x y))
+      → ((x : ℕ) → Yes (bit roots x) → Settled n S (root x))
+      → (x y : ℕ) → Yes (bit (row a x) y) → Settled n S (below x y)
+  firsts-sound S s c d k i u = go (decLt k n)
+    where
+      go : Dec (k < n) → Settled n S (below k i)
+      go (no h) = s k i (subst (λ (j : ℕ). Yes (bit j i)) (f .rest k (omega arith)) u)
+      go (yes h) =
+          ⊎-elim (s k i)
+          (λ v. ⊎-elim (λ v. child-below (c k i v))
+          (λ v. ⊎-elim (λ e. subst (λ (j : ℕ). Settled n S (below k j)) (sym e) (self-below h)) (λ v. root-below (d k (v .0)) (v .1)) v) v)
+          (first-case _ _ _ _ _ i (subst (λ (j : ℕ). Yes (bit j i)) (f .done k (omega arith)) u))
+
+  into : (k i : ℕ) → k < n → Yes (bit (firstRow (row t k) (row children k) roots k n) i) → Yes (bit (row r k) i)
+  into k i h u = g .up k .kept i (subst (λ (j : ℕ). Yes (bit j i)) (sym (f .done k (omega arith))) u)
+
+  pub chained-rows : Chained n t children roots r
+  chained-rows = record {
+    up = λ k. up-trans (firsts-up k) (g .up k);
+    sound = λ S s c d. g .sound S (firsts-sound S s c d);
+    itself = λ k h. into k k h (first-self _ _ _ _ _);
+    parent = λ k i h u. into k i h (first-child _ _ _ _ _ i u);
+    rooted = λ k i h u l. into k i h (first-root _ _ _ _ _ i u l);
+    chained = λ k i z h l p q. g .chained k i z (omega arith) (omega arith) (firsts-up k .kept i p) (firsts-up i .kept z q);
+  }

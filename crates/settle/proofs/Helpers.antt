@@ -1,0 +1,34 @@
+-- What the code of the helpers computes is what their definitions say.
+use mathlib.Core.Path.{_≡_, refl}
+use mathlib.Core.Bool.{Bool, true, false, _&&_, _||_, not}
+use Prim.Native.Nat.{ℕ, _-_, _^_}
+use lib.Dec.{eqb}
+use lib.Bits.{bitOr}
+use Rattle.meaning.specs.Finite.{_and_, neg, pick}
+use Rattle.tables.specs.Rows.{meets}
+use Rattle.tables.proofs.Helpers.{and-is, not-is, or-is, pick-on, pick-off}
+use Rattle.settle.specs.Rows.{merged, spanned}
+
+pub four : (a b c d : Bool) → (((a && not b) && not c) && not d) ≡ (a and neg b and neg c and neg d)
+unfolding _and_ neg
+four true true c d = refl
+four true false true d = refl
+four true false false true = refl
+four true false false false = refl
+four false b c d = refl
+
+pub merge-on : (t : Bool) (l m : ℕ) → (t && eqb l 0) ≡ true → m ≡ merged t l m
+unfolding merged pick
+merge-on t l m e = rw (← and-is t (eqb l 0), e)
+
+pub merge-off : (t : Bool) (l m : ℕ) → (t && eqb l 0) ≡ false → l ≡ merged t l m
+unfolding merged pick
+merge-off t l m e = rw (← and-is t (eqb l 0), e)
+
+pub span-on : (same x w rest groups n : ℕ) (m : Bool) → w ≡ 2 ^ x → m ≡ meets rest groups → (not (eqb (bitOr same w) w) || m) ≡ true → n ≡ spanned same x rest groups n
+unfolding spanned
+span-on same x w rest groups n m e d h = pick-on _ _ _ (rw (← e, ← d, ← not-is, ← or-is) h)
+
+pub span-off : (same x w rest groups n : ℕ) (m : Bool) → w ≡ 2 ^ x → m ≡ meets rest groups → (not (eqb (bitOr same w) w) || m) ≡ false → 0 ≡ spanned same x rest groups n
+unfolding spanned
+span-off same x w rest groups n m e d h = pick-off _ _ _ (rw (← e, ← d, ← not-is, ← or-is) h)

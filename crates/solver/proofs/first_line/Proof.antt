@@ -1,0 +1,37 @@
+-- The first line is the settled set of the given facts, or their clash.
+use native.Mathlib.Omega.{arith}
+use Rattle.solver.proofs.Answers.{variables-few, seeds-clash, seeds-settled}
+use borrow.Author.Needs.{needs}
+use Rattle.solver.proofs.first_line.Statement.{statement}
+use Rattle.solver.proofs.first_line.Tie as tie
+use Rattle.solver.proofs.first_line.Reads as reads
+use Rattle.solver.proofs.first_line.Lts as lts
+use Rattle.seed.proofs.seed.Reads as seed-reads
+use Rattle.settle.proofs.settle.Reads as settle-reads
+
+-- src/lib.rt:29:9
+seed-requires : tie.Need-seed-requires
+seed-requires c κs = search needs
+
+-- src/lib.rt:32:9
+returns : tie.Need-returns
+returns c =
+    let seeded = c .before .before in
+    let start = seeded .before .before in
+    seeds-clash (start .args .constraints .now) (λ i. omega (arith, seeded .before .shared-slice-known .given i)) _ (start .pre) _ (seeded .seed .ensures) (c .if1 .taken) _
+
+-- src/lib.rt:34:5
+settle-requires : tie.Need-settle-requires
+settle-requires c κs =
+    let known = c .before .before .before in
+    variables-few (known .before .args .constraints .now) (λ i. omega (arith, known .shared-slice-known .given i)) _ (known .before .pre)
+
+-- src/lib.rt:25:1
+returns-2 : tie.Need-returns-2
+returns-2 c =
+    let seeded = c .before .before .before in
+    let start = seeded .before .before in
+    seeds-settled (start .args .constraints .now) (λ i. omega (arith, seeded .before .shared-slice-known .given i)) _ (start .pre) _ (seeded .seed .ensures) (c .before .if1 .left) _ (c .settle .ensures)
+
+pub first-line-spec : {M : Type 1} → statement M
+first-line-spec = tie.close (tie.spec seed-requires returns settle-requires returns-2)

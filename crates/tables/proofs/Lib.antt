@@ -1,0 +1,4 @@
+pub mod Bits
+pub mod Helpers
+pub mod Loops
+pub mod Shape

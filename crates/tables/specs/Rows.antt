@@ -1,0 +1,54 @@
+-- What the helpers on rows compute.
+use mathlib.Core.Bool.{Bool}
+use mathlib.Core.Path.{_≡_}
+use mathlib.Core.List.{List}
+use Prim.Native.Nat.{ℕ, _^_, _<_, _≤_}
+use lib.Dec.{eqb}
+use lib.Bits.{bitOr, bitAnd, bitXor}
+use Rattle.meaning.specs.Finite.{Yes, _and_, neg, pick}
+use Rattle.rowbits.specs.Bit.{bit}
+use Rattle.tables.specs.Tables.{row}
+
+-- no number has become less and no bit is lost
+pub record Up (a b : ℕ) : Type 0 where
+  pub most : a ≤ b
+  pub kept : (i : ℕ) → Yes (bit a i) → Yes (bit b i)
+
+-- a row, with another one added where the test holds
+unfoldable pub gained : Bool → ℕ → ℕ → ℕ
+gained t row more = bitOr row (pick t more 0)
+
+-- a row, with y where the test holds
+unfoldable pub marked : Bool → ℕ → ℕ → ℕ
+marked t row y = gained t row (2 ^ y)
+
+-- two rows have a number in common
+unfoldable pub meets : ℕ → ℕ → Bool
+meets a b = neg (eqb (bitAnd a b) 0)
+
+unfoldable pub both : ℕ → ℕ → ℕ → ℕ → Bool
+both a i b j = bit a i and bit b j
+
+-- what is in the first row and not in the second
+unfoldable pub without : ℕ → ℕ → ℕ
+without a b = bitAnd a (bitXor b 65535)
+
+-- the numbers below 16 that pass a test, as a row
+pub record Gathers (p : ℕ → Bool) (r : ℕ) : Type 0 where
+  pub from : (y : ℕ) → Yes (bit r y) → Yes (p y)
+  pub to : (y : ℕ) → y < 16 → Yes (p y) → Yes (bit r y)
+
+-- the columns of a table, as rows
+pub record Transposed (t r : List ℕ) : Type 0 where
+  pub columns : (x : ℕ) → x < 16 → Gathers (λ y. bit (row t y) x) (row r x)
+
+-- a row added to each row whose number is in `which`
+pub record Raised (t : List ℕ) (which by : ℕ) (r : List ℕ) : Type 0 where
+  pub within : (x : ℕ) → x < 16 → row r x ≡ gained (bit which x) (row t x) by
+  pub beyond : (x : ℕ) → 16 ≤ x → row r x ≡ row t x
+
+-- the smallest number in a row, or 16
+pub record Lowest (r k : ℕ) : Type 0 where
+  pub most : k ≤ 16
+  pub none : (i : ℕ) → i < k → ¬ Yes (bit r i)
+  pub this : k < 16 → Yes (bit r k)
