@@ -249,10 +249,3 @@ trailing-this (suc k) a h = go (a % 2) refl h (trailing-this k (a / 2))
 
 pub lowest-of : (a : ℕ) → Lowest a (trailingZeros 16 a)
 lowest-of a = record { most = trailing-le 16 a; none = trailing-none 16 a; this = trailing-this 16 a }
-
-pub lowest-is : (a k : ℕ) → a < 65536 → a ≢ 0 → Lowest a k → k < 16
-lowest-is a k h z w = go (decLt k 16)
-  where
-    go : Dec (k < 16) → k < 16
-    go (yes l) = l
-    go (no l) = let q = some-in a h z in absurd (w .none (q .0) (le-trans (in-row a (q .0) h (q .1)) (omega arith)) (q .1))
