@@ -1,16 +1,15 @@
 -- `line` reports what the fixed search of its line is, within the allowance; `missing` falls with every alternative.
-use mathlib.Core.Path.{_≡_, refl, sym, subst}
+use mathlib.Core.Path.{refl, sym, subst}
 use mathlib.Core.Logic.{⊎-elim}
 use mathlib.Core.List.{List}
 use native.Mathlib.Omega.{arith}
 use Rattle.meaning.specs.Constraint.{Fact}
 use Rattle.tables.specs.Tables.{Ready}
-use Rattle.search.specs.Searching.{missing, StepOf}
-use Rattle.search.specs.declared.Step.the-variants.{Split}
-use Rattle.search.proofs.Lines.{step-as, EndedNone, S₁, S₂, none-clash, none-reported, line-clash, line-solved, line-spent-first, first-line, second-line, first-falls, second-falls, line-found, line-spent, line-spent-second, line-second}
+use Rattle.search.specs.Searching.{missing}
+use Rattle.search.proofs.Lines.{step-as, EndedNone, S₁, none-clash, none-reported, line-clash, line-solved, line-spent-first, first-line, second-line, first-falls, second-falls, line-found, line-spent, line-spent-second, line-second}
 use borrow.Author.Needs.{needs}
 use borrow.Author.Tests.{not-true, not-false}
-use Prim.Native.Nat.{ℕ, _+_, _<_, _≤_}
+use Prim.Native.Nat.{ℕ, _+_, _<_}
 use borrow.Fn.Kinds.{In}
 use borrow.Fn.PlainCycle.{Measures, is, falls, and}
 use Rattle.search.proofs.line.Reads as line
