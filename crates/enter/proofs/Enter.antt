@@ -22,6 +22,7 @@ use Rattle.tables.specs.Tables.{Columns, row, has, Sound, Ready}
 use Rattle.tables.specs.Rows.{Raised, meets}
 use Rattle.tables.specs.declared.Facts.{Facts}
 use Rattle.tables.proofs.Bits.{gained-up, gained-has, gained-case}
+use Rattle.tables.proofs.Tested.{or-yes}
 use Rattle.tables.specs.declared.Settled.{Settled as Result}
 use Rattle.merge.specs.Merging.{MergedOf}
 use Rattle.merge.proofs.Entered.{back-tested}
@@ -172,10 +173,6 @@ module _ (n : ℕ) (small : n ≤ 16) (S : List Fact) (f : Facts) (a b : ℕ) (h
 pub entered-well : (n : ℕ) (f : Facts) (a b : ℕ) (g : Facts) → ((S : List Fact) → Ready n S f → Ready n (below a b ∷ S) g) → EnteredOf n f a b (record { clash = false; facts = g })
 entered-well n f a b g h = record { clashes = λ e. absurd (false≢true e); kept = λ e. absurd (false≢true e); settles = λ e. h }
 
-or-yes : (p q : Bool) → (p || q) ≡ true → (p ≡ true) ⊎ (q ≡ true)
-or-yes true q e = inl refl
-or-yes false q e = inr e
-
 -- where the test says that b is at or above a, or that a leaf is
 pub entered-same : (n : ℕ) (f : Facts) (a b : ℕ) (r : Result) → n ≤ 16 → a < n → row (f .above) a < 65536
     → (p q : Bool) → p ≡ bit (row (f .below) b) a → q ≡ meets (row (f .above) a) (f .leaf) → (p || q) ≡ true → MergedOf n f a b r → EnteredOf n f a b r
@@ -187,8 +184,3 @@ entered-same n f a b r few ha small p q d e t m = record {
   where
     back : (S : List Fact) → Ready n S f → Settled n (below a b ∷ S) (below b a)
     back S w = back-tested n S f a b few ha small w (⊎-elim (λ y. inl (sym d ∙ y)) (λ y. inr (sym e ∙ y)) (or-yes p q t))
-
--- what the test says
-pub or-no : (p q : Bool) → (p || q) ≡ false → (p ≡ false) × (q ≡ false)
-or-no true q e = absurd (false≢true (sym e))
-or-no false q e = (refl, e)

@@ -1,35 +1,66 @@
 // Marks the pairs of files in data/, one of each sort: met, unmet by each kind, refused by each question of the marker, files that fill
 // the reader's buffer many times over, and files that cannot be read, of which standard output says nothing.
+fn mark_sheet(constraints: &[u8]) {
+    marking::mark_files(constraints, b"sheet");
+}
+
+fn mark_answer(answer: &[u8]) {
+    marking::mark_files(b"met", answer);
+}
+
+fn met_and_unmet() {
+    mark_sheet(b"met");
+    mark_sheet(b"unmet_child");
+    mark_sheet(b"unmet_below");
+    mark_sheet(b"unmet_strictly_below");
+    mark_sheet(b"unmet_same");
+    mark_sheet(b"unmet_differ");
+    mark_sheet(b"unmet_root");
+    mark_sheet(b"unmet_leaf");
+    mark_sheet(b"unmet_label");
+    mark_sheet(b"root_own_child");
+}
+
+fn constraint_questions() {
+    mark_sheet(b"c_1025");
+    mark_sheet(b"c_5");
+    mark_sheet(b"c_kind_9");
+    mark_sheet(b"c_variable_16");
+    mark_sheet(b"c_label_0");
+    mark_sheet(b"c_root_16");
+}
+
+fn answer_questions() {
+    mark_answer(b"a_35_bytes");
+    mark_answer(b"a_late_node");
+    mark_answer(b"a_empty");
+    mark_answer(b"a_257_nodes");
+    mark_answer(b"a_long");
+    mark_answer(b"a_long_bad_end");
+    mark_answer(b"a_long_odd");
+    mark_answer(b"a_own_parent");
+    mark_answer(b"a_258_places");
+    mark_answer(b"a_node_4");
+}
+
+// As many records, variables and nodes as can be.
+fn largest() {
+    marking::mark_files(b"c_1024", b"a_64_nodes");
+    marking::mark_files(b"c_1024_last_unmet", b"a_64_nodes");
+}
+
+// A file that is not there, and a directory, which opens and cannot be read.
+fn unreadable() {
+    mark_sheet(b"nothing");
+    mark_sheet(b".");
+    mark_answer(b"nothing");
+    mark_answer(b".");
+}
+
 fn main() {
-    marking::mark_files(b"met", b"sheet");
-    marking::mark_files(b"unmet_child", b"sheet");
-    marking::mark_files(b"unmet_below", b"sheet");
-    marking::mark_files(b"unmet_strictly_below", b"sheet");
-    marking::mark_files(b"unmet_same", b"sheet");
-    marking::mark_files(b"unmet_differ", b"sheet");
-    marking::mark_files(b"unmet_root", b"sheet");
-    marking::mark_files(b"unmet_leaf", b"sheet");
-    marking::mark_files(b"unmet_label", b"sheet");
-    marking::mark_files(b"root_own_child", b"sheet");
-    marking::mark_files(b"c_1025", b"sheet");
-    marking::mark_files(b"c_5", b"sheet");
-    marking::mark_files(b"c_kind_9", b"sheet");
-    marking::mark_files(b"c_variable_16", b"sheet");
-    marking::mark_files(b"c_label_0", b"sheet");
-    marking::mark_files(b"c_root_16", b"sheet");
-    marking::mark_files(b"met", b"a_35_bytes");
-    marking::mark_files(b"met", b"a_late_node");
-    marking::mark_files(b"met", b"a_empty");
-    marking::mark_files(b"met", b"a_257_nodes");
-    marking::mark_files(b"met", b"a_long");
-    marking::mark_files(b"met", b"a_long_bad_end");
-    marking::mark_files(b"met", b"a_long_odd");
-    marking::mark_files(b"met", b"a_own_parent");
-    marking::mark_files(b"met", b"a_258_places");
-    marking::mark_files(b"met", b"a_node_4");
-    // A file that is not there, and a directory, which opens and cannot be read.
-    marking::mark_files(b"nothing", b"sheet");
-    marking::mark_files(b"met", b"nothing");
-    marking::mark_files(b".", b"sheet");
-    marking::mark_files(b"met", b".");
+    met_and_unmet();
+    constraint_questions();
+    answer_questions();
+    largest();
+    unreadable();
 }

@@ -1,9 +1,9 @@
 -- What is kept of an answer read in pieces gets the verdict of the whole, and so it is with one piece more.
-use mathlib.Core.Path.{_≡_, refl, ap, sym, _∙_}
+use mathlib.Core.Path.{_≡_, refl, ap}
 use mathlib.Core.List.{List, [], _∷_, _++_, append-nil}
 use Prim.Native.Nat.{ℕ}
 use Rattle.meaning.specs.Constraint.{vars}
-use Rattle.meaning.specs.Files.{Judged, refused, accepted, judge, judgeAnswer}
+use Rattle.meaning.specs.Files.{Judged, refused, accepted, judge}
 use Rattle.theory.specs.Programs.{markedAs, markedBy, marker}
 use Rattle.theory.proofs.ConstraintFile.{Bytes, accepted-vars}
 use Rattle.answers.specs.Shorter.{shortened}

@@ -7,13 +7,13 @@ use mathlib.Core.List.{List}
 use Prim.Native.Nat.{ℕ, _+_, _<_}
 use native.Mathlib.Numerals.{add-one}
 use native.Mathlib.Omega.{arith}
-use lib.Dec.{eqb, ltb}
+use lib.Dec.{eqb}
 use lib.ListN.{length, getD, set}
 use lib.Seq.{getD-set-same, getD-set-other}
 use borrow.Author.Count.{below-more}
 use borrow.Author.Tests.{lt-ltb}
 use Rattle.meaning.specs.Tree.{Node, Tree, IsTree, Parent, up}
-use Rattle.meaning.specs.Finite.{Yes, anyb, _and_, _or_}
+use Rattle.meaning.specs.Finite.{anyb, _and_, _or_}
 use Rattle.meaning.proofs.Tests.{yes-eq, is-eq, eq-yes, or-left, or-right, either}
 use Rattle.meaning.proofs.Trees.{above-child, above-same}
 use Rattle.theory.specs.Check.{isParent, climbs, isAbove}

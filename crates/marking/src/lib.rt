@@ -1,15 +1,12 @@
 // Reads the two files that are marked and prints the verdict: `met`, `unmet POSITION KIND` or `refused NUMBER`. A verdict is given of
 // whole files only: where one cannot be opened or read to its end, standard error says so and nothing is printed.
-ghost use Rattle.marking.specs.Reading.{Fills, FillsInPieces};
+ghost use Rattle.reading.specs.Filling.{Fills};
+ghost use Rattle.marking.specs.Pieces.{FillsInPieces};
 use constraints::Kind;
 use libc::STDOUT_FILENO;
 use marker::Verdict;
-
-enum Filled {
-    // So many bytes at the front of the buffer.
-    Bytes(usize),
-    Failed,
-}
+use reading::Filled;
+use reading::fill;
 
 fn open(path: &[u8]) -> i32 {
     let fd = os::open_read(path);
@@ -17,26 +14,6 @@ fn open(path: &[u8]) -> i32 {
         os::fail(path);
     }
     fd
-}
-
-// Reads until the buffer is full or the file ends. Unlike `io::read_full` it tells a read that fails from the end of the file.
-fn fill(fd: i32, path: &[u8], buffer: &mut [u8]) -> Filled
-    ensures { λ r. ⌜ Fills r (now (buffer .exit)) ⌝ }
-{
-    let mut done: usize = 0;
-    while done < buffer.len() {
-        let got = libc::read(fd, &mut buffer[done..]);
-        if got < 0 {
-            os::fail(path);
-            return Filled::Failed;
-        }
-        let more = io::count(got, &buffer[done..]);
-        if more == 0 {
-            return Filled::Bytes(done);
-        }
-        done += more;
-    }
-    Filled::Bytes(done)
 }
 
 // Reads an answer to its end. Whenever the buffer is full, what is in it is shortened, which leaves the verdict on the whole answer as it

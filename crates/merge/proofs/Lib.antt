@@ -1,5 +1,4 @@
 -- What a caller cites stands in Entered: when below(b,a) follows from below(a,b).
-mod Tested
 mod Loops
 mod Glue
 mod Reach

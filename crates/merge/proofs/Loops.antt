@@ -16,7 +16,7 @@ use Rattle.tables.specs.Rows.{gained, without}
 use Rattle.tables.proofs.Bits.{none-in, gained-up, gained-has, gained-case, some-in, in-row, without-in, without-out}
 use Rattle.tables.proofs.Loops.{below-cases, Rowing}
 use Rattle.merge.specs.Rows.{Union, Gap, Apart, LabelOf, TwoLabels, Painted}
-use Rattle.merge.proofs.Tested.{or-yes, or-no, and-yes, yes-and, not-eq, eq-not, not-yes}
+use Rattle.tables.proofs.Tested.{or-yes, or-no, and-yes, yes-and, not-eq, eq-not, not-yes}
 
 -- ---- rows changed
 

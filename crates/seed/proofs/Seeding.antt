@@ -1,10 +1,10 @@
 -- The tables while the file is read: they hold given facts only; every constraint is still to come or all its facts are held, unless two
 -- labels have clashed.
-use mathlib.Core.Path.{_≡_, refl, sym, ap, _∙_, subst}
+use mathlib.Core.Path.{_≡_, refl, sym, _∙_, subst}
 use mathlib.Core.Logic.{_≢_, _⊎_, inl, inr, ⊎-elim}
 use mathlib.Core.Bool.{Bool, true, false, _||_}
-use mathlib.Core.List.{List, [], _∷_, List·Memᴰ, List·Memᴰ·head, List·Memᴰ·cases-cons, List·Memᴰ·not-nil, Memᴰ·append-right}
-use Prim.Native.Nat.{ℕ, _+_, _*_, _/_, _%_, _≤_, _<_}
+use mathlib.Core.List.{List, [], List·Memᴰ, List·Memᴰ·head, List·Memᴰ·cases-cons, List·Memᴰ·not-nil, Memᴰ·append-right}
+use Prim.Native.Nat.{ℕ, _+_, _*_, _/_, _%_, _<_}
 use native.Mathlib.Nat.{mod-eq-of-lt, le-refl}
 use native.Mathlib.Omega.{arith}
 use lib.Dec.{eqb}
@@ -12,16 +12,17 @@ use lib.ListN.{length, getD, set, drop, replicate, length-replicate, take-append
 use Rattle.rowbits.specs.Bit.{bit}
 use Rattle.meaning.specs.Constraint.{Constraint, vars, Fact, child, below, differ, root, leaf, label, facts, factsOf}
 use Rattle.meaning.specs.Settled.{Clash, labels, given}
-use Rattle.meaning.specs.Finite.{Yes, _and_, neg}
+use Rattle.meaning.specs.Finite.{Yes, _and_}
 use Rattle.meaning.specs.Files.{accepted, judge}
 use Rattle.meaning.proofs.Tests.{clash, and-left, and-right, eq-yes, is-lt, pick-no}
 use Rattle.meaning.proofs.Constraints.{fact-in, fact-from, facts-inside}
 use Rattle.constraints.specs.Record.{constraintOf, recordOf, recordAt}
-use Rattle.constraints.proofs.Records.{here, good-at, ended}
+use Rattle.constraints.proofs.Records.{good-at, ended}
 use Rattle.tables.specs.Tables.{row, has, Seeded}
 use Rattle.tables.specs.Rows.{marked}
 use Rattle.tables.specs.declared.Facts.{Facts}
 use Rattle.tables.proofs.Bits.{none-in}
+use Rattle.tables.proofs.Tested.{or-yes, or-no, not-yes}
 use Rattle.tables.proofs.Loops.{zeros}
 use Rattle.tables.proofs.Shape.{Rows, Shape, label-is, label-has}
 use Rattle.seed.specs.Seeds.{givesBelow, givesDiffer, labelled, clashing, noFacts}
@@ -61,17 +62,6 @@ seeding-start cs = record {
 
 -- ---- one record more
 
-or-false : (a b : Bool) → (a || b) ≡ false → (a ≡ false) × (b ≡ false)
-or-false true b e = let z : _≡_ {A = ℕ} 0 1 = cc in absurd (omega arith)
-or-false false b e = (refl, e)
-
-or-true : (a b : Bool) → (a || b) ≡ true → (a ≡ true) ⊎ (b ≡ true)
-or-true true b e = inl refl
-or-true false b e = inr e
-
-false-not-yes : {b : Bool} → b ≡ false → ¬ Yes b
-false-not-yes e y = let z : true ≡ false = sym y ∙ e in let q : _≡_ {A = ℕ} 0 1 = cc in omega arith
-
 clashing-is : {b : Bool} {m l : ℕ} → clashing b m l ≡ true → Yes b × (m ≢ 0) × (m ≢ l)
 unfolding clashing
 clashing-is q = (and-left _ q, λ z. clash (eq-yes z) (and-left _ (and-right _ q)), λ z. clash (eq-yes z) (and-right _ (and-right _ q)))
@@ -105,15 +95,15 @@ module _ (file : List ℕ) (cs : List Constraint) (e : judge file ≡ accepted c
     next = record {
       shape = entered-shape k x y l f (s .shape) (bytes .x-small) (bytes .y-small) (omega (arith, small (i * 4 + 3)));
       sound = λ φ u. ⊎-elim (s .sound φ) (λ m. given-here φ m) (entered-from k x y l f (s .shape) (bytes .x-small) (bytes .y-small) φ u);
-      held = λ q b m. let w = or-false c _ q in ⊎-elim (coming b (w .1)) (λ g. inr (λ φ n. kept (w .1) φ (g φ n))) (s .held (w .0) b m);
-      clashed = λ q. ⊎-elim (s .clashed) two-labels (or-true c _ q);
+      held = λ q b m. let w = or-no c _ q in ⊎-elim (coming b (w .1)) (λ g. inr (λ φ n. kept (w .1) φ (g φ n))) (s .held (w .0) b m);
+      clashed = λ q. ⊎-elim (s .clashed) two-labels (or-yes c _ q);
     }
       where
         given-here : (φ : Fact) → List·Memᴰ φ (facts (constraintOf (recordOf k x y l))) → List·Memᴰ φ (factsOf cs)
         given-here φ m = fact-in here-in (subst (λ (q : Constraint). List·Memᴰ φ (facts q)) (bytes .is) m)
 
         kept : clashing (eqb k 8) (row (f .label) x) l ≡ false → (φ : Fact) → Yes (has f φ) → Yes (has (entered k x y l f) φ)
-        kept q φ u = entered-kept k x y l f (s .shape) (bytes .x-small) (bytes .y-small) (false-not-yes q) φ u
+        kept q φ u = entered-kept k x y l f (s .shape) (bytes .x-small) (bytes .y-small) (not-yes q) φ u
 
         coming : (b : Constraint) → clashing (eqb k 8) (row (f .label) x) l ≡ false → List·Memᴰ b (drop i cs)
             → List·Memᴰ b (drop (i + 1) cs) ⊎ ((φ : Fact) → List·Memᴰ φ (facts b) → Yes (has (entered k x y l f) φ))

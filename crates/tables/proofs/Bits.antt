@@ -1,7 +1,7 @@
 -- Laws of rows: what is in a row that another was added to, in a meet, in all numbers below n, in one row and not in another.
 use mathlib.Core.Path.{_≡_, refl, sym, ap, _∙_, subst}
 use mathlib.Core.Logic.{_≢_, _⊎_, inl, inr, ⊎-elim}
-use mathlib.Core.Bool.{Bool, true, false, _||_, _&&_, false≢true}
+use mathlib.Core.Bool.{Bool, true, false, _||_, false≢true}
 use Prim.Native.Nat.{ℕ, zero, suc, _-_, _*_, _/_, _%_, _^_, _<_, _≤_}
 use native.Mathlib.Nat.{le-of-suc-le-suc, not-suc-le-zero, le-refl, le-trans, mod-lt, zero-lt-suc, div-eq-of-lt, pow-suc, mod-eq-of-lt, div-div-eq-div-mul, mul-comm, mul-add-mod-self-right}
 use native.Mathlib.Decide.{decLt, ℕ-discrete}
@@ -14,26 +14,15 @@ use Rattle.meaning.specs.Finite.{Yes, pick}
 use Rattle.meaning.proofs.Tests.{clash, no-neg, is-eq, self-eq, eq-yes}
 use Rattle.rowbits.specs.Bit.{bit}
 use Rattle.rowbits.proofs.Laws.{bit-or, bit-and, bit-one, bit-none}
+use Rattle.tables.proofs.Tested.{or-yes, and-yes, yes-and}
 use Rattle.tables.specs.Rows.{Up, Lowest, gained, meets, without}
 
 -- ---- a union, a meet, one number
-
-or-yes : (a b : Bool) → Yes (a || b) → Yes a ⊎ Yes b
-or-yes true b t = inl refl
-or-yes false b t = inr t
 
 yes-or : (a b : Bool) → Yes a ⊎ Yes b → Yes (a || b)
 yes-or true b t = refl
 yes-or false b (inl t) = absurd (false≢true t)
 yes-or false b (inr t) = t
-
-and-yes : (a b : Bool) → Yes (a && b) → Yes a × Yes b
-and-yes true b t = (refl, t)
-and-yes false b t = absurd (false≢true t)
-
-yes-and : (a b : Bool) → Yes a → Yes b → Yes (a && b)
-yes-and true b s t = t
-yes-and false b s t = s
 
 pub or-case : (a b i : ℕ) → Yes (bit (bitOr a b) i) → Yes (bit a i) ⊎ Yes (bit b i)
 or-case a b i t = or-yes _ _ (sym (bit-or a b i) ∙ t)
@@ -249,10 +238,3 @@ trailing-this (suc k) a h = go (a % 2) refl h (trailing-this k (a / 2))
 
 pub lowest-of : (a : ℕ) → Lowest a (trailingZeros 16 a)
 lowest-of a = record { most = trailing-le 16 a; none = trailing-none 16 a; this = trailing-this 16 a }
-
-pub lowest-is : (a k : ℕ) → a < 65536 → a ≢ 0 → Lowest a k → k < 16
-lowest-is a k h z w = go (decLt k 16)
-  where
-    go : Dec (k < 16) → k < 16
-    go (yes l) = l
-    go (no l) = let q = some-in a h z in absurd (w .none (q .0) (le-trans (in-row a (q .0) h (q .1)) (omega arith)) (q .1))

@@ -5,7 +5,7 @@ use Prim.Native.Nat.{ℕ, _-_, _*_, _%_, _^_, _<_, _≤_}
 use native.Mathlib.Nat.{one-mul, mod-eq-of-lt}
 use native.Mathlib.Omega.{arith}
 use lib.Pow.{pow-mono, pow-pos}
-use lib.Bits.{bitOr, or-zero-r}
+use lib.Bits.{or-zero-r}
 use mir.Val.{Fits}
 use mir.Syntax.{w16, w64}
 use Rattle.meaning.specs.Finite.{_and_, _or_, neg, pick}
@@ -25,10 +25,6 @@ pub or-is : (a b : Bool) → (a || b) ≡ (a or b)
 unfolding _or_
 or-is true b = refl
 or-is false b = refl
-
-pub gain-on : (t : Bool) (row more : ℕ) → t ≡ true → bitOr row more ≡ gained t row more
-unfolding gained pick
-gain-on t row more e = rw e
 
 pub gain-off : (t : Bool) (row more : ℕ) → t ≡ false → row ≡ gained t row more
 unfolding gained pick

@@ -1,4 +1,5 @@
 pub mod Bits
 pub mod Helpers
+pub mod Tested
 pub mod Loops
 pub mod Shape

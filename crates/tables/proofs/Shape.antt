@@ -52,12 +52,3 @@ set-case l x v w h P k i p q u = go (ℕ-discrete k x)
     go : Dec (k ≡ x) → P k i
     go (yes e) = subst (λ (j : ℕ). P j i) (sym e) (p (subst (λ (j : ℕ). Yes (bit j i)) (ap (row (set l x v)) e ∙ set-same l x v w h) u))
     go (no e) = q (subst (λ (j : ℕ). Yes (bit j i)) (getD-set-other l x k v 0 e) u)
-
--- what is in a row is there after a store that keeps it
-pub set-keeps : (l : List ℕ) (x v : ℕ) → Rows l → x < 16 → ((i : ℕ) → Yes (bit (row l x) i) → Yes (bit v i)) → (k i : ℕ) → Yes (bit (row l k) i) → Yes (bit (row (set l x v) k) i)
-set-keeps l x v w h p k i u = go (ℕ-discrete k x)
-  where
-    go : Dec (k ≡ x) → Yes (bit (row (set l x v) k) i)
-    go (yes e) =
-        subst (λ (j : ℕ). Yes (bit j i)) (sym (ap (row (set l x v)) e ∙ set-same l x v w h)) (p i (subst (λ (j : ℕ). Yes (bit (row l j) i)) e u))
-    go (no e) = subst (λ (j : ℕ). Yes (bit j i)) (sym (getD-set-other l x k v 0 e)) u

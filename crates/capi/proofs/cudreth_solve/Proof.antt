@@ -2,7 +2,8 @@
 use mathlib.Core.Path.{refl}
 use Prim.Native.Nat.{_≤_}
 use native.Mathlib.Omega.{arith}
-use Rattle.capi.proofs.Solved.{number, solves, bytes-few}
+use Rattle.solver.proofs.Short.{bytes-few}
+use Rattle.capi.proofs.Solved.{number, solves}
 use borrow.Author.Needs.{needs}
 use Rattle.capi.proofs.cudreth_solve.Statement.{statement}
 use Rattle.capi.proofs.cudreth_solve.Tie as tie

@@ -8,7 +8,8 @@ use mathlib.Core.Bool.{false≢true}
 use borrow.Author.Needs.{needs}
 use Rattle.tables.specs.Tables.{has}
 use Rattle.tables.proofs.Bits.{meets-in}
-use Rattle.enter.proofs.Enter.{raised-ready, entered-well, entered-same, or-no}
+use Rattle.enter.proofs.Enter.{raised-ready, entered-well, entered-same}
+use Rattle.tables.proofs.Tested.{or-no}
 use Rattle.enter.proofs.enter_below.Statement.{statement}
 use Rattle.enter.proofs.enter_below.Tie as tie
 

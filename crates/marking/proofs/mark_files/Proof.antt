@@ -2,8 +2,9 @@
 use mathlib.Core.Path.{subst}
 use borrow.Author.Needs.{needs}
 use Rattle.io.specs.Counts.{Counts}
-use Rattle.marking.specs.Reading.{Fills, FillsInPieces}
-use Rattle.marking.specs.declared.Filled.{Filled}
+use Rattle.reading.specs.Filling.{Fills}
+use Rattle.marking.specs.Pieces.{FillsInPieces}
+use Rattle.reading.specs.declared.Filled.{Filled}
 use Rattle.marking.proofs.mark_files.Statement.{statement}
 use Rattle.marking.proofs.mark_files.Tie as tie
 

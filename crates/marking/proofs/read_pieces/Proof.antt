@@ -9,8 +9,8 @@ use borrow.Author.Needs.{needs}
 use Rattle.io.proofs.Counting.{counts}
 use Rattle.marker.specs.Pieces.{StandsForPieces}
 use Rattle.marker.proofs.Pieces.{no-piece}
-use Rattle.marking.specs.Reading.{Fills}
-use Rattle.marking.specs.declared.Filled.{Filled}
+use Rattle.reading.specs.Filling.{Fills}
+use Rattle.reading.specs.declared.Filled.{Filled}
 use Rattle.marking.proofs.Turn.{one-turn}
 use Rattle.marking.proofs.read_pieces.Statement.{statement}
 use Rattle.marking.proofs.read_pieces.Tie as tie

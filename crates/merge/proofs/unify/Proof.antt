@@ -4,7 +4,7 @@ use mathlib.Core.Path.{sym, _∙_}
 use mathlib.Core.Logic.{inl, inr, ⊎-elim}
 use mir.Val.{Fits}
 use mir.Syntax.{w16}
-use Rattle.merge.proofs.Tested.{or-yes, or-no, not-yes}
+use Rattle.tables.proofs.Tested.{or-yes, or-no, not-yes}
 use Rattle.merge.proofs.Rounds.{round-clash, round-well}
 use borrow.Author.Needs.{needs}
 use Rattle.merge.proofs.unify.Statement.{statement}

@@ -1,12 +1,12 @@
--- `marking::fill` meets its contract: the bytes read so far are within the buffer, and each read that does not end it brings some.
+-- `reading::fill` meets its contract: the bytes read so far are within the buffer, and each read that does not end it brings some.
 use mathlib.Core.Path.{_≡_}
 use Prim.Native.Nat.{_≤_, _-_}
 use native.Mathlib.Omega.{arith}
 use lib.ListN.{length}
 use borrow.Author.Needs.{needs}
 use Rattle.io.proofs.Counting.{counts}
-use Rattle.marking.proofs.fill.Statement.{statement}
-use Rattle.marking.proofs.fill.Tie as tie
+use Rattle.reading.proofs.fill.Statement.{statement}
+use Rattle.reading.proofs.fill.Tie as tie
 
 abbrev Inv-loop : tie.InvT-loop
 Inv-loop fd path buffer₀ done₀ buffer done = (done ≤ length buffer) × (length buffer ≡ length buffer₀)
