@@ -34,3 +34,17 @@ pub record ChainOf (n : ℕ) (f : Facts) (r : Found) : Type 0 where
 pub record FoundOf (n : ℕ) (f : Facts) (r : Found) : Type 0 where
   pub first : (S : List Fact) → Ready n S f → joinOf r ≡ firstJoin n (has f)
   pub named : Named n r
+
+-- ---- the same of the rows alone, whatever else the tables hold
+
+abbrev pub withBelow : List ℕ → List ℕ → Facts → Facts
+withBelow b a f = record { child = f .child; parent = f .parent; below = b; above = a; differ = f .differ; root = f .root; label = f .label; leaf = f .leaf }
+
+abbrev pub withParent : List ℕ → Facts → Facts
+withParent p f = record { child = f .child; parent = p; below = f .below; above = f .above; differ = f .differ; root = f .root; label = f .label; leaf = f .leaf }
+
+abbrev pub ChainIn : ℕ → List ℕ → List ℕ → Found → Type 0
+ChainIn n below above r = (f : Facts) → ChainOf n (withBelow below above f) r
+
+abbrev pub FoundIn : ℕ → List ℕ → List ℕ → List ℕ → Found → Type 0
+FoundIn n parent below above r = (f : Facts) → FoundOf n (withParent parent (withBelow below above f)) r

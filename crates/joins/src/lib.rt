@@ -1,6 +1,6 @@
 // The first join of a settled set, in the fixed order: parent joins, then chain joins; the smallest z, then x, then y.
 ghost use Prim.Native.Nat.{_≤_};
-ghost use Rattle.joins.specs.Found.{Apart, ChainOf, FoundOf};
+ghost use Rattle.joins.specs.Found.{Apart, ChainIn, FoundIn, FoundOf};
 use ids::Var;
 use tables::Facts;
 
@@ -25,16 +25,14 @@ fn apart_rows(below: [u16; 16], above: [u16; 16]) -> [u16; 16]
 }
 
 // The first chain join: two variables above z that are apart, found from the smaller one.
-fn chain_join(f: Facts, n: usize) -> Found
+fn chain_join(below: [u16; 16], above: [u16; 16], n: usize) -> Found
     requires { ⌜ n ≤ 16 ⌝ }
-    ensures { λ r. ⌜ ChainOf n f r ⌝ }
+    ensures { λ r. ⌜ ChainIn n below above r ⌝ }
 {
     let vars = tables::all(n);
-    let below = f.below;
-    let above = f.above;
     let apart = apart_rows(below, above);
     for z in 0..n {
-        let v = f.above[z];
+        let v = above[z];
         let u = v & vars;
         let x = tables::lowest(u & tables::meeting(apart, u));
         if x < 16 {
@@ -47,23 +45,34 @@ fn chain_join(f: Facts, n: usize) -> Found
 }
 
 // Parent joins, then chain joins. The parents of z are the same, so the lowest of them decides which x above z are above a parent.
-pub fn first_join(f: Facts, n: usize) -> Found
+fn join_in(parent: [u16; 16], below: [u16; 16], above: [u16; 16], n: usize) -> Found
     requires { ⌜ n ≤ 16 ⌝ }
-    ensures { λ r. ⌜ FoundOf n f r ⌝ }
+    ensures { λ r. ⌜ FoundIn n parent below above r ⌝ }
 {
     let vars = tables::all(n);
     for z in 0..n {
-        let p = f.parent[z];
+        let p = parent[z];
         let y = tables::lowest(p & vars);
         if y < 16 {
-            let u = f.above[z];
-            let b = f.below[z];
-            let a = f.above[y];
+            let u = above[z];
+            let b = below[z];
+            let a = above[y];
             let x = tables::lowest(tables::except(u & vars, b | a));
             if x < 16 {
                 return Found::Parent(Var(z as u8), Var(x as u8), Var(y as u8));
             }
         }
     }
-    chain_join(f, n)
+    chain_join(below, above, n)
+}
+
+// The rows that decide go on alone: a compiler that takes the body of a callee into its caller copies what the callee was passed.
+pub fn first_join(f: Facts, n: usize) -> Found
+    requires { ⌜ n ≤ 16 ⌝ }
+    ensures { λ r. ⌜ FoundOf n f r ⌝ }
+{
+    let parent = f.parent;
+    let below = f.below;
+    let above = f.above;
+    join_in(parent, below, above, n)
 }

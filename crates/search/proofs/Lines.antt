@@ -1,15 +1,15 @@
 -- One line of the search, step by step: what it reports at each return, from what the two alternatives report, and why it ends.
 use mathlib.Core.Path.{_≡_, refl, sym, ap, subst, _∙_}
 use mathlib.Core.Logic.{_≢_}
-use mathlib.Core.Bool.{Bool, true, false}
+use mathlib.Core.Bool.{true, false}
 use mathlib.Core.List.{List, _∷_, _++_}
 use mathlib.Core.Option.{none, some}
-use Prim.Native.Nat.{ℕ, suc, _+_, _≤_, _<_}
+use Prim.Native.Nat.{ℕ, _+_, _≤_, _<_}
 use native.Mathlib.Nat.{zero-add}
 use native.Mathlib.Omega.{arith}
 use Rattle.meaning.specs.Constraint.{Fact, below}
 use Rattle.meaning.specs.FixedSearch.{Join, first-alternative, second-alternative, Outcome, in-none, in-tree}
-use Rattle.meaning.specs.Finite.{neg, pick, sum, one}
+use Rattle.meaning.specs.Finite.{neg, sum, one}
 use Rattle.meaning.specs.ReadOff.{FactSet}
 use Rattle.meaning.proofs.Facts.{Inside}
 use Rattle.theory.specs.Closure.{holds}
@@ -21,7 +21,7 @@ use Rattle.tables.specs.Tables.{has, Ready}
 use Rattle.tables.specs.declared.Facts.{Facts}
 use Rattle.tables.specs.declared.Settled.{Settled}
 use Rattle.enter.specs.Entered.{EnteredOf}
-use Rattle.search.specs.Searching.{Enters, Alternatives, StepOf, Line, missing, left, Reports, LineOf, SearchedOf}
+use Rattle.search.specs.Searching.{Enters, Alternatives, StepOf, Line, missing, Reports, LineOf, SearchedOf}
 use Rattle.search.specs.declared.Below.{Below}
 use Rattle.search.specs.declared.Step.{Step}
 use Rattle.search.specs.declared.End.{End}
@@ -39,31 +39,13 @@ missing-is : (n : ℕ) (S : List Fact) (f : Facts) → Ready n S f → missing n
 unfolding missing absent
 missing-is n S f r = ap (λ (h : FactSet). sum n (λ x. sum n (λ y. one (neg (h (below x y)))))) (decides-same (r .decides) (holds-decides n S (r .inside)))
 
-left-ready : (n : ℕ) (s : Settled) → s .clash ≡ false → left n s ≡ suc (missing n (s .facts))
-unfolding left pick
-left-ready n s e = rw e
-
-left-clash : (n : ℕ) (s : Settled) → s .clash ≡ true → left n s ≡ 0
-unfolding left pick
-left-clash n s e = rw e
-
 -- the tables after an alternative
 entered-line : (n : ℕ) (S : List Fact) (f : Facts) → Ready n S f → (p : Below) (A : List Fact) → Inside n (A ++ S) → Enters n S p A
     → (e : Settled) → EnteredOf n f (p .upper .0) (p .lower .0) e → Line n (A ++ S) e
 entered-line n S f r p A ins w e g = record { inside = ins; clashes = λ q. w .clash (g .clashes q S r); ready = λ q. w .ready (g .settles q S r) }
 
-falls : (n : ℕ) (S : List Fact) (s : Settled) → s .clash ≡ false → Ready n S (s .facts) → (A : List Fact) → Adds n S A → (e : Settled) → Line n (A ++ S) e → left n e < left n s
-falls n S s q r A a e l = go (e .clash) refl
-  where
-    go : (b : Bool) → e .clash ≡ b → left n e < left n s
-    go true d = let u = left-clash n e d in let v = left-ready n s q in omega arith
-    go false d =
-        let u = left-ready n e d in
-        let v = left-ready n s q in
-        let x = missing-is n (A ++ S) (e .facts) (l .ready d) in
-        let y = missing-is n S (s .facts) r in
-        let z = a .fewer in
-        omega arith
+falls : (n : ℕ) (S : List Fact) (f : Facts) → Ready n S f → (A : List Fact) → Adds n S A → (g : Facts) → Ready n (A ++ S) g → missing n g < missing n f
+falls n S f r A a g q = let x = missing-is n (A ++ S) g q in let y = missing-is n S f r in let z = a .fewer in omega arith
 
 -- ---- the two alternatives
 
@@ -87,11 +69,11 @@ module _ (n : ℕ) (S : List Fact) (f : Facts) (w : Ready n S f) (p q : Below) (
   pub second-line : (e : Settled) → EnteredOf n f (q .upper .0) (q .lower .0) e → Line n S₂ e
   second-line e g = entered-line n S f w q _ (adds₂ .inside) (t .second) e g
 
-  pub first-falls : (s : Settled) → s .clash ≡ false → s .facts ≡ f → (e : Settled) → EnteredOf n f (p .upper .0) (p .lower .0) e → left n e < left n s
-  first-falls s c d e g = falls n S s c (subst (Ready n S) (sym d) w) _ adds₁ e (first-line e g)
+  pub first-falls : (e : Settled) → EnteredOf n f (p .upper .0) (p .lower .0) e → e .clash ≡ false → missing n (e .facts) < missing n f
+  first-falls e g c = falls n S f w _ adds₁ (e .facts) (first-line e g .ready c)
 
-  pub second-falls : (s : Settled) → s .clash ≡ false → s .facts ≡ f → (e : Settled) → EnteredOf n f (q .upper .0) (q .lower .0) e → left n e < left n s
-  second-falls s c d e g = falls n S s c (subst (Ready n S) (sym d) w) _ adds₂ e (second-line e g)
+  pub second-falls : (e : Settled) → EnteredOf n f (q .upper .0) (q .lower .0) e → e .clash ≡ false → missing n (e .facts) < missing n f
+  second-falls e g c = falls n S f w _ adds₂ (e .facts) (second-line e g .ready c)
 
   -- how the search ends, from how they end
   found : {R : List Fact} → search n S₁ .outcome ≡ in-tree R → EndsAs n S (in-tree R) (1 + search n S₁ .count)
@@ -116,7 +98,19 @@ module _ (n : ℕ) (S : List Fact) (f : Facts) (w : Ready n S f) (p q : Below) (
 abbrev pub Report : ℕ → ℕ → ℕ → List Fact → Searched → Type 0
 Report A n k S r = Reports A n (search n S .outcome) (k + search n S .count) r
 
+-- the search of S ends in none: with k entered before, u by then
+pub record EndedNone (A n k : ℕ) (S : List Fact) (u : ℕ) : Type 0 where
+  pub is : search n S .outcome ≡ in-none
+  pub within : u ≤ A
+  pub counted : u ≡ k + search n S .count
+
 module _ (A n k : ℕ) (S : List Fact) where
+  pub none-clash : (s : Settled) → Line n S s → s .clash ≡ true → k ≤ A → EndedNone A n k S k
+  none-clash s l e h = let w = search-clash n S (l .inside) (l .clashes e) in let c = w .count in record { is = w .outcome; within = h; counted = omega arith }
+
+  pub none-reported : (r : Searched) → Report A n k S r → r .end ≡ None → EndedNone A n k S (r .count)
+  none-reported r g e = let v = was-none A n _ _ r g e in let c = v .counted in let h = v .within in record { is = v .is; within = omega arith; counted = c }
+
   pub line-clash : (s : Settled) → Line n S s → s .clash ≡ true → k ≤ A → (r : Searched) → r .end ≡ None → r .count ≡ k → Report A n k S r
   line-clash s l e h r a b = reports-search A n S (search-clash n S (l .inside) (l .clashes e)) k k r (omega arith) (reports-none A n k r h a b)
 
@@ -144,31 +138,38 @@ module _ (A n k : ℕ) (S : List Fact) where
             let m = more n S f w p q t in
             reports-spent A n _ _ r (omega arith) e (g .spent v .1)
 
-        module _ (e : r .end ≡ None) where
-          pub line-spent-second : r .count ≡ A → (z : Searched) → z .end ≡ Spent → z .count ≡ r .count → Report A n k S z
-          line-spent-second d z a b =
-              let v = was-none A n _ _ r g e in
-              let x = v .counted in
-              let y = went-on n S f w p q t (v .is) .count in
-              reports-spent A n _ _ z (omega arith) a (b ∙ d)
+      -- from the first alternative's end in none, with u entered by then
+      module _ (u : ℕ) (v : EndedNone A n (k + 1) (S₁ n S f w p q t) u) where
+        pub line-spent-second : u ≡ A → (z : Searched) → z .end ≡ Spent → z .count ≡ u → Report A n k S z
+        line-spent-second d z a b =
+            let x = v .counted in
+            let y = went-on n S f w p q t (v .is) .count in
+            reports-spent A n _ _ z (omega arith) a (b ∙ d)
 
-          pub line-second : (z : Searched) → Report A n (r .count + 1) (S₂ n S f w p q t) z → Report A n k S z
-          line-second z h =
-              let v = was-none A n _ _ r g e in
-              let x = v .counted in
-              reports-search A n S (went-on n S f w p q t (v .is)) k (r .count + 1 + search n (S₂ n S f w p q t) .count) z (omega arith) h
+        pub line-second : (z : Searched) → Report A n (u + 1) (S₂ n S f w p q t) z → Report A n k S z
+        line-second z h =
+            let x = v .counted in
+            reports-search A n S (went-on n S f w p q t (v .is)) k (u + 1 + search n (S₂ n S f w p q t) .count) z (omega arith) h
 
 -- ---- the search from its first line
 
-from-start : (A n : ℕ) (s : Settled) (r : Searched) → LineOf A n s 0 r → (S : List Fact) → Line n S s → Reports A n (search n S .outcome) (search n S .count) r
-from-start A n s r w S l = subst (λ (c : ℕ). Reports A n (search n S .outcome) c r) (zero-add (search n S .count)) (w S l)
+from-start : (A n : ℕ) (s : Settled) → s .clash ≡ false → (r : Searched) → LineOf A n (s .facts) 0 r
+    → (S : List Fact) → Line n S s → Reports A n (search n S .outcome) (search n S .count) r
+from-start A n s c r w S l = subst (λ (c : ℕ). Reports A n (search n S .outcome) c r) (zero-add (search n S .count)) (w S (l .ready c))
 
-pub searched-tree : (A n : ℕ) (s : Settled) (r : Searched) → LineOf A n s 0 r → r .end ≡ Tree → SearchedOf A n s r
-searched-tree A n s r w e = record { reports = from-start A n s r w; kept = λ d. absurd (d e) }
+pub searched-clash : (A n : ℕ) (s : Settled) → s .clash ≡ true → SearchedOf A n s (record { end = None; count = 0; facts = s .facts })
+searched-clash A n s e = record {
+  reports = λ S l. subst (λ (c : ℕ). Reports A n (search n S .outcome) c (record { end = None; count = 0; facts = s .facts })) (zero-add (search n S .count))
+      (line-clash A n 0 S s l e (omega arith) _ refl refl);
+  kept = λ h. refl;
+}
 
-pub searched-other : (A n : ℕ) (s : Settled) (r : Searched) → LineOf A n s 0 r → (e : End) → r .end ≡ e → e ≢ Tree
+pub searched-tree : (A n : ℕ) (s : Settled) → s .clash ≡ false → (r : Searched) → LineOf A n (s .facts) 0 r → r .end ≡ Tree → SearchedOf A n s r
+searched-tree A n s c r w e = record { reports = from-start A n s c r w; kept = λ d. absurd (d e) }
+
+pub searched-other : (A n : ℕ) (s : Settled) → s .clash ≡ false → (r : Searched) → LineOf A n (s .facts) 0 r → (e : End) → r .end ≡ e → e ≢ Tree
     → SearchedOf A n s (record { end = e; count = r .count; facts = s .facts })
-searched-other A n s r w e d g = record {
-  reports = λ S l. reports-other A n _ _ r _ (from-start A n s r w S l) (sym d) refl (λ h. g (sym d ∙ h));
+searched-other A n s c r w e d g = record {
+  reports = λ S l. reports-other A n _ _ r _ (from-start A n s c r w S l) (sym d) refl (λ h. g (sym d ∙ h));
   kept = λ h. refl;
 }

@@ -80,15 +80,6 @@ module _ (A n : ℕ) where
         go (yes l) in-none d = let w = p .none l d .0 in let z : _≡_ {A = ℕ} 0 1 = cc in absurd (omega arith)
         go (yes l) (in-tree R) d = let w = p .tree l d .0 in let z : _≡_ {A = ℕ} 0 1 = cc in absurd (omega arith)
 
-    -- no report counts past the allowance
-    pub count-within : r .count ≤ A
-    count-within = go (decLe c A) o refl
-      where
-        go : Dec (c ≤ A) → (q : Outcome) → o ≡ q → r .count ≤ A
-        go (no l) q d = let w = p .spent (omega arith) .1 in omega arith
-        go (yes l) in-none d = let w = p .none l d .1 in omega arith
-        go (yes l) (in-tree R) d = let w = p .tree l d .1 in omega arith
-
 pub none-not-tree : None ≢ Tree
 none-not-tree e = let z : _≡_ {A = ℕ} 0 1 = cc in omega arith
 

@@ -4,11 +4,11 @@ use mathlib.Core.Logic.{_≢_}
 use mathlib.Core.Bool.{true, false}
 use mathlib.Core.List.{List, _∷_, _++_}
 use mathlib.Core.Option.{none, some}
-use Prim.Native.Nat.{ℕ, suc, _+_, _≤_, _<_}
+use Prim.Native.Nat.{ℕ, _+_, _≤_, _<_}
 use Rattle.meaning.specs.Constraint.{Fact, below}
 use Rattle.meaning.specs.Settled.{Clash}
 use Rattle.meaning.specs.FixedSearch.{Join, first-alternative, second-alternative, Outcome, in-none, in-tree}
-use Rattle.meaning.specs.Finite.{neg, pick, sum, one}
+use Rattle.meaning.specs.Finite.{neg, sum, one}
 use Rattle.meaning.proofs.Facts.{Inside}
 use Rattle.theory.specs.Search.{firstJoin, search}
 use Rattle.tables.specs.Tables.{has, Ready}
@@ -58,9 +58,6 @@ pub record Line (n : ℕ) (S : List Fact) (s : Settled) : Type 0 where
 unfoldable pub missing : ℕ → Facts → ℕ
 missing n f = sum n (λ x. sum n (λ y. one (neg (has f (below x y)))))
 
-unfoldable pub left : ℕ → Settled → ℕ
-left n s = pick (s .clash) 0 (suc (missing n (s .facts)))
-
 -- r reports a search that ends in o after entering c alternatives in all
 pub record Reports (A n : ℕ) (o : Outcome) (c : ℕ) (r : Searched) : Type 0 where
   pub spent : A < c → (r .end ≡ Spent) × (r .count ≡ A)
@@ -68,8 +65,8 @@ pub record Reports (A n : ℕ) (o : Outcome) (c : ℕ) (r : Searched) : Type 0 w
   pub tree : c ≤ A → {R : List Fact} → o ≡ in-tree R → (r .end ≡ Tree) × (r .count ≡ c) × Ready n R (r .facts)
 
 -- with c alternatives entered before
-abbrev pub LineOf : ℕ → ℕ → Settled → ℕ → Searched → Type 0
-LineOf A n s c r = (S : List Fact) → Line n S s → Reports A n (search n S .outcome) (c + search n S .count) r
+abbrev pub LineOf : ℕ → ℕ → Facts → ℕ → Searched → Type 0
+LineOf A n f c r = (S : List Fact) → Ready n S f → Reports A n (search n S .outcome) (c + search n S .count) r
 
 pub record SearchedOf (A n : ℕ) (s : Settled) (r : Searched) : Type 0 where
   pub reports : (S : List Fact) → Line n S s → Reports A n (search n S .outcome) (search n S .count) r

@@ -3,6 +3,7 @@
 ghost use mathlib.Core.List.{List};
 ghost use Prim.Native.Nat.{_≤_};
 ghost use Rattle.meaning.specs.Constraint.{Fact};
+ghost use Rattle.tables.specs.Tables.{Ready};
 ghost use Rattle.search.specs.Searching.{StepOf, Line, LineOf, SearchedOf};
 use ids::Var;
 use joins::Found;
@@ -55,64 +56,66 @@ fn next_step(f: Facts, n: usize) -> Step
     }
 }
 
-// One line of the search, from tables that were just settled, with so many alternatives entered before.
-fn line(s: Settled, n: usize, allowance: u32, count: u32) -> Searched
+// One line of the search, from settled tables without a clash, with so many alternatives entered before. One `searched` and one `entered`
+// serve both alternatives: every level that is open keeps them on the stack.
+fn line(f: Facts, n: usize, allowance: u32, count: u32) -> Searched
     requires { ⌜ (n ≤ 16) × (count ≤ allowance) ⌝ }
-    requires { ⌜ ((S : List Fact) × Line n S s) ⌝ }
-    ensures { λ r. ⌜ LineOf allowance n s count r ⌝ }
+    requires { ⌜ ((S : List Fact) × Ready n S f) ⌝ }
+    ensures { λ r. ⌜ LineOf allowance n f count r ⌝ }
 {
-    let f = s.facts;
-    if s.clash {
-        return Searched {
-            end: End::None,
+    let mut searched = Searched {
+        end: End::Tree,
+        count,
+        facts: f,
+    };
+    let next = next_step(f, n);
+    let Step::Split(first, second) = next else {
+        return searched;
+    };
+    if count == allowance {
+        searched = Searched {
+            end: End::Spent,
             count,
             facts: f,
         };
+        return searched;
     }
-    let next = next_step(f, n);
-    match next {
-        Step::Solved => Searched {
-            end: End::Tree,
-            count,
-            facts: f,
-        },
-        Step::Split(first, second) => {
-            if count == allowance {
-                return Searched {
-                    end: End::Spent,
-                    count,
-                    facts: f,
-                };
+    let mut used = count + 1;
+    let mut entered = enter::enter_below(f, n, first.upper, first.lower);
+    if !entered.clash {
+        searched = line(entered.facts, n, allowance, used);
+        let end = searched.end;
+        match end {
+            End::Tree => {
+                return searched;
             }
-            let searched = line(
-                enter::enter_below(f, n, first.upper, first.lower),
-                n,
-                allowance,
-                count + 1,
-            );
-            let end = searched.end;
-            match end {
-                End::Tree => searched,
-                End::Spent => searched,
-                End::None => {
-                    let used = searched.count;
-                    if used == allowance {
-                        return Searched {
-                            end: End::Spent,
-                            count: used,
-                            facts: f,
-                        };
-                    }
-                    line(
-                        enter::enter_below(f, n, second.upper, second.lower),
-                        n,
-                        allowance,
-                        used + 1,
-                    )
-                }
+            End::Spent => {
+                return searched;
+            }
+            End::None => {
+                used = searched.count;
             }
         }
     }
+    if used == allowance {
+        searched = Searched {
+            end: End::Spent,
+            count: used,
+            facts: f,
+        };
+        return searched;
+    }
+    entered = enter::enter_below(f, n, second.upper, second.lower);
+    if entered.clash {
+        searched = Searched {
+            end: End::None,
+            count: used + 1,
+            facts: f,
+        };
+        return searched;
+    }
+    searched = line(entered.facts, n, allowance, used + 1);
+    searched
 }
 
 // The search from the settled tables of the given facts.
@@ -121,25 +124,27 @@ pub fn search(s: Settled, n: usize, allowance: u32) -> Searched
     requires { ⌜ ((S : List Fact) × Line n S s) ⌝ }
     ensures { λ r. ⌜ SearchedOf allowance n s r ⌝ }
 {
-    let r = line(s, n, allowance, 0);
+    let facts = s.facts;
+    if s.clash {
+        return Searched {
+            end: End::None,
+            count: 0,
+            facts,
+        };
+    }
+    let r = line(facts, n, allowance, 0);
     let end = r.end;
     match end {
         End::Tree => r,
-        End::None => {
-            let facts = s.facts;
-            Searched {
-                end: End::None,
-                count: r.count,
-                facts,
-            }
-        }
-        End::Spent => {
-            let facts = s.facts;
-            Searched {
-                end: End::Spent,
-                count: r.count,
-                facts,
-            }
-        }
+        End::None => Searched {
+            end: End::None,
+            count: r.count,
+            facts,
+        },
+        End::Spent => Searched {
+            end: End::Spent,
+            count: r.count,
+            facts,
+        },
     }
 }

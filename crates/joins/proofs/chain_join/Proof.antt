@@ -1,5 +1,6 @@
 -- `joins::chain_join` meets its contract: the loop has passed no z with a chain join.
-use Prim.Native.Nat.{_≤_, _-_}
+use mathlib.Core.List.{List}
+use Prim.Native.Nat.{ℕ, _≤_, _-_}
 use native.Mathlib.Nat.{not-suc-le-zero}
 use lib.ListN.{getD}
 use mir.Val.{Fits}
@@ -7,16 +8,18 @@ use mir.Syntax.{w16}
 use borrow.Author.Needs.{needs}
 use Rattle.meaning.specs.FixedSearch.{chain-join}
 use Rattle.theory.specs.Search.{isChainJoin}
-use Rattle.joins.specs.Found.{joinOf}
+use Rattle.tables.specs.declared.Facts.{Facts}
+use Rattle.joins.specs.Found.{joinOf, Apart, withBelow}
 use Rattle.joins.proofs.First.{NoneBefore, none-more, none-apart, chain-named, chain-first, none-first}
 use Rattle.joins.proofs.chain_join.Statement.{statement}
 use Rattle.joins.proofs.chain_join.Tie as tie
 
 abbrev Inv-loop : tie.InvT-loop
-Inv-loop n f vars apart z₀ z = (z ≤ n) × NoneBefore isChainJoin n f z
+Inv-loop n above vars apart z₀ z =
+    (z ≤ n) × ((below : List ℕ) → Apart below above apart → (f : Facts) → NoneBefore isChainJoin n (withBelow below above f) z)
 
 abbrev μ-loop : tie.MeasureT-loop
-μ-loop n f vars apart z₀ z = n - z
+μ-loop n above vars apart z₀ z = n - z
 
 all-requires : tie.Need-all-requires Inv-loop μ-loop
 all-requires c κs = search needs
@@ -25,13 +28,13 @@ apart-rows-requires : tie.Need-apart-rows-requires Inv-loop μ-loop
 apart-rows-requires c κs = search needs
 
 loop-holds : tie.Need-loop-holds Inv-loop μ-loop
-loop-holds c = (search needs, λ S r k x y l. absurd (not-suc-le-zero l))
+loop-holds c = (search needs, λ below a f S r k x y l. absurd (not-suc-le-zero l))
 
 mul-v : tie.Need-mul-v Inv-loop μ-loop
 mul-v c = search needs
 
-element-copy-out-v : tie.Need-element-copy-out-v Inv-loop μ-loop
-element-copy-out-v c = search needs
+array-read-v : tie.Need-array-read-v Inv-loop μ-loop
+array-read-v c = search needs
 
 meeting-requires : tie.Need-meeting-requires Inv-loop μ-loop
 meeting-requires c κs = search needs
@@ -61,14 +64,16 @@ returns : tie.Need-returns Inv-loop μ-loop
 unfolding joinOf
 returns c =
     let l = c .before .before in
-    let i = l .before .before .before in
+    let i = l .before .before in
     let r = i .before .before in
-    let s = r .before .before .before in
+    let s = r .before in
     let h : Fits w16 (getD (r .apart-rows .result) (l .lowest .result) 0) = search needs in
+    λ f.
+    let g = withBelow (s .before .args .below) (s .before .args .t2) f in
     record {
-      first = chain-first _ (s .before .pre) _ _ (s .all .ensures) (r .apart-rows .result) (r .apart-rows .ensures) _ (i .loop-test .taken) _ (l .before .meeting .ensures) _ (l .lowest .ensures)
-          (c .before .if1 .taken) (h .fits) _ (c .lowest2 .ensures) (i .before .loop .inv .1);
-      named = chain-named _ (s .before .pre) (s .before .args .t1) _ (s .all .ensures) (r .apart-rows .result) (r .apart-rows .ensures) _ (i .loop-test .taken) _ (l .before .meeting .ensures) _ (l .lowest .ensures)
+      first = chain-first _ (s .before .pre) g _ (s .all .ensures) (r .apart-rows .result) (r .apart-rows .ensures) _ (i .loop-test .taken) _ (l .before .meeting .ensures) _ (l .lowest .ensures)
+          (c .before .if1 .taken) (h .fits) _ (c .lowest2 .ensures) (i .before .loop .inv .1 _ (r .apart-rows .ensures) f);
+      named = chain-named _ (s .before .pre) g _ (s .all .ensures) (r .apart-rows .result) (r .apart-rows .ensures) _ (i .loop-test .taken) _ (l .before .meeting .ensures) _ (l .lowest .ensures)
           (c .before .if1 .taken) (h .fits) _ (c .lowest2 .ensures);
     }
 
@@ -81,17 +86,21 @@ loop-less c = search needs
 loop-again : tie.Need-loop-again Inv-loop μ-loop
 loop-again c =
     let l = c .before in
-    let i = l .before .before .before in
+    let i = l .before .before in
     let r = i .before .before in
-    let s = r .before .before .before in (
+    let s = r .before in (
       search needs,
-      none-more isChainJoin _ _ _ (i .before .loop .inv .1)
-          (none-apart _ (s .before .pre) _ _ (s .all .ensures) (r .apart-rows .result) (r .apart-rows .ensures) _ (i .loop-test .taken) _ (l .before .meeting .ensures) _ (l .lowest .ensures) (c .if1 .left)),
+      λ below a f.
+          none-more isChainJoin _ _ _ (i .before .loop .inv .1 below a f)
+          (none-apart _ (s .before .pre) (withBelow below (s .before .args .t2) f) _ (s .all .ensures) (r .apart-rows .result) a _ (i .loop-test .taken) _ (l .before .meeting .ensures) _ (l .lowest .ensures) (c .if1 .left)),
     )
 
 returns-2 : tie.Need-returns-2 Inv-loop μ-loop
 unfolding joinOf
-returns-2 c = record { first = none-first isChainJoin chain-join _ _ _ (c .loop-test .left) (c .before .loop .inv .1); named = tt }
+returns-2 c = λ f. record {
+  first = none-first isChainJoin chain-join _ _ _ (c .loop-test .left) (c .before .loop .inv .1 _ (c .before .before .apart-rows .ensures) f);
+  named = tt;
+}
 
 pub chain-join-spec : {M : Type 1} → statement M
 chain-join-spec =
@@ -103,7 +112,7 @@ chain-join-spec =
     apart-rows-requires
     loop-holds
     mul-v
-    element-copy-out-v
+    array-read-v
     meeting-requires
     lowest-requires
     mul-a
