@@ -1,7 +1,7 @@
 /*
- * Measures the stack that cudreth_solve uses: in a thread on a stack of known bytes, once without a choice and once with 105
+ * Measures the stack that cudreth_solve uses: in a thread with the header's CUDRETH_STACK bytes, once without a choice and once with 105
  * alternatives open at the end (15 variables above a sixteenth: one chain join for each pair). From the two it tells what the most
- * that can be open, n * (n - 1) = 240, would need, and fails if the header's CUDRETH_STACK is not enough.
+ * that can be open, n * (n - 1) = 240, would need, and fails if CUDRETH_STACK is not enough.
  */
 #define _POSIX_C_SOURCE 200809L
 #include <inttypes.h>
@@ -11,7 +11,7 @@
 
 #include "cudreth.h"
 
-#define STACK (8 * 1024 * 1024)
+#define STACK CUDRETH_STACK
 #define MOST_OPEN (CUDRETH_VARIABLES * (CUDRETH_VARIABLES - 1))
 
 static uint8_t stack[STACK] __attribute__((aligned(4096)));

@@ -5,7 +5,7 @@
  *
  * Both functions take any bytes of any length and always return: damaged files and buffers that are too short are refused by a number.
  * They have no globals, allocate nothing, print nothing and set no errno, so any number of threads may call them at once, each with
- * buffers of its own. cudreth_mark uses a few hundred bytes of stack. cudreth_solve recurses once for each alternative that is open,
+ * buffers of its own. cudreth_mark uses about 2 KiB of stack. cudreth_solve recurses once for each alternative that is open,
  * at most 240 deep; give its thread CUDRETH_STACK bytes (examples/stack.c measures what it uses).
  *
  * Each pointer must be valid for its length and not NULL, also where the length is 0. The buffer lent to cudreth_solve may not overlap
@@ -32,7 +32,7 @@ extern "C" {
 /* The most nodes that a candidate's tree may have. */
 #define CUDRETH_NODES 64
 /* Stack enough for cudreth_solve. */
-#define CUDRETH_STACK (1024 * 1024)
+#define CUDRETH_STACK (256 * 1024)
 
 /* The first byte of a constraint record: kind, x, y, label. Bytes that a kind does not use are 0. */
 enum cudreth_kind {
