@@ -1,7 +1,6 @@
 // The proved solver, marker and gate (target/staticlib/libcapi.a) beside plain Rust, in one run: first that both give the same results,
-// then the times. bench/run builds and runs it. Every time is the median of several, taken in turn by both.
+// then the times: medians of 31 rounds, taken in turn by both. bench/run builds and runs it.
 use std::hint::black_box;
-use std::time::Instant;
 
 mod gate;
 mod sets;
@@ -14,6 +13,18 @@ mod sheets;
 extern "C" {
     fn cudreth_solve(constraints: *const u8, constraints_len: usize, answer: *mut u8, answer_len: usize, allowance: u32) -> u64;
     fn cudreth_mark(constraints: *const u8, constraints_len: usize, answer: *const u8, answer_len: usize) -> u64;
+}
+
+// A clock of the C library: the time that this thread had a core, which others on the machine do not lengthen by waiting.
+extern "C" {
+    fn clock_gettime(clock: i32, time: *mut [i64; 2]) -> i32;
+}
+const THREAD: i32 = 3;
+
+fn now() -> f64 {
+    let mut time = [0; 2];
+    assert_eq!(unsafe { clock_gettime(THREAD, &mut time) }, 0);
+    time[0] as f64 * 1e9 + time[1] as f64
 }
 
 type Solver = fn(&[u8], &mut [u8], u32) -> u64;
@@ -54,37 +65,71 @@ fn median(mut times: Vec<f64>) -> f64 {
     times[times.len() / 2]
 }
 
-// Nanoseconds for one call of each of the functions: the median of `rounds`, each of at least a hundredth of a second, in turn.
-fn nanoseconds<const N: usize>(rounds: usize, functions: [&mut dyn FnMut() -> u64; N]) -> [f64; N] {
-    let mut functions = functions;
+// Nanoseconds for one call of each of the functions: rounds of at least three milliseconds each, in turn, so that what else the machine
+// does falls on all of them.
+fn rounds<const N: usize>(rounds: usize, functions: [&mut dyn FnMut() -> u64; N]) -> Vec<[f64; N]> {
     let mut calls = [0; N];
-    for (f, calls) in functions.iter_mut().zip(&mut calls) {
-        let start = Instant::now();
-        while *calls == 0 || start.elapsed().as_millis() < 10 {
-            black_box(f());
-            *calls += 1;
+    for i in 0..N {
+        let start = now();
+        while calls[i] == 0 || now() - start < 3e6 {
+            for _ in 0..1 + calls[i] / 4 {
+                black_box(functions[i]());
+            }
+            calls[i] += 1 + calls[i] / 4;
         }
     }
-    let mut times = [(); N].map(|_| Vec::new());
-    for _ in 0..rounds {
+    let mut round = || {
+        let mut times = [0.0; N];
         for i in 0..N {
-            let start = Instant::now();
+            let start = now();
             for _ in 0..calls[i] {
                 black_box(functions[i]());
             }
-            times[i].push(start.elapsed().as_secs_f64() * 1e9 / calls[i] as f64);
+            times[i] = (now() - start) / calls[i] as f64;
         }
-    }
-    times.map(median)
+        times
+    };
+    (0..rounds).map(|_| round()).collect()
 }
 
-fn solving(rounds: usize, file: &[u8], allowance: u32) -> [f64; 2] {
+// The proved and the plain one: medians of both times, and of their ratios round by round.
+struct Times {
+    proved: f64,
+    plain: f64,
+    ratio: f64,
+}
+
+impl Times {
+    fn of(rounds: &[[f64; 2]], each: f64) -> Times {
+        let over = |f: fn(&[f64; 2]) -> f64| median(rounds.iter().map(f).collect());
+        Times { proved: over(|r| r[0]) / each, plain: over(|r| r[1]) / each, ratio: over(|r| r[0] / r[1]) }
+    }
+}
+
+// Both solvers on a file, for each of `each` things.
+fn solving(file: &[u8], allowance: u32, each: f64) -> Times {
     let mut answers = [[0u8; 132]; 2];
     let [a, b] = &mut answers;
-    nanoseconds(rounds, [
+    let times = rounds(31, [
         &mut || proved_solve(black_box(file), a, allowance),
         &mut || solver::solve(black_box(file), b, allowance),
-    ])
+    ]);
+    Times::of(&times, each)
+}
+
+// Both solvers, for each choice, without what the set costs before its first one: with an allowance of 0 both stop there.
+fn choosing(file: &[u8], allowance: u32) -> (u64, Times) {
+    let end = both(file, 132, allowance, 0);
+    let mut answers = [[0u8; 132]; 4];
+    let [a, b, c, d] = &mut answers;
+    let times = rounds(31, [
+        &mut || proved_solve(black_box(file), a, allowance),
+        &mut || proved_solve(black_box(file), b, 0),
+        &mut || solver::solve(black_box(file), c, allowance),
+        &mut || solver::solve(black_box(file), d, 0),
+    ]);
+    let beyond: Vec<[f64; 2]> = times.iter().map(|r| [r[0] - r[1], r[2] - r[3]]).collect();
+    (end, Times::of(&beyond, count(end) as f64))
 }
 
 struct Input {
@@ -135,14 +180,22 @@ fn agree(inputs: &[Input], day: &[Vec<u8>], trials: usize) {
     println!("markers: equal results on {trials} pairs of files, of {} sorts of verdict", sheets::agree(MARKERS, trials));
 }
 
-fn row(name: &str, proved: f64, plain: f64, bound: f64) {
-    let ratio = proved / plain;
-    let note = if ratio > bound { format!("over {bound}") } else { format!("within {bound}") };
-    println!("{name:<44} {proved:>10.1} {plain:>10.1} {ratio:>7.2}  {note}");
+fn head(title: &str) {
+    println!("\n{title:<68} {:>9} {:>9} {:>6}", "proved", "plain", "ratio");
 }
 
-fn head(title: &str) {
-    println!("\n{title:<44} {:>10} {:>10} {:>7}", "proved", "baseline", "ratio");
+fn line(name: &str, t: &Times) {
+    print!("{name:<68} {:>9.1} {:>9.1} {:>6.2}", t.proved, t.plain, t.ratio);
+}
+
+fn row(name: &str, times: Times) {
+    line(name, &times);
+    println!();
+}
+
+fn bounded(name: &str, times: Times, bound: f64) {
+    line(name, &times);
+    println!("  {} {bound}", if times.ratio > bound { "OVER" } else { "within" });
 }
 
 fn main() {
@@ -151,21 +204,18 @@ fn main() {
     let day = sets::day(20_261_115, 40_000);
     agree(&inputs, &day, 100_000);
 
+    let shape = |input: &Input, choices: u64| format!("{}, {choices} choices, {}", input.name.trim_end_matches(".bin"), input.shape);
+    let (many, few): (Vec<_>, Vec<_>) = inputs
+        .iter()
+        .map(|input| (input, count(both(&input.file, 132, u32::MAX, 0))))
+        .partition(|(_, choices)| *choices > 1000);
     head("(a) benchmark files, ns for each choice");
-    for input in &inputs {
-        let choices = count(both(&input.file, 132, u32::MAX, 0));
-        if choices > 1000 {
-            let [p, b] = solving(7, &input.file, u32::MAX).map(|t| t / choices as f64);
-            row(&format!("{} ({choices} choices, {})", input.name, input.shape), p, b, 3.0);
-        }
+    for (input, choices) in many {
+        bounded(&shape(input, choices), solving(&input.file, u32::MAX, choices as f64), 3.0);
     }
     head("    files of few choices, ns for each set");
-    for input in &inputs {
-        let choices = count(both(&input.file, 132, u32::MAX, 0));
-        if choices <= 1000 {
-            let [p, b] = solving(15, &input.file, u32::MAX);
-            row(&format!("{} ({choices} choices, {})", input.name, input.shape), p, b, f64::INFINITY);
-        }
+    for (input, choices) in few {
+        row(&shape(input, choices), solving(&input.file, u32::MAX, 1.0));
     }
 
     head("(b) a day of 40,000 ordinary sets, ns");
@@ -176,64 +226,64 @@ fn main() {
     let mut answers = [[0u8; 132]; 2];
     let [a, b] = &mut answers;
     let whole = |solve: Solver, answer: &mut [u8]| day.iter().fold(0, |sum: u64, file| sum.wrapping_add(solve(file, answer, u32::MAX)));
-    let times = nanoseconds(15, [&mut || whole(proved_solve, a), &mut || whole(solver::solve, b)]);
-    let [p, q] = times.map(|t| t / day.len() as f64);
-    row("for each set", p, q, 2.0);
+    let times = rounds(31, [&mut || whole(proved_solve, a), &mut || whole(solver::solve, b)]);
+    bounded("for each set", Times::of(&times, day.len() as f64), 2.0);
     println!("    {trees} trees, {} none; {:.1} records and {:.2} choices a set", day.len() - trees, records as f64 / 40_000.0, choices as f64 / 40_000.0);
 
     head("(c) marker, 256 records, 64 nodes, ns a mark");
     for case in sheets::cases() {
         assert_eq!(MARKERS.map(|mark| mark(&case.constraints, &case.answer)), [0; 3]);
         let [c, a] = [&case.constraints[..], &case.answer[..]];
-        let [p, walking, by_sets] = nanoseconds(31, [
+        let times = rounds(31, [
             &mut || proved_mark(black_box(c), black_box(a)),
             &mut || plain::mark(black_box(c), black_box(a)),
             &mut || plain::mark_by_sets(black_box(c), black_box(a)),
         ]);
-        row(&format!("{} ({:.0} marks a second)", case.name, 1e9 / p), p, walking.min(by_sets), 1.5);
+        // beside the faster of the two plain ones
+        let times: Vec<[f64; 2]> = times.iter().map(|r| [r[0], r[1].min(r[2])]).collect();
+        let times = Times::of(&times, 1.0);
+        bounded(&format!("{}, {:.0} marks a second", case.name, 1e9 / times.proved), times, 1.5);
     }
     head("    gate alone, 256 records, ns");
     for input in inputs.iter().filter(|i| i.file.len() == 1024) {
         let (name, c) = (input.name.trim_end_matches(".bin"), &input.file[..]);
         let one = [1u8];
         assert_eq!(MARKERS.map(|mark| mark(c, &one)), [3 << 48 | 8; 3]);
-        let [p, q] = nanoseconds(31, [
+        let times = rounds(31, [
             &mut || proved_mark(black_box(c), black_box(&one)),
             &mut || plain::mark(black_box(c), black_box(&one)),
         ]);
-        row(&format!("{name}, then question 8 of the marker"), p, q, 1.5);
+        bounded(&format!("{name}, then question 8 of the marker"), Times::of(&times, 1.0), 1.5);
         let mut short = [0u8; 131];
         let mut shorter = [0u8; 131];
         assert_eq!(both(c, 131, 9, 0), 3 << 48 | 7);
-        let [p, q] = nanoseconds(31, [
+        let times = rounds(31, [
             &mut || proved_solve(black_box(c), &mut short, 9),
             &mut || solver::solve(black_box(c), &mut shorter, 9),
         ]);
-        row(&format!("{name}, then question 7 of the solver"), p, q, 1.5);
+        bounded(&format!("{name}, then question 7 of the solver"), Times::of(&times, 1.0), 1.5);
     }
 
-    head("(d) growth with n, ns for each choice");
+    head("(d) growth with n, ns for each choice beyond the set's own");
     for free in 0..=12 {
         let file = sets::hopeless(free);
-        let allowance = 50_000;
-        let end = both(&file, 132, allowance, 0);
-        let [p, b] = solving(7, &file, allowance).map(|t| t / count(end) as f64);
-        row(&format!("n={:<2} {:>2} records, {} {}", free + 4, file.len() / 4, verdict(end), count(end)), p, b, f64::INFINITY);
+        let (end, times) = choosing(&file, 50_000);
+        row(&format!("n {:>2}, {:>2} records, {} {}", free + 4, file.len() / 4, verdict(end), count(end)), times);
     }
-    head("    growth with records, ns for each choice");
+    head("    growth with records, ns for each choice beyond the set's own");
     let hard = &sets::hopeless(8);
-    let more = |records: usize| sets::repeated(hard, records);
-    let small = [2, 4, 8].map(sets::climb);
-    for file in small.into_iter().chain([12, 16, 32, 64, 128, 256].map(more)) {
-        let end = both(&file, 132, u32::MAX, 0);
-        let [p, b] = solving(7, &file, u32::MAX).map(|t| t / count(end) as f64);
-        row(&format!("{:>3} records, {} {}", file.len() / 4, verdict(end), count(end)), p, b, f64::INFINITY);
+    // the small ones stop just before their tree
+    let small = [3, 4, 8].map(|records| (sets::climb(records), (records * (records - 1) / 2 - 1) as u32));
+    let large = [12, 16, 32, 64, 128, 256].map(|records| (sets::repeated(hard, records), u32::MAX));
+    for (file, allowance) in small.into_iter().chain(large) {
+        let (end, times) = choosing(&file, allowance);
+        row(&format!("{:>3} records, {} {}", file.len() / 4, verdict(end), count(end)), times);
     }
-    head("    a set without choices, ns for each set");
+    head("    growth with records, a set without choices, ns for each set");
     for records in [1, 2, 4, 8, 16, 32, 64, 128, 256] {
-        let file = sets::repeated(&[1, 0, 1, 0, 2, 0, 2, 0, 8, 1, 0, 5, 5, 1, 2, 0], records);
+        // n is 3
+        let file = sets::repeated(&[5, 1, 2, 0, 1, 0, 1, 0, 2, 0, 2, 0, 8, 1, 0, 5], records);
         let end = both(&file, 132, u32::MAX, 0);
-        let [p, b] = solving(15, &file, u32::MAX);
-        row(&format!("{records:>3} records, {} {}", verdict(end), count(end)), p, b, f64::INFINITY);
+        row(&format!("{records:>3} records, {} {}", verdict(end), count(end)), solving(&file, u32::MAX, 1.0));
     }
 }
