@@ -8,7 +8,8 @@ const SINGLE: u32 = 0xff_ff_f0_f0;
 const LABEL: u32 = 0x00_ff_f0_f0;
 const UNKNOWN: u32 = 0xff_ff_ff_ff;
 const FORBIDDEN: [u32; 16] = [
-    UNKNOWN, PAIR, PAIR, PAIR, PAIR, PAIR, SINGLE, SINGLE, LABEL, UNKNOWN, UNKNOWN, UNKNOWN, UNKNOWN, UNKNOWN, UNKNOWN, UNKNOWN,
+    UNKNOWN, PAIR, PAIR, PAIR, PAIR, PAIR, SINGLE, SINGLE, LABEL, UNKNOWN, UNKNOWN, UNKNOWN, UNKNOWN, UNKNOWN, UNKNOWN,
+    UNKNOWN,
 ];
 // The least label: 1 for kind 8; kind 0 has none that will do.
 const LEAST_LABEL: [u16; 16] = [256, 0, 0, 0, 0, 0, 0, 0, 1, 0, 0, 0, 0, 0, 0, 0];

@@ -215,7 +215,11 @@ impl Search<'_> {
                         End::None
                     } else {
                         let mut first = *s;
-                        if first.merge(self.given, x, y) { self.line(&mut first) } else { End::None }
+                        if first.merge(self.given, x, y) {
+                            self.line(&mut first)
+                        } else {
+                            End::None
+                        }
                     };
                     match end {
                         End::None => {}

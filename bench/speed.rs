@@ -3,15 +3,21 @@
 use std::hint::black_box;
 
 mod gate;
-mod sets;
-mod solver;
 #[path = "marker/plain.rs"]
 mod plain;
+mod sets;
 #[path = "marker/cases.rs"]
 mod sheets;
+mod solver;
 
 extern "C" {
-    fn cudreth_solve(constraints: *const u8, constraints_len: usize, answer: *mut u8, answer_len: usize, allowance: u32) -> u64;
+    fn cudreth_solve(
+        constraints: *const u8,
+        constraints_len: usize,
+        answer: *mut u8,
+        answer_len: usize,
+        allowance: u32,
+    ) -> u64;
     fn cudreth_mark(constraints: *const u8, constraints_len: usize, answer: *const u8, answer_len: usize) -> u64;
 }
 
@@ -53,7 +59,11 @@ fn both(file: &[u8], buffer: usize, allowance: u32, noise: u8) -> u64 {
 }
 
 fn count(end: u64) -> u64 {
-    if end >> 48 < 3 { end & 0xffff_ffff } else { 0 }
+    if end >> 48 < 3 {
+        end & 0xffff_ffff
+    } else {
+        0
+    }
 }
 
 fn verdict(end: u64) -> &'static str {
@@ -110,10 +120,10 @@ impl Times {
 fn solving(file: &[u8], allowance: u32, each: f64) -> Times {
     let mut answers = [[0u8; 132]; 2];
     let [a, b] = &mut answers;
-    let times = rounds(31, [
-        &mut || proved_solve(black_box(file), a, allowance),
-        &mut || solver::solve(black_box(file), b, allowance),
-    ]);
+    let times = rounds(
+        31,
+        [&mut || proved_solve(black_box(file), a, allowance), &mut || solver::solve(black_box(file), b, allowance)],
+    );
     Times::of(&times, each)
 }
 
@@ -122,12 +132,15 @@ fn choosing(file: &[u8], allowance: u32) -> (u64, Times) {
     let end = both(file, 132, allowance, 0);
     let mut answers = [[0u8; 132]; 4];
     let [a, b, c, d] = &mut answers;
-    let times = rounds(31, [
-        &mut || proved_solve(black_box(file), a, allowance),
-        &mut || proved_solve(black_box(file), b, 0),
-        &mut || solver::solve(black_box(file), c, allowance),
-        &mut || solver::solve(black_box(file), d, 0),
-    ]);
+    let times = rounds(
+        31,
+        [
+            &mut || proved_solve(black_box(file), a, allowance),
+            &mut || proved_solve(black_box(file), b, 0),
+            &mut || solver::solve(black_box(file), c, allowance),
+            &mut || solver::solve(black_box(file), d, 0),
+        ],
+    );
     let beyond: Vec<[f64; 2]> = times.iter().map(|r| [r[0] - r[1], r[2] - r[3]]).collect();
     (end, Times::of(&beyond, count(end) as f64))
 }
@@ -177,7 +190,10 @@ fn agree(inputs: &[Input], day: &[Vec<u8>], trials: usize) {
     }
     let [tree, none, spent, refused] = verdicts;
     println!("solvers: equal results and bytes on {} inputs ({tree} tree, {none} none, {spent} spent, {refused} refused; {choices} choices)", verdicts.iter().sum::<usize>());
-    println!("markers: equal results on {trials} pairs of files, of {} sorts of verdict", sheets::agree(MARKERS, trials));
+    println!(
+        "markers: equal results on {trials} pairs of files, of {} sorts of verdict",
+        sheets::agree(MARKERS, trials)
+    );
 }
 
 fn head(title: &str) {
@@ -198,13 +214,10 @@ fn bounded(name: &str, times: Times, bound: f64) {
     println!("  {} {bound}", if times.ratio > bound { "OVER" } else { "within" });
 }
 
-fn main() {
-    let dir = std::env::args().nth(1).expect("the directory of the inputs");
-    let inputs = inputs(&dir);
-    let day = sets::day(20_261_115, 40_000);
-    agree(&inputs, &day, 100_000);
-
-    let shape = |input: &Input, choices: u64| format!("{}, {choices} choices, {}", input.name.trim_end_matches(".bin"), input.shape);
+fn time_files(inputs: &[Input]) {
+    let shape = |input: &Input, choices: u64| {
+        format!("{}, {choices} choices, {}", input.name.trim_end_matches(".bin"), input.shape)
+    };
     let (many, few): (Vec<_>, Vec<_>) = inputs
         .iter()
         .map(|input| (input, count(both(&input.file, 132, u32::MAX, 0))))
@@ -217,58 +230,65 @@ fn main() {
     for (input, choices) in few {
         row(&shape(input, choices), solving(&input.file, u32::MAX, 1.0));
     }
+}
 
+fn time_day(day: &[Vec<u8>]) {
     head("(b) a day of 40,000 ordinary sets, ns");
+    let mut answers = [[0u8; 132]; 2];
+    let [a, b] = &mut answers;
+    let whole = |solve: Solver, answer: &mut [u8]| {
+        day.iter().fold(0, |sum: u64, file| sum.wrapping_add(solve(file, answer, u32::MAX)))
+    };
+    let times = rounds(31, [&mut || whole(proved_solve, a), &mut || whole(solver::solve, b)]);
+    bounded("for each set", Times::of(&times, day.len() as f64), 2.0);
     let ends: Vec<u64> = day.iter().map(|file| both(file, 132, u32::MAX, 0)).collect();
     let trees = ends.iter().filter(|&end| end >> 48 == 0).count();
     let choices: u64 = ends.iter().map(|&end| count(end)).sum();
     let records: usize = day.iter().map(|file| file.len() / 4).sum();
-    let mut answers = [[0u8; 132]; 2];
-    let [a, b] = &mut answers;
-    let whole = |solve: Solver, answer: &mut [u8]| day.iter().fold(0, |sum: u64, file| sum.wrapping_add(solve(file, answer, u32::MAX)));
-    let times = rounds(31, [&mut || whole(proved_solve, a), &mut || whole(solver::solve, b)]);
-    bounded("for each set", Times::of(&times, day.len() as f64), 2.0);
-    println!("    {trees} trees, {} none; {:.1} records and {:.2} choices a set", day.len() - trees, records as f64 / 40_000.0, choices as f64 / 40_000.0);
+    let each = |sum: f64| sum / day.len() as f64;
+    let [records, choices] = [each(records as f64), each(choices as f64)];
+    println!("    {trees} trees, {} none; {records:.1} records and {choices:.2} choices a set", day.len() - trees);
+}
 
+fn time_marker() {
     head("(c) marker, 256 records, 64 nodes, ns a mark");
     for case in sheets::cases() {
         assert_eq!(MARKERS.map(|mark| mark(&case.constraints, &case.answer)), [0; 3]);
-        let [c, a] = [&case.constraints[..], &case.answer[..]];
-        let times = rounds(31, [
-            &mut || proved_mark(black_box(c), black_box(a)),
-            &mut || plain::mark(black_box(c), black_box(a)),
-            &mut || plain::mark_by_sets(black_box(c), black_box(a)),
-        ]);
+        let [p, walking, by_sets] = MARKERS.map(|mark| {
+            let (c, a) = (&case.constraints, &case.answer);
+            move || mark(black_box(c), black_box(a))
+        });
+        let times = rounds(31, [&mut { p }, &mut { walking }, &mut { by_sets }]);
         // beside the faster of the two plain ones
         let times: Vec<[f64; 2]> = times.iter().map(|r| [r[0], r[1].min(r[2])]).collect();
         let times = Times::of(&times, 1.0);
         bounded(&format!("{}, {:.0} marks a second", case.name, 1e9 / times.proved), times, 1.5);
     }
+}
+
+fn time_gate(inputs: &[Input]) {
     head("    gate alone, 256 records, ns");
     for input in inputs.iter().filter(|i| i.file.len() == 1024) {
-        let (name, c) = (input.name.trim_end_matches(".bin"), &input.file[..]);
+        let (name, file) = (input.name.trim_end_matches(".bin"), &input.file[..]);
         let one = [1u8];
-        assert_eq!(MARKERS.map(|mark| mark(c, &one)), [3 << 48 | 8; 3]);
-        let times = rounds(31, [
-            &mut || proved_mark(black_box(c), black_box(&one)),
-            &mut || plain::mark(black_box(c), black_box(&one)),
-        ]);
+        assert_eq!(MARKERS.map(|mark| mark(file, &one)), [3 << 48 | 8; 3]);
+        let marked = |mark: Marker| mark(black_box(file), black_box(&one));
+        let times = rounds(31, [&mut || marked(proved_mark), &mut || marked(plain::mark)]);
         bounded(&format!("{name}, then question 8 of the marker"), Times::of(&times, 1.0), 1.5);
-        let mut short = [0u8; 131];
-        let mut shorter = [0u8; 131];
-        assert_eq!(both(c, 131, 9, 0), 3 << 48 | 7);
-        let times = rounds(31, [
-            &mut || proved_solve(black_box(c), &mut short, 9),
-            &mut || solver::solve(black_box(c), &mut shorter, 9),
-        ]);
+        assert_eq!(both(file, 131, 9, 0), 3 << 48 | 7);
+        let solved = |solve: Solver| solve(black_box(file), &mut [0; 131], 9);
+        let times = rounds(31, [&mut || solved(proved_solve), &mut || solved(solver::solve)]);
         bounded(&format!("{name}, then question 7 of the solver"), Times::of(&times, 1.0), 1.5);
     }
+}
 
+fn time_growth() {
     head("(d) growth with n, ns for each choice beyond the set's own");
     for free in 0..=12 {
         let file = sets::hopeless(free);
         let (end, times) = choosing(&file, 50_000);
-        row(&format!("n {:>2}, {:>2} records, {} {}", free + 4, file.len() / 4, verdict(end), count(end)), times);
+        let name = format!("n {:>2}, {:>2} records, {} {}", free + 4, file.len() / 4, verdict(end), count(end));
+        row(&name, times);
     }
     head("    growth with records, ns for each choice beyond the set's own");
     let hard = &sets::hopeless(8);
@@ -279,11 +299,22 @@ fn main() {
         let (end, times) = choosing(&file, allowance);
         row(&format!("{:>3} records, {} {}", file.len() / 4, verdict(end), count(end)), times);
     }
-    head("    growth with records, a set without choices, ns for each set");
+    head("    growth with records, a set without choices, n 3, ns for each set");
     for records in [1, 2, 4, 8, 16, 32, 64, 128, 256] {
-        // n is 3
         let file = sets::repeated(&[5, 1, 2, 0, 1, 0, 1, 0, 2, 0, 2, 0, 8, 1, 0, 5], records);
         let end = both(&file, 132, u32::MAX, 0);
         row(&format!("{records:>3} records, {} {}", verdict(end), count(end)), solving(&file, u32::MAX, 1.0));
     }
+}
+
+fn main() {
+    let dir = std::env::args().nth(1).expect("the directory of the inputs");
+    let inputs = inputs(&dir);
+    let day = sets::day(20_261_115, 40_000);
+    agree(&inputs, &day, 100_000);
+    time_files(&inputs);
+    time_day(&day);
+    time_marker();
+    time_gate(&inputs);
+    time_growth();
 }

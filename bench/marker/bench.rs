@@ -41,6 +41,12 @@ fn main() {
         assert_eq!(case.constraints.len(), 1024);
         assert_eq!(markers.map(|mark| mark(&case.constraints, &case.answer)), [0; 3]);
         let [p, walking, sets] = nanoseconds(markers, &case);
-        println!("| {} | {p:.0} ns | {:.0} | {walking:.0} ns | {:.2} | {sets:.0} ns | {:.2} |", case.name, 1e9 / p, p / walking, p / sets);
+        println!(
+            "| {} | {p:.0} ns | {:.0} | {walking:.0} ns | {:.2} | {sets:.0} ns | {:.2} |",
+            case.name,
+            1e9 / p,
+            p / walking,
+            p / sets
+        );
     }
 }
