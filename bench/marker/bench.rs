@@ -3,7 +3,10 @@
 use std::hint::black_box;
 use std::time::Instant;
 
+mod cases;
 mod plain;
+
+use cases::{agree, cases, Case};
 
 extern "C" {
     fn cudreth_mark(constraints: *const u8, constraints_len: usize, answer: *const u8, answer_len: usize) -> u64;
@@ -11,140 +14,6 @@ extern "C" {
 
 fn proved(constraints: &[u8], answer: &[u8]) -> u64 {
     unsafe { cudreth_mark(constraints.as_ptr(), constraints.len(), answer.as_ptr(), answer.len()) }
-}
-
-// A small generator of numbers, so that every run has the same cases.
-struct Rng(u64);
-
-impl Rng {
-    fn below(&mut self, n: u64) -> u64 {
-        self.0 ^= self.0 << 13;
-        self.0 ^= self.0 >> 7;
-        self.0 ^= self.0 << 17;
-        (self.0 >> 11) % n
-    }
-}
-
-struct Case {
-    name: &'static str,
-    constraints: Vec<u8>,
-    answer: Vec<u8>,
-}
-
-fn answer(parents: &[u8], labels: &[u8], places: &[u8]) -> Vec<u8> {
-    let mut bytes = Vec::new();
-    for v in 0..parents.len() {
-        bytes.extend([1, v as u8, parents[v], labels[v]]);
-    }
-    for x in 0..places.len() {
-        bytes.extend([2, x as u8, places[x], 0]);
-    }
-    bytes
-}
-
-// 256 records that are met: at each position `draw` draws until one is.
-fn met(answer: &[u8], draw: &mut dyn FnMut(usize) -> [u8; 4]) -> Vec<u8> {
-    // the last record names variable 15, so that n is 16 in each trial
-    let name_all = [4, 15, 15, 0];
-    let mut bytes = Vec::new();
-    while bytes.len() < 1020 {
-        let record = draw(bytes.len() / 4);
-        let mut trial = record.to_vec();
-        trial.extend(name_all);
-        if plain::mark(&trial, answer) == 0 {
-            bytes.extend(record);
-        }
-    }
-    bytes.extend(name_all);
-    bytes
-}
-
-fn cases() -> Vec<Case> {
-    let mut rng = Rng(88172645463325252);
-    let chain: Vec<u8> = (0..64).map(|v: u8| v.saturating_sub(1)).collect();
-    let star = vec![0u8; 64];
-    let random: Vec<u8> = (0..64u64).map(|v| if v == 0 { 0 } else { rng.below(v) as u8 }).collect();
-    let labels: Vec<u8> = (0..64).map(|_| 1 + rng.below(4) as u8).collect();
-    // each kind is met by some variables: some pairs are parent and child, and some share a node
-    let mut spread: Vec<u8> = Vec::new();
-    for x in 0..16usize {
-        let v = match x % 4 {
-            0 => rng.below(64) as u8,
-            1 => random[spread[x - 1] as usize],
-            2 => spread[x / 2],
-            _ => rng.below(64) as u8,
-        };
-        spread.push(v);
-    }
-    spread[0] = 0;
-    let mixed_answer = answer(&random, &labels, &spread);
-    let kinds: Vec<u8> = (0..256).map(|_| 1 + rng.below(8) as u8).collect();
-    let mixed = met(&mixed_answer, &mut |position| {
-        let (x, y) = (rng.below(16) as u8, rng.below(16) as u8);
-        match kinds[position] {
-            kind @ (6 | 7) => [kind, x, 0, 0],
-            8 => [8, x, 0, labels[spread[x as usize] as usize]],
-            kind => [kind, x, y, 0],
-        }
-    });
-    let leaves: Vec<u8> = (0..16).map(|_| 1 + rng.below(63) as u8).collect();
-    let star_answer = answer(&star, &labels, &leaves);
-    let leaf = met(&star_answer, &mut |_| [7, rng.below(16) as u8, 0, 0]);
-    let depths: Vec<u8> = (0..16).map(|_| rng.below(64) as u8).collect();
-    let chain_answer = answer(&chain, &labels, &depths);
-    let below = met(&chain_answer, &mut |_| [2, rng.below(16) as u8, rng.below(16) as u8, 0]);
-    // all below the bottom: the longest ways up
-    let ends: Vec<u8> = (0..16).map(|x| if x < 8 { 0 } else { 63 }).collect();
-    let ends_answer = answer(&chain, &labels, &ends);
-    let longest = met(&ends_answer, &mut |_| [2, rng.below(8) as u8, 8 + rng.below(8) as u8, 0]);
-    vec![
-        Case { name: "mixed kinds", constraints: mixed, answer: mixed_answer },
-        Case { name: "leaf on a star", constraints: leaf, answer: star_answer },
-        Case { name: "below on a chain", constraints: below, answer: chain_answer },
-        Case { name: "below, top to bottom", constraints: longest, answer: ends_answer },
-    ]
-}
-
-// The three markers agree on files drawn at random: small bytes, whole records and files that nearly pass, so that every answer comes.
-fn agree(markers: [fn(&[u8], &[u8]) -> u64; 3], rounds: usize) -> usize {
-    let mut rng = Rng(7046029254386353131);
-    let mut seen = std::collections::BTreeSet::new();
-    for _ in 0..rounds {
-        let mut constraints = Vec::new();
-        let mut n = 0;
-        for _ in 0..rng.below(5) {
-            let (kind, x, y) = (1 + rng.below(8) as u8, rng.below(4) as u8, rng.below(4) as u8);
-            constraints.extend(match kind {
-                6 | 7 => [kind, x, 0, 0],
-                8 => [8, x, 0, 1 + rng.below(2) as u8],
-                _ => [kind, x, y, 0],
-            });
-            n = n.max(x + 1).max(if kind < 6 { y + 1 } else { 0 });
-        }
-        let most = if rng.below(50) == 0 { 70 } else { 6 };
-        let nodes = 1 + rng.below(most);
-        let parents: Vec<u8> = (0..nodes).map(|v| if v == 0 { 0 } else { rng.below(v) as u8 }).collect();
-        let labels: Vec<u8> = (0..nodes).map(|_| rng.below(3) as u8).collect();
-        let places: Vec<u8> = (0..n).map(|_| rng.below(nodes) as u8).collect();
-        let mut sheet = answer(&parents, &labels, &places);
-        // half of them with a byte changed, put in or taken out
-        for file in [&mut constraints, &mut sheet] {
-            if rng.below(4) == 0 && !file.is_empty() {
-                let at = rng.below(file.len() as u64) as usize;
-                match rng.below(8) {
-                    0 => file.insert(at, 1),
-                    1 => drop(file.remove(at)),
-                    2 => file.extend(vec![1; 1024]),
-                    _ => file[at] = rng.below(20) as u8,
-                }
-            }
-        }
-        let answers = markers.map(|mark| mark(&constraints, &sheet));
-        assert!(answers == [answers[0]; 3], "{constraints:?} {sheet:?} {answers:x?}");
-        // verdict with the kind, or with the question
-        seen.insert(if answers[0] >> 48 == 3 { answers[0] } else { answers[0] >> 32 });
-    }
-    seen.len()
 }
 
 // Nanoseconds for a mark by each of three markers: the least of many short runs, taken in turn, which is what the machine can do when
@@ -172,6 +41,12 @@ fn main() {
         assert_eq!(case.constraints.len(), 1024);
         assert_eq!(markers.map(|mark| mark(&case.constraints, &case.answer)), [0; 3]);
         let [p, walking, sets] = nanoseconds(markers, &case);
-        println!("| {} | {p:.0} ns | {:.0} | {walking:.0} ns | {:.2} | {sets:.0} ns | {:.2} |", case.name, 1e9 / p, p / walking, p / sets);
+        println!(
+            "| {} | {p:.0} ns | {:.0} | {walking:.0} ns | {:.2} | {sets:.0} ns | {:.2} |",
+            case.name,
+            1e9 / p,
+            p / walking,
+            p / sets
+        );
     }
 }
