@@ -1,7 +1,7 @@
 -- The tables while the file is read: they hold given facts only; every constraint is still to come or all its facts are held, unless two
 -- labels have clashed.
 use mathlib.Core.Path.{_≡_, refl, sym, _∙_, subst}
-use mathlib.Core.Logic.{_≢_, _⊎_, inl, inr, ⊎-elim}
+use mathlib.Core.Logic.{_↔_, _≢_, _⊎_, inl, inr, ⊎-elim}
 use mathlib.Core.Bool.{Bool, true, false, _||_}
 use mathlib.Core.List.{List, [], List·Memᴰ, List·Memᴰ·head, List·Memᴰ·cases-cons, List·Memᴰ·not-nil, Memᴰ·append-right}
 use Prim.Native.Nat.{ℕ, _+_, _*_, _/_, _%_, _<_}
@@ -155,3 +155,6 @@ seeded cs i f s e = record {
   held = λ φ m. let w = fact-from cs φ m in ⊎-elim (λ n. absurd (List·Memᴰ·not-nil (rw e at n))) (λ g. g φ (w .2)) (s .held refl (w .0) (w .1));
   sound = λ φ u. given (s .sound φ u);
 }
+
+pub seeded-exact : (cs : List Constraint) (i : ℕ) (f : Facts) → Seeding cs i false f → drop i cs ≡ [] → (φ : Fact) → Yes (has f φ) ↔ List·Memᴰ φ (factsOf cs)
+seeded-exact cs i f s e φ = (s .sound φ, λ m. seeded cs i f s e .held φ m)

@@ -8,7 +8,7 @@ use Rattle.constraints.specs.Judgement.{constraintsIn}
 use Rattle.constraints.proofs.Records.{accepted-file}
 use Rattle.tables.specs.declared.Facts.{Facts}
 use Rattle.seed.specs.Seeds.{noFacts}
-use Rattle.seed.proofs.Seeding.{Seeding, seeding-start, seeding-step, none-left, seeded}
+use Rattle.seed.proofs.Seeding.{Seeding, seeding-start, seeding-step, none-left, seeded, seeded-exact}
 use borrow.Author.Needs.{needs}
 use Rattle.seed.proofs.seed.Statement.{statement}
 use Rattle.seed.proofs.seed.Tie as tie
@@ -235,6 +235,8 @@ returns c =
     record {
       clashes = λ e. loop .loop .inv .1 .clashed (c .before .if1 .taken);
       cleared = λ e. c .blank .ensures;
+      exact = λ e. let z : _≡_ {A = ℕ} 0 1 = cc in absurd (omega arith);
+      unmirrored = λ e. let z : _≡_ {A = ℕ} 0 1 = cc in absurd (omega arith);
       seeded = λ e. let z : _≡_ {A = ℕ} 0 1 = cc in absurd (omega arith);
     }
 
@@ -247,6 +249,8 @@ returns-2 c =
     record {
       clashes = λ e. let z : _≡_ {A = ℕ} 0 1 = cc in absurd (omega arith);
       cleared = λ e. let z : _≡_ {A = ℕ} 0 1 = cc in absurd (omega arith);
+      exact = λ e. seeded-exact _ _ _ (rw (c .if1 .left) at (loop .loop .inv .1)) (none-left _ _ file (loop .loop .position) (omega arith));
+      unmirrored = λ e. (refl, refl);
       seeded = λ e. seeded _ _ _ (rw (c .if1 .left) at (loop .loop .inv .1)) (none-left _ _ file (loop .loop .position) (omega arith));
     }
 
