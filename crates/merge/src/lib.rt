@@ -107,8 +107,15 @@ fn unify(f: Facts, x: u16) -> Round
     let up = near | far;
     let group = up & down;
     let others = union_rows(differ, group);
+    if tables::meet(others, group) {
+        return Round {
+            clash: true,
+            next: 0,
+            facts: f,
+        };
+    }
     let shown = label_of(label, group);
-    if tables::meet(others, group) | two_labels(label, group, shown) {
+    if two_labels(label, group, shown) {
         return Round {
             clash: true,
             next: 0,
