@@ -1,19 +1,20 @@
--- What the loops over one table know after x rows: rows changed, a row gathered from the rows named, and their labels.
+-- What the loops over one table know after some rows: rows changed, the rows named gathered or compared, and their labels.
 use mathlib.Core.Path.{_≡_, refl, sym, _∙_, subst}
-use mathlib.Core.Logic.{_≢_, ⊎-elim}
+use mathlib.Core.Logic.{_≢_, _⊎_, inl, inr, ⊎-elim}
 use mathlib.Core.Bool.{Bool, true, false, false≢true, _&&_, _||_, not}
 use mathlib.Core.List.{List}
-use Prim.Native.Nat.{ℕ, _+_, _<_, _≤_}
+use Prim.Native.Nat.{ℕ, _+_, _^_, _<_, _≤_}
 use native.Mathlib.Nat.{le-trans, not-suc-le-zero}
 use native.Mathlib.Decide.{decLt, ℕ-discrete}
 use native.Mathlib.Omega.{arith}
 use lib.Dec.{eqb}
+use lib.Bits.{bitOr, bitAnd, bitXor, and-le-l, or-lt}
 use Rattle.meaning.specs.Finite.{Yes, neg, pick}
 use Rattle.meaning.proofs.Tests.{yes-case, clash, is-eq, eq-yes, pick-yes, pick-no}
 use Rattle.rowbits.specs.Bit.{bit}
 use Rattle.tables.specs.Tables.{row}
-use Rattle.tables.specs.Rows.{gained, without}
-use Rattle.tables.proofs.Bits.{none-in, gained-up, gained-has, gained-case, some-in, in-row, without-in, without-out}
+use Rattle.tables.specs.Rows.{without, Lowest}
+use Rattle.tables.proofs.Bits.{none-in, or-case, or-l, or-r, one-is, some-in, in-row, without-in, without-out, without-less}
 use Rattle.tables.proofs.Loops.{below-cases, Rowing}
 use Rattle.merge.specs.Rows.{Union, Gap, Apart, LabelOf, TwoLabels, Painted}
 use Rattle.tables.proofs.Tested.{or-yes, or-no, and-yes, yes-and, not-eq, eq-not, not-yes}
@@ -38,59 +39,96 @@ unfolding pick
 was-painted t rows l x r small h h2 w =
     record { paints = all-rows (λ b v. pick b l v) (λ v. refl) rows small t r (λ k q. w .done k (le-trans q h)) (λ k q. w .rest k (le-trans h2 q)) }
 
--- ---- a row gathered from h i for each i named
+-- ---- the rows named, taken one by one
 
-pub record Gathered (h : ℕ → ℕ) (rows x a : ℕ) : Type 0 where
-  pub from : (j : ℕ) → Yes (bit a j) → (i : ℕ) × Yes (bit rows i) × Yes (bit (h i) j)
-  pub to : (i j : ℕ) → i < x → Yes (bit rows i) → Yes (bit (h i) j) → Yes (bit a j)
+pub lowest-in : (r k : ℕ) → r < 65536 → r ≢ 0 → Lowest r k → k < 16
+lowest-in r k small some low = go (decLt k 16)
+  where
+    go : Dec (k < 16) → k < 16
+    go (yes l) = l
+    go (no l) = let w = some-in r small some in let q = in-row r (w .0) small (w .1) in absurd (low .none (w .0) (omega arith) (w .1))
 
-pub gathered-none : (h : ℕ → ℕ) (rows : ℕ) → Gathered h rows 0 0
-gathered-none h rows = record { from = λ j t. none-in j t; to = λ i j l. absurd (not-suc-le-zero l) }
+-- P holds of every row named but those that are left
+pub record Passed (P : ℕ → Type 0) (rows rest : ℕ) : Type 0 where
+  pub small : rest < 65536
+  pub left : (i : ℕ) → Yes (bit rest i) → Yes (bit rows i)
+  pub past : (i : ℕ) → Yes (bit rows i) → P i ⊎ Yes (bit rest i)
 
-pub gathered-more : (h : ℕ → ℕ) (rows x a b : ℕ) → b ≡ gained (bit rows x) a (h x) → Gathered h rows x a → Gathered h rows (x + 1) b
-gathered-more h rows x a b e g = record {
-  from = λ j u. ⊎-elim (g .from j) (λ w. (x, w .0, w .1)) (gained-case (bit rows x) a (h x) j (subst (λ (k : ℕ). Yes (bit k j)) e u));
-  to = λ i j l u v. subst (λ (k : ℕ). Yes (bit k j)) (sym e) (⊎-elim
-      (λ q. gained-has (bit rows x) a (h x) j (subst (λ (k : ℕ). Yes (bit rows k)) q u) (subst (λ (k : ℕ). Yes (bit (h k) j)) q v))
-      (λ m. gained-up (bit rows x) a (h x) .kept j (g .to i j m u v)) (below-cases l));
-}
+pub passed-none : (P : ℕ → Type 0) (rows : ℕ) → rows < 65536 → Passed P rows rows
+passed-none P rows small = record { small = small; left = λ i u. u; past = λ i u. inr u }
 
-pub no-union : (t : List ℕ) (rows : ℕ) → rows ≡ 0 → Union t rows 0
-no-union t rows e = record {
-  small = omega arith;
-  from = λ j u. none-in j u;
-  to = λ i j u v. none-in i (subst (λ (k : ℕ). Yes (bit k i)) e u);
-}
+module _ (P : ℕ → Type 0) (rows rest x : ℕ) (w : Passed P rows rest) (some : rest ≢ 0) (low : Lowest rest x) where
+  pub next-in : x < 16
+  next-in = lowest-in rest x (w .small) some low
 
-pub is-union : (t : List ℕ) (rows x a : ℕ) → rows < 65536 → a < 65536 → 16 ≤ x → Gathered (row t) rows x a → Union t rows a
-is-union t rows x a small s l g = record { small = s; from = g .from; to = λ i j u v. g .to i j (le-trans (in-row rows i small u) l) u v }
+  pub next-named : Yes (bit rows x)
+  next-named = w .left x (low .this next-in)
 
-pub not-apart : (t : List ℕ) (rows : ℕ) → rows ≡ 0 → Apart t rows 0
-not-apart t rows e = record { none = λ _ i j u. none-in i (subst (λ (k : ℕ). Yes (bit k i)) e u); some = λ n. absurd (n refl) }
+  pub passed-less : without rest (2 ^ x) < rest
+  passed-less = without-less rest x next-in (low .this next-in)
 
-module _ (t : List ℕ) (rows x a : ℕ) (small : rows < 65536) (s : a < 65536) (l : 16 ≤ x) (g : Gathered (λ i. without rows (row t i)) rows x a) where
-  gap : a ≢ 0 → Gap t rows
-  gap z =
-      let w = some-in a s z in
-      let v = g .from (w .0) (w .1) in
-      let k = without-out rows (row t (v .0)) (w .0) (in-row a (w .0) s (w .1)) (v .2) in
-      record { at = v .0; lacks = w .0; at-in = v .1; lacks-in = k .0; missing = k .1 }
-
-  whole : a ≡ 0 → (i j : ℕ) → Yes (bit rows i) → Yes (bit rows j) → Yes (bit (row t i) j)
-  whole e i j u v =
-      ⊎-elim (λ y. y)
-      (λ y. none-in j (subst (λ (k : ℕ). Yes (bit k j)) e (g .to i j (le-trans (in-row rows i small u) l) u (without-in rows (row t i) j (in-row rows j small v) v (λ q. clash q y)))))
-      (yes-case (bit (row t i) j))
-
-  pub is-apart : (r : ℕ) → r ≡ pick (not (eqb a 0)) rows 0 → Apart t rows r
-  is-apart r e = go (ℕ-discrete a 0)
+  pub passed-more : (Q : ℕ → Type 0) → ((i : ℕ) → P i → Q i) → Q x → Passed Q rows (without rest (2 ^ x))
+  passed-more Q up q = record {
+    small = let l = passed-less in let k = w .small in omega arith;
+    left = λ i u. w .left i (without-out rest (2 ^ x) i (in-row _ i (let l = passed-less in let k = w .small in omega arith) u) u .0);
+    past = λ i u. ⊎-elim (λ p. inl (up i p)) (λ v. this i v (ℕ-discrete i x)) (w .past i u);
+  }
     where
-      go : Dec (a ≡ 0) → Apart t rows r
-      go (yes z) = record { none = λ _. whole z; some = λ n. absurd (n (e ∙ pick-no rows 0 (λ y. not-eq a 0 y z))) }
-      go (no z) = record {
-        none = λ q i j u. none-in i (subst (λ (k : ℕ). Yes (bit k i)) (sym (e ∙ pick-yes rows 0 (eq-not a 0 z)) ∙ q) u);
-        some = λ _. (e ∙ pick-yes rows 0 (eq-not a 0 z), gap z);
-      }
+      this : (i : ℕ) → Yes (bit rest i) → Dec (i ≡ x) → Q i ⊎ Yes (bit (without rest (2 ^ x)) i)
+      this i v (yes e) = inl (subst Q (sym e) q)
+      this i v (no e) = inr (without-in rest (2 ^ x) i (in-row rest i (w .small) v) v (λ y. e (one-is x i y)))
+
+pub passed-all : (P : ℕ → Type 0) (rows rest : ℕ) → Passed P rows rest → rest ≡ 0 → (i : ℕ) → Yes (bit rows i) → P i
+passed-all P rows rest w z i u = ⊎-elim (λ p. p) (λ v. none-in i (subst (λ (k : ℕ). Yes (bit k i)) z v)) (w .past i u)
+
+-- ---- what they hold together
+
+abbrev pub Within : List ℕ → ℕ → ℕ → Type 0
+Within t a i = (j : ℕ) → Yes (bit (row t i) j) → Yes (bit a j)
+
+pub record Uniting (t : List ℕ) (rows a rest : ℕ) : Type 0 where
+  pub small : a < 65536
+  pub from : (j : ℕ) → Yes (bit a j) → (i : ℕ) × Yes (bit rows i) × Yes (bit (row t i) j)
+  pub passed : Passed (Within t a) rows rest
+
+pub uniting-none : (t : List ℕ) (rows : ℕ) → rows < 65536 → Uniting t rows 0 rows
+uniting-none t rows small = record { small = omega arith; from = λ j u. none-in j u; passed = passed-none _ rows small }
+
+pub uniting-more : (t : List ℕ) (rows a rest x : ℕ) → Uniting t rows a rest → rest ≢ 0 → Lowest rest x → row t x < 65536
+    → Uniting t rows (bitOr a (row t x)) (without rest (2 ^ x))
+uniting-more t rows a rest x w some low s = record {
+  small = or-lt 16 a (row t x) (w .small) s;
+  from = λ j u. ⊎-elim (w .from j) (λ v. (x, next-named _ rows rest x (w .passed) some low, v)) (or-case a (row t x) j u);
+  passed = passed-more _ rows rest x (w .passed) some low _ (λ i p j u. or-l a (row t x) j (p j u)) (λ j u. or-r a (row t x) j u);
+}
+
+pub is-union : (t : List ℕ) (rows a rest : ℕ) → Uniting t rows a rest → rest ≡ 0 → Union t rows a
+is-union t rows a rest w z = record { small = w .small; from = w .from; to = λ i j u v. passed-all _ rows rest (w .passed) z i u j v }
+
+-- ---- whether one of them lacks one
+
+abbrev pub Whole : List ℕ → ℕ → ℕ → Type 0
+Whole t rows i = (j : ℕ) → Yes (bit rows j) → Yes (bit (row t i) j)
+
+pub is-whole : (t : List ℕ) (rows x : ℕ) → rows < 65536 → without rows (row t x) ≡ 0 → Whole t rows x
+is-whole t rows x small z j v =
+    ⊎-elim (λ y. y)
+    (λ y. none-in j (subst (λ (k : ℕ). Yes (bit k j)) z (without-in rows (row t x) j (in-row rows j small v) v (λ q. clash q y))))
+    (yes-case (bit (row t x) j))
+
+pub is-apart : (t : List ℕ) (rows x : ℕ) → rows < 65536 → Yes (bit rows x) → without rows (row t x) ≢ 0 → Apart t rows rows
+unfolding without
+is-apart t rows x small u z =
+    let s : bitAnd rows (bitXor (row t x) 65535) < 65536 = let l = and-le-l rows (bitXor (row t x) 65535) in omega arith in
+    let w = some-in _ s z in
+    let k = without-out rows (row t x) (w .0) (in-row _ (w .0) s (w .1)) (w .1) in
+    record {
+      none = λ e. none-in x (subst (λ (k : ℕ). Yes (bit k x)) e u);
+      some = λ _. (refl, record { at = x; lacks = w .0; at-in = u; lacks-in = k .0; missing = k .1 });
+    }
+
+pub not-apart : (t : List ℕ) (rows rest : ℕ) → Passed (Whole t rows) rows rest → rest ≡ 0 → Apart t rows 0
+not-apart t rows rest w z = record { none = λ _ i j u v. passed-all _ rows rest w z i u j v; some = λ n. absurd (n refl) }
 
 -- ---- labels
 

@@ -22,12 +22,12 @@ fn union_rows(t: [u16; 16], rows: u16) -> u16
     ensures { λ r. ⌜ Union t rows r ⌝ }
 {
     let mut a: u16 = 0;
-    if rows == 0 {
-        return a;
-    }
-    for x in 0usize..16 {
+    let mut rest = rows;
+    while rest != 0 {
+        let x = tables::lowest(rest);
         let v = t[x];
-        a = tables::gain(rowbits::has(rows, x), a, v);
+        a = a | v;
+        rest = tables::except(rest, tables::one(x));
     }
     a
 }
@@ -36,15 +36,16 @@ fn union_rows(t: [u16; 16], rows: u16) -> u16
 fn apart(t: [u16; 16], rows: u16) -> u16
     ensures { λ r. ⌜ Apart t rows r ⌝ }
 {
-    let mut a: u16 = 0;
-    if rows == 0 {
-        return a;
-    }
-    for x in 0usize..16 {
+    let mut rest = rows;
+    while rest != 0 {
+        let x = tables::lowest(rest);
         let v = t[x];
-        a = tables::gain(rowbits::has(rows, x), a, tables::except(rows, v));
+        if tables::except(rows, v) != 0 {
+            return rows;
+        }
+        rest = tables::except(rest, tables::one(x));
     }
-    tables::when(a != 0, rows)
+    0
 }
 
 // A label of the variables named, or 0 where none has one.
