@@ -132,55 +132,33 @@ not-apart t rows rest w z = record { none = λ _ i j u v. passed-all _ rows rest
 
 -- ---- labels
 
-pub record LabelSoFar (t : List ℕ) (rows x l : ℕ) : Type 0 where
-  pub none : l ≡ 0 → (i : ℕ) → i < x → Yes (bit rows i) → row t i ≡ 0
-  pub some : l ≢ 0 → (i : ℕ) × Yes (bit rows i) × (row t i ≡ l)
+abbrev pub Unlabelled : List ℕ → ℕ → Type 0
+Unlabelled t i = row t i ≡ 0
 
-pub label-none : (t : List ℕ) (rows : ℕ) → LabelSoFar t rows 0 0
-label-none t rows = record { none = λ _ i l. absurd (not-suc-le-zero l); some = λ n. absurd (n refl) }
+pub is-label : (t : List ℕ) (rows x : ℕ) → Yes (bit rows x) → row t x ≢ 0 → LabelOf t rows (row t x)
+is-label t rows x u n = record { none = λ z. absurd (n z); some = λ _. (x, u, refl) }
 
-pub label-more : (t : List ℕ) (rows x l m : ℕ) → m ≡ pick (bit rows x && not (eqb (row t x) 0)) (row t x) l → LabelSoFar t rows x l → LabelSoFar t rows (x + 1) m
-label-more t rows x l m e g = ⊎-elim new old (yes-case (bit rows x && not (eqb (row t x) 0)))
-  where
-    new : Yes (bit rows x && not (eqb (row t x) 0)) → LabelSoFar t rows (x + 1) m
-    new y =
-        let w = and-yes _ _ y in
-        let k : m ≡ row t x = e ∙ pick-yes (row t x) l y in
-        record { none = λ z. absurd (not-eq _ _ (w .1) (sym k ∙ z)); some = λ _. (x, w .0, sym k) }
+pub no-label : (t : List ℕ) (rows rest : ℕ) → Passed (Unlabelled t) rows rest → rest ≡ 0 → LabelOf t rows 0
+no-label t rows rest w z = record { none = λ _. passed-all _ rows rest w z; some = λ n. absurd (n refl) }
 
-    old : Yes (neg (bit rows x && not (eqb (row t x) 0))) → LabelSoFar t rows (x + 1) m
-    old y =
-        let k : m ≡ l = e ∙ pick-no (row t x) l (λ u. clash u y) in
-        record {
-          none = λ z i q u. ⊎-elim
-              (λ c. ⊎-elim is-eq
-              (λ d. clash (yes-and _ _ (subst (λ (j : ℕ). Yes (bit rows j)) c u) (eq-not (row t x) 0 (λ b. clash (subst (λ (j : ℕ). Yes (eqb (row t j) 0)) (sym c) (eq-yes b)) d))) y)
-              (yes-case (eqb (row t i) 0)))
-              (λ c. g .none (sym k ∙ z) i c u) (below-cases q);
-          some = λ n. let w = g .some (λ z. n (k ∙ z)) in (w .0, w .1, w .2 ∙ sym k);
-        }
+abbrev pub Only : List ℕ → ℕ → ℕ → Type 0
+Only t l i = row t i ≢ 0 → row t i ≡ l
 
-pub is-label-of : (t : List ℕ) (rows x l : ℕ) → rows < 65536 → 16 ≤ x → LabelSoFar t rows x l → LabelOf t rows l
-is-label-of t rows x l small h g = record { none = λ z i u. g .none z i (le-trans (in-row rows i small u) h) u; some = g .some }
+pub only-one : (t : List ℕ) (l x : ℕ) → (not (eqb (row t x) 0) && not (eqb (row t x) l)) ≡ false → Only t l x
+only-one t l x e n = ⊎-elim is-eq (λ d. absurd (not-yes e (yes-and _ _ (eq-not (row t x) 0 n) (eq-not (row t x) l (λ b. clash (eq-yes b) d))))) (yes-case (eqb (row t x) l))
 
-pub record TwoSoFar (t : List ℕ) (rows l x : ℕ) (r : Bool) : Type 0 where
-  pub two : r ≡ true → (i : ℕ) × Yes (bit rows i) × (row t i ≢ 0) × (row t i ≢ l)
-  pub one : r ≡ false → (i : ℕ) → i < x → Yes (bit rows i) → row t i ≢ 0 → row t i ≡ l
+pub is-two : (t : List ℕ) (rows l x : ℕ) → Yes (bit rows x) → Yes (not (eqb (row t x) 0) && not (eqb (row t x) l)) → TwoLabels t rows l true
+is-two t rows l x u y = let w = and-yes _ _ y in record { two = λ _. (x, u, not-eq _ _ (w .0), not-eq _ _ (w .1)); one = λ e. absurd (false≢true (sym e)) }
 
-pub two-none : (t : List ℕ) (rows l : ℕ) → TwoSoFar t rows l 0 false
-two-none t rows l = record { two = λ e. absurd (false≢true e); one = λ _ i q. absurd (not-suc-le-zero q) }
+pub is-one : (t : List ℕ) (rows l rest : ℕ) → Passed (Only t l) rows rest → rest ≡ 0 → TwoLabels t rows l false
+is-one t rows l rest w z = record { two = λ e. absurd (false≢true e); one = λ _. passed-all _ rows rest w z }
 
-pub two-more : (t : List ℕ) (rows l x : ℕ) (r : Bool) → TwoSoFar t rows l x r
-    → TwoSoFar t rows l (x + 1) (r || ((bit rows x && not (eqb (row t x) 0)) && not (eqb (row t x) l)))
-two-more t rows l x r g = record {
-  two = λ e. ⊎-elim (g .two) (λ y. let v = and-yes _ _ y in let w = and-yes _ _ (v .0) in (x, w .0, not-eq _ _ (w .1), not-eq _ _ (v .1))) (or-yes r _ e);
-  one = λ e i q u n. let o = or-no r _ e in ⊎-elim
-      (λ c. ⊎-elim is-eq
-      (λ d. absurd (not-yes (o .1) (yes-and _ _ (yes-and _ _ (subst (λ (j : ℕ). Yes (bit rows j)) c u) (eq-not (row t x) 0 (subst (λ (j : ℕ). row t j ≢ 0) c n)))
-      (eq-not (row t x) l (λ b. clash (subst (λ (j : ℕ). Yes (eqb (row t j) l)) (sym c) (eq-yes b)) d)))))
-      (yes-case (eqb (row t i) l)))
-      (λ c. g .one (o .0) i c u n) (below-cases q);
+pub none-two : (t : List ℕ) (rows l : ℕ) → LabelOf t rows l → l ≡ 0 → TwoLabels t rows l false
+none-two t rows l o z = record { two = λ e. absurd (false≢true e); one = λ _ i u n. absurd (n (o .none z i u)) }
+
+pub none-painted : (t : List ℕ) (rows l : ℕ) → LabelOf t rows l → l ≡ 0 → Painted t rows l t
+none-painted t rows l o z = record {
+  paints = λ i. ⊎-elim
+      (λ y. o .none z i y ∙ sym z ∙ sym (pick-yes l (row t i) y))
+      (λ y. sym (pick-no l (row t i) (λ u. clash u y))) (yes-case (bit rows i));
 }
-
-pub is-two : (t : List ℕ) (rows l x : ℕ) (r : Bool) → rows < 65536 → 16 ≤ x → TwoSoFar t rows l x r → TwoLabels t rows l r
-is-two t rows l x r small h g = record { two = g .two; one = λ e i u. g .one e i (le-trans (in-row rows i small u) h) u }

@@ -52,31 +52,47 @@ fn apart(t: [u16; 16], rows: u16) -> u16
 fn label_of(t: [u8; 16], rows: u16) -> u8
     ensures { λ r. ⌜ LabelOf t rows r ⌝ }
 {
-    let mut a: u8 = 0;
-    for x in 0usize..16 {
+    let mut rest = rows;
+    while rest != 0 {
+        let x = tables::lowest(rest);
         let v = t[x];
-        a = choose(rowbits::has(rows, x) & (v != 0), v, a);
+        if v != 0 {
+            return v;
+        }
+        rest = tables::except(rest, tables::one(x));
     }
-    a
+    0
 }
 
 // Whether one of the variables named has another label than l.
 fn two_labels(t: [u8; 16], rows: u16, l: u8) -> bool
+    requires { ⌜ LabelOf t rows l ⌝ }
     ensures { λ r. ⌜ TwoLabels t rows l r ⌝ }
 {
-    let mut a = false;
-    for x in 0usize..16 {
-        let v = t[x];
-        a = a | (rowbits::has(rows, x) & (v != 0) & (v != l));
+    if l == 0 {
+        return false;
     }
-    a
+    let mut rest = rows;
+    while rest != 0 {
+        let x = tables::lowest(rest);
+        let v = t[x];
+        if (v != 0) & (v != l) {
+            return true;
+        }
+        rest = tables::except(rest, tables::one(x));
+    }
+    false
 }
 
 // The label l given to each of the variables named.
 fn paint(t: [u8; 16], rows: u16, l: u8) -> [u8; 16]
+    requires { ⌜ LabelOf t rows l ⌝ }
     ensures { λ r. ⌜ Painted t rows l r ⌝ }
 {
     let mut a = t;
+    if l == 0 {
+        return a;
+    }
     for x in 0usize..16 {
         let v = a[x];
         a[x] = choose(rowbits::has(rows, x), l, v);

@@ -1,10 +1,10 @@
--- `merge::paint` meets its contract: the rows before x are painted, the others as they were.
+-- `merge::paint` meets its contract: with no label nothing changes; else the rows before x are painted, the others as they were.
 use Prim.Native.Nat.{_≤_, _-_}
 use mir.Val.{Fits}
 use mir.Syntax.{w16}
 use Rattle.rowbits.specs.Bit.{bit}
 use Rattle.tables.proofs.Loops.{Rowing, rowing-none, rowing-more}
-use Rattle.merge.proofs.Loops.{was-painted}
+use Rattle.merge.proofs.Loops.{was-painted, none-painted}
 use Rattle.meaning.specs.Finite.{pick}
 use borrow.Author.Needs.{needs}
 use Rattle.merge.proofs.paint.Statement.{statement}
@@ -15,6 +15,9 @@ Inv-loop rows l a₀ x₀ a x = (x ≤ 16) × Rowing (λ k v. pick (bit rows k) 
 
 abbrev μ-loop : tie.MeasureT-loop
 μ-loop rows l a₀ x₀ a x = 16 - x
+
+returns : tie.Need-returns Inv-loop μ-loop
+returns c = none-painted _ _ _ (c .before .pre) (c .if1 .taken)
 
 loop-holds : tie.Need-loop-holds Inv-loop μ-loop
 loop-holds c = (search needs, rowing-none _ _ _ (search needs))
@@ -40,8 +43,8 @@ loop-less c = search needs
 loop-again : tie.Need-loop-again Inv-loop μ-loop
 loop-again c = (search needs, rowing-more _ _ _ _ _ _ (search needs) (rw (c .choose .ensures, c .before .has .ensures)) (c .before .before .before .loop .inv .1))
 
-returns : tie.Need-returns Inv-loop μ-loop
-returns c = was-painted _ _ _ _ _ (let h : Fits w16 (c .before .before .args .rows) = search needs in h .fits) (search needs) (c .before .loop .inv .0) (c .before .loop .inv .1)
+returns-2 : tie.Need-returns-2 Inv-loop μ-loop
+returns-2 c = was-painted _ _ _ _ _ (let h : Fits w16 (c .before .before .before .args .rows) = search needs in h .fits) (search needs) (c .before .loop .inv .0) (c .before .loop .inv .1)
 
 pub paint-spec : {M : Type 1} → statement M
 paint-spec =
@@ -49,6 +52,7 @@ paint-spec =
     (tie.spec
     Inv-loop
     μ-loop
+    returns
     loop-holds
     array-read-v
     has-requires
@@ -57,4 +61,4 @@ paint-spec =
     add-x
     loop-less
     loop-again
-    returns)
+    returns-2)

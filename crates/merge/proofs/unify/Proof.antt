@@ -56,7 +56,7 @@ label-of-requires : tie.Need-label-of-requires
 label-of-requires c κs = search needs
 
 two-labels-requires : tie.Need-two-labels-requires
-two-labels-requires c κs = search needs
+two-labels-requires c κs = c .label-of .ensures
 
 returns-2 : tie.Need-returns-2
 returns-2 c =
@@ -104,7 +104,7 @@ raise-requires-8 : tie.Need-raise-requires-8
 raise-requires-8 c κs = search needs
 
 paint-requires : tie.Need-paint-requires
-paint-requires c κs = search needs
+paint-requires c κs = c .before .before .before .before .before .before .before .before .before .before .before .before .label-of .ensures
 
 meet-requires-3 : tie.Need-meet-requires-3
 meet-requires-3 c κs = search needs
