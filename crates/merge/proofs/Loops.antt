@@ -8,6 +8,8 @@ use native.Mathlib.Nat.{le-trans, not-suc-le-zero}
 use native.Mathlib.Decide.{decLt, ℕ-discrete}
 use native.Mathlib.Omega.{arith}
 use lib.Dec.{eqb}
+use lib.ListN.{set, length, length-set}
+use lib.Seq.{getD-set-same, getD-set-other}
 use lib.Bits.{bitOr, bitAnd, bitXor, and-le-l, or-lt}
 use Rattle.meaning.specs.Finite.{Yes, neg, pick}
 use Rattle.meaning.proofs.Tests.{yes-case, clash, is-eq, eq-yes, pick-yes, pick-no}
@@ -33,11 +35,6 @@ all-rows new same rows small t r within beyond i = go (decLt i 16)
     go : Dec (i < 16) → row r i ≡ new (bit rows i) (row t i)
     go (yes l) = within i l
     go (no l) = beyond i (omega arith) ∙ out (bit rows i) refl (omega arith)
-
-pub was-painted : (t : List ℕ) (rows l x : ℕ) (r : List ℕ) → rows < 65536 → 16 ≤ x → x ≤ 16 → Rowing (λ k v. pick (bit rows k) l v) 16 t x r → Painted t rows l r
-unfolding pick
-was-painted t rows l x r small h h2 w =
-    record { paints = all-rows (λ b v. pick b l v) (λ v. refl) rows small t r (λ k q. w .done k (le-trans q h)) (λ k q. w .rest k (le-trans h2 q)) }
 
 -- ---- the rows named, taken one by one
 
@@ -161,4 +158,34 @@ none-painted t rows l o z = record {
   paints = λ i. ⊎-elim
       (λ y. o .none z i y ∙ sym z ∙ sym (pick-yes l (row t i) y))
       (λ y. sym (pick-no l (row t i) (λ u. clash u y))) (yes-case (bit rows i));
+}
+
+pub record Painting (t : List ℕ) (rows l : ℕ) (a : List ℕ) (rest : ℕ) : Type 0 where
+  pub long : length a ≡ 16
+  pub passed : Passed (λ i. row a i ≡ l) rows rest
+  pub kept : (i : ℕ) → ¬ Yes (bit rows i) → row a i ≡ row t i
+
+pub painting-none : (t : List ℕ) (rows l : ℕ) → length t ≡ 16 → rows < 65536 → Painting t rows l t rows
+painting-none t rows l long small = record { long = long; passed = passed-none _ rows small; kept = λ i n. refl }
+
+pub painting-more : (t : List ℕ) (rows l : ℕ) (a : List ℕ) (rest x : ℕ) → Painting t rows l a rest → rest ≢ 0 → Lowest rest x
+    → Painting t rows l (set a x l) (without rest (2 ^ x))
+painting-more t rows l a rest x w some low = record {
+  long = length-set a x l ∙ w .long;
+  passed = passed-more _ rows rest x (w .passed) some low _ (λ i p. up i p (ℕ-discrete i x)) here;
+  kept = λ i n. getD-set-other a x i l 0 (λ e. n (subst (λ (k : ℕ). Yes (bit rows k)) (sym e) (next-named _ rows rest x (w .passed) some low))) ∙ w .kept i n;
+}
+  where
+    here : row (set a x l) x ≡ l
+    here = getD-set-same a x l 0 (rw (w .long) (next-in _ rows rest x (w .passed) some low))
+
+    up : (i : ℕ) → row a i ≡ l → Dec (i ≡ x) → row (set a x l) i ≡ l
+    up i p (yes e) = subst (λ (k : ℕ). row (set a x l) k ≡ l) (sym e) here
+    up i p (no e) = getD-set-other a x i l 0 e ∙ p
+
+pub was-painted : (t : List ℕ) (rows l : ℕ) (a : List ℕ) (rest : ℕ) → Painting t rows l a rest → rest ≡ 0 → Painted t rows l a
+was-painted t rows l a rest w z = record {
+  paints = λ i. ⊎-elim
+      (λ y. passed-all _ rows rest (w .passed) z i y ∙ sym (pick-yes l (row t i) y))
+      (λ y. w .kept i (λ u. clash u y) ∙ sym (pick-no l (row t i) (λ u. clash u y))) (yes-case (bit rows i));
 }

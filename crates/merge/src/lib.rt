@@ -1,21 +1,11 @@
 // Entering below(a, b) where it makes variables the same: their group is merged by rows, then that of its parents, and so on upwards.
 ghost use mathlib.Core.Path.{_≡_};
 ghost use Prim.Native.Nat.{_<_, _≤_};
-ghost use Rattle.meaning.specs.Finite.{pick};
 ghost use Rattle.merge.specs.Rows.{Union, Apart, LabelOf, TwoLabels, Painted};
 ghost use Rattle.merge.specs.Merging.{RoundOf, MergedOf};
 use ids::Var;
 use tables::Facts;
 use tables::Settled;
-
-fn choose(t: bool, l: u8, m: u8) -> u8
-    ensures { λ r. ⌜ r ≡ pick t l m ⌝ }
-{
-    if t {
-        return l;
-    }
-    m
-}
 
 // What the rows named hold together.
 fn union_rows(t: [u16; 16], rows: u16) -> u16
@@ -93,9 +83,11 @@ fn paint(t: [u8; 16], rows: u16, l: u8) -> [u8; 16]
     if l == 0 {
         return a;
     }
-    for x in 0usize..16 {
-        let v = a[x];
-        a[x] = choose(rowbits::has(rows, x), l, v);
+    let mut rest = rows;
+    while rest != 0 {
+        let x = tables::lowest(rest);
+        a[x] = l;
+        rest = tables::except(rest, tables::one(x));
     }
     a
 }
