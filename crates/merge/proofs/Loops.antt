@@ -16,7 +16,7 @@ use Rattle.meaning.proofs.Tests.{yes-case, clash, is-eq, eq-yes, pick-yes, pick
 use Rattle.rowbits.specs.Bit.{bit}
 use Rattle.tables.specs.Tables.{row}
 use Rattle.tables.specs.Rows.{without, Lowest}
-use Rattle.tables.proofs.Bits.{none-in, or-case, or-l, or-r, one-is, some-in, in-row, without-in, without-out, without-less}
+use Rattle.tables.proofs.Bits.{none-in, or-case, or-l, or-r, one-is, one-has, one-small, in-both, both-in, some-in, in-row, without-in, without-out, without-less}
 use Rattle.tables.proofs.Loops.{below-cases, Rowing}
 use Rattle.merge.specs.Rows.{Union, Gap, Apart, LabelOf, TwoLabels, Painted}
 use Rattle.tables.proofs.Tested.{or-yes, or-no, and-yes, yes-and, not-eq, eq-not, not-yes}
@@ -126,6 +126,62 @@ is-apart t rows x small u z =
 
 pub not-apart : (t : List ℕ) (rows rest : ℕ) → Passed (Whole t rows) rows rest → rest ≡ 0 → Apart t rows 0
 not-apart t rows rest w z = record { none = λ _ i j u v. passed-all _ rows rest w z i u j v; some = λ n. absurd (n refl) }
+
+-- ---- two rows
+
+two-case : (Q : ℕ → Type 0) (a b : ℕ) → Q a → Q b → (i : ℕ) → Yes (bit (bitOr (2 ^ a) (2 ^ b)) i) → Q i
+two-case Q a b p q i u =
+    ⊎-elim (λ y. subst Q (sym (one-is a i y)) p) (λ y. subst Q (sym (one-is b i y)) q) (or-case (2 ^ a) (2 ^ b) i u)
+
+module _ (t : List ℕ) (a b : ℕ) (ha : a < 16) (hb : b < 16) where
+  abbrev two : ℕ
+  two = bitOr (2 ^ a) (2 ^ b)
+
+  a-in : Yes (bit two a)
+  a-in = or-l (2 ^ a) (2 ^ b) a (one-has a)
+
+  b-in : Yes (bit two b)
+  b-in = or-r (2 ^ a) (2 ^ b) b (one-has b)
+
+  pub is-union-two : row t a < 65536 → row t b < 65536 → Union t two (bitOr (row t a) (row t b))
+  is-union-two sa sb = record {
+    small = or-lt 16 (row t a) (row t b) sa sb;
+    from = λ j u. ⊎-elim (λ y. (a, a-in, y)) (λ y. (b, b-in, y)) (or-case (row t a) (row t b) j u);
+    to = λ i j u. two-case (λ k. Yes (bit (row t k) j) → Yes (bit (bitOr (row t a) (row t b)) j)) a b (or-l (row t a) (row t b) j) (or-r (row t a) (row t b) j) i u;
+  }
+
+  two-small : two < 65536
+  two-small = or-lt 16 (2 ^ a) (2 ^ b) (one-small a ha) (one-small b hb)
+
+  pub not-apart-two : without two (bitAnd (row t a) (row t b)) ≡ 0 → Apart t two 0
+  not-apart-two z = record {
+    none = λ _ i j u v. two-case (λ k. Yes (bit (row t k) j)) a b (both j v .0) (both j v .1) i u;
+    some = λ n. absurd (n refl);
+  }
+    where
+      both : (j : ℕ) → Yes (bit two j) → Yes (bit (row t a) j) × Yes (bit (row t b) j)
+      both j v = in-both (row t a) (row t b) j
+          (⊎-elim (λ y. y)
+          (λ y. none-in j (subst (λ (k : ℕ). Yes (bit k j)) z (without-in two (bitAnd (row t a) (row t b)) j (in-row two j two-small v) v (λ q. clash q y))))
+          (yes-case (bit (bitAnd (row t a) (row t b)) j)))
+
+  pub is-apart-two : without two (bitAnd (row t a) (row t b)) ≢ 0 → Apart t two two
+  unfolding without
+  is-apart-two z =
+      let l = and-le-l two (bitXor (bitAnd (row t a) (row t b)) 65535) in
+      let k = two-small in
+      let s : bitAnd two (bitXor (bitAnd (row t a) (row t b)) 65535) < 65536 = omega arith in
+      let w = some-in _ s z in
+      let o = without-out two (bitAnd (row t a) (row t b)) (w .0) (in-row _ (w .0) s (w .1)) (w .1) in
+      record {
+        none = λ e. none-in a (subst (λ (k : ℕ). Yes (bit k a)) e a-in);
+        some = λ _. (
+          refl,
+          ⊎-elim
+              (λ y. record { at = b; lacks = w .0; at-in = b-in; lacks-in = o .0; missing = λ q. o .1 (both-in (row t a) (row t b) (w .0) y q) })
+              (λ y. record { at = a; lacks = w .0; at-in = a-in; lacks-in = o .0; missing = λ q. clash q y }) (yes-case (bit (row t a) (w .0))),
+        );
+      }
 
 -- ---- labels
 

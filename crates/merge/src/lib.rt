@@ -1,6 +1,7 @@
 // Entering below(a, b) where it makes variables the same: their group is merged by rows, then that of its parents, and so on upwards.
 ghost use mathlib.Core.Path.{_≡_};
-ghost use Prim.Native.Nat.{_<_, _≤_};
+ghost use Prim.Native.Nat.{_<_, _≤_, _^_};
+ghost use lib.Bits.{bitOr};
 ghost use Rattle.merge.specs.Rows.{Union, Apart, LabelOf, TwoLabels, Painted};
 ghost use Rattle.merge.specs.Merging.{RoundOf, MergedOf};
 use ids::Var;
@@ -36,6 +37,30 @@ fn apart(t: [u16; 16], rows: u16) -> u16
         rest = tables::except(rest, tables::one(x));
     }
     0
+}
+
+// What the rows a and b hold together.
+fn union_two(t: [u16; 16], a: usize, b: usize) -> u16
+    requires { ⌜ (a < 16) × (b < 16) ⌝ }
+    ensures { λ r. ⌜ Union t (bitOr (2 ^ a) (2 ^ b)) r ⌝ }
+{
+    let v = t[a];
+    let w = t[b];
+    v | w
+}
+
+// Both a and b, if the row of one lacks one of them; else none.
+fn apart_two(t: [u16; 16], a: usize, b: usize) -> u16
+    requires { ⌜ (a < 16) × (b < 16) ⌝ }
+    ensures { λ r. ⌜ Apart t (bitOr (2 ^ a) (2 ^ b)) r ⌝ }
+{
+    let v = t[a];
+    let w = t[b];
+    let rows = tables::one(a) | tables::one(b);
+    if tables::except(rows, v & w) == 0 {
+        return 0;
+    }
+    rows
 }
 
 // A label of the variables named, or 0 where none has one.
@@ -101,7 +126,8 @@ struct Round {
 
 // One round: the variables of x become the same. All that is at or above one of them and at or below one becomes one group, and shares every
 // fact; a leaf at or above x is the same as all below it, so that these join the group. The parents of the group are left to the next round.
-fn unify(f: Facts, x: u16) -> Round
+fn unify(f: Facts, x: u16, lower: u16, upper: u16) -> Round
+    requires { ⌜ Union (f .below) x lower × Union (f .above) x upper ⌝ }
     ensures { λ r. ⌜ RoundOf f x r ⌝ }
 {
     let below = f.below;
@@ -110,8 +136,8 @@ fn unify(f: Facts, x: u16) -> Round
     let parent = f.parent;
     let differ = f.differ;
     let label = f.label;
-    let down = x | union_rows(below, x);
-    let near = x | union_rows(above, x);
+    let down = x | lower;
+    let near = x | upper;
     let far = union_rows(above, tables::when(tables::meet(near, f.leaf), down));
     let up = near | far;
     let group = up & down;
@@ -163,11 +189,16 @@ pub fn enter_same(f: Facts, n: usize, a: Var, b: Var) -> Settled
     requires { ⌜ (a .0 < n) × (b .0 < n) × (n ≤ 16) ⌝ }
     ensures { λ r. ⌜ MergedOf n f (a .0) (b .0) r ⌝ }
 {
-    let below = f.below;
+    let i = a.0 as usize;
+    let j = b.0 as usize;
+    let mut below = f.below;
+    let mut above = f.above;
     let mut g = f;
-    let mut x = apart(below, tables::one(a.0 as usize) | tables::one(b.0 as usize));
+    let mut x = apart_two(below, i, j);
+    let mut lower = union_two(below, i, j);
+    let mut upper = union_two(above, i, j);
     while x != 0 {
-        let r = unify(g, x);
+        let r = unify(g, x, lower, upper);
         if r.clash {
             return Settled {
                 clash: true,
@@ -176,6 +207,10 @@ pub fn enter_same(f: Facts, n: usize, a: Var, b: Var) -> Settled
         }
         g = r.facts;
         x = r.next;
+        below = g.below;
+        above = g.above;
+        lower = union_rows(below, x);
+        upper = union_rows(above, x);
     }
     Settled {
         clash: false,

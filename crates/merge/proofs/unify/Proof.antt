@@ -18,23 +18,17 @@ root-small c = let h : Fits w16 (c .args .f .root) = search needs in h .fits
 leaf-small : (c : tie.Start) → c .args .f .leaf < 65536
 leaf-small c = let h : Fits w16 (c .args .f .leaf) = search needs in h .fits
 
-union-rows-requires : tie.Need-union-rows-requires
-union-rows-requires c κs = search needs
-
-union-rows-requires-2 : tie.Need-union-rows-requires-2
-union-rows-requires-2 c κs = search needs
-
 meet-requires : tie.Need-meet-requires
 meet-requires c κs = search needs
 
 when-requires : tie.Need-when-requires
 when-requires c κs = search needs
 
-union-rows-requires-3 : tie.Need-union-rows-requires-3
-union-rows-requires-3 c κs = search needs
+union-rows-requires : tie.Need-union-rows-requires
+union-rows-requires c κs = search needs
 
-union-rows-requires-4 : tie.Need-union-rows-requires-4
-union-rows-requires-4 c κs = search needs
+union-rows-requires-2 : tie.Need-union-rows-requires-2
+union-rows-requires-2 c κs = search needs
 
 meet-requires-2 : tie.Need-meet-requires-2
 meet-requires-2 c κs = search needs
@@ -46,11 +40,9 @@ returns c =
     let far = others .before in
     let leafy = far .before in
     let met = leafy .before in
-    let near = met .before in
-    let down = near .before in
-    let s = down .before .before .before .before .before .before .before in
-    round-differs _ _ _ _ _ _ (x-small s) (down .union-rows .ensures) (near .union-rows2 .ensures) (far .union-rows3 .ensures) (rw (leafy .when .ensures, met .meet .ensures))
-    _ (others .union-rows4 .ensures) (sym (differing .meet2 .ensures) ∙ c .if1 .taken)
+    let s = met .before .before .before .before .before .before .before in
+    round-differs _ _ _ _ _ _ (x-small s) (s .pre .0) (s .pre .1) (far .union-rows .ensures) (rw (leafy .when .ensures, met .meet .ensures))
+    _ (others .union-rows2 .ensures) (sym (differing .meet2 .ensures) ∙ c .if1 .taken)
 
 label-of-requires : tie.Need-label-of-requires
 label-of-requires c κs = search needs
@@ -67,17 +59,15 @@ returns-2 c =
     let far = others .before in
     let leafy = far .before in
     let met = leafy .before in
-    let near = met .before in
-    let down = near .before in
-    let s = down .before .before .before .before .before .before .before in
-    round-labels _ _ _ _ _ _ (x-small s) (down .union-rows .ensures) (near .union-rows2 .ensures) (far .union-rows3 .ensures) (rw (leafy .when .ensures, met .meet .ensures))
+    let s = met .before .before .before .before .before .before .before in
+    round-labels _ _ _ _ _ _ (x-small s) (s .pre .0) (s .pre .1) (far .union-rows .ensures) (rw (leafy .when .ensures, met .meet .ensures))
     _ (shown .label-of .ensures) (test .two-labels .ensures .two (c .if2 .taken))
 
-union-rows-requires-5 : tie.Need-union-rows-requires-5
-union-rows-requires-5 c κs = search needs
+union-rows-requires-3 : tie.Need-union-rows-requires-3
+union-rows-requires-3 c κs = search needs
 
-union-rows-requires-6 : tie.Need-union-rows-requires-6
-union-rows-requires-6 c κs = search needs
+union-rows-requires-4 : tie.Need-union-rows-requires-4
+union-rows-requires-4 c κs = search needs
 
 raise-requires : tie.Need-raise-requires
 raise-requires c κs = search needs
@@ -147,17 +137,15 @@ returns-3 c =
     let far = others .before in
     let leafy = far .before in
     let met = leafy .before in
-    let near = met .before in
-    let down = near .before in
-    let s = down .before .before .before .before .before .before .before in
-    round-well _ _ _ _ _ _ (x-small s) (down .union-rows .ensures) (near .union-rows2 .ensures) (far .union-rows3 .ensures) (rw (leafy .when .ensures, met .meet .ensures))
+    let s = met .before .before .before .before .before .before .before in
+    round-well _ _ _ _ _ _ (x-small s) (s .pre .0) (s .pre .1) (far .union-rows .ensures) (rw (leafy .when .ensures, met .meet .ensures))
     (root-small s) (leaf-small s) _ _
     (record {
-      is-parents = parents .union-rows6 .ensures;
+      is-parents = parents .union-rows4 .ensures;
       children = _;
-      is-children = children .union-rows5 .ensures;
+      is-children = children .union-rows3 .ensures;
       others = _;
-      is-others = others .union-rows4 .ensures;
+      is-others = others .union-rows2 .ensures;
       apart = λ y. not-yes (sym (differing .meet2 .ensures) ∙ differs-not .if1 .left) y;
       shown = _;
       is-shown = shown .label-of .ensures;
@@ -183,19 +171,17 @@ pub unify-spec : {M : Type 1} → statement M
 unify-spec =
     tie.close
     (tie.spec
-    union-rows-requires
-    union-rows-requires-2
     meet-requires
     when-requires
-    union-rows-requires-3
-    union-rows-requires-4
+    union-rows-requires
+    union-rows-requires-2
     meet-requires-2
     returns
     label-of-requires
     two-labels-requires
     returns-2
-    union-rows-requires-5
-    union-rows-requires-6
+    union-rows-requires-3
+    union-rows-requires-4
     raise-requires
     raise-requires-2
     raise-requires-3
