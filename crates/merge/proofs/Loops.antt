@@ -1,19 +1,22 @@
--- What the loops over one table know after x rows: rows changed, a row gathered from the rows named, and their labels.
+-- What the loops over one table know after some rows: rows changed, the rows named gathered or compared, and their labels.
 use mathlib.Core.Path.{_≡_, refl, sym, _∙_, subst}
-use mathlib.Core.Logic.{_≢_, ⊎-elim}
+use mathlib.Core.Logic.{_≢_, _⊎_, inl, inr, ⊎-elim}
 use mathlib.Core.Bool.{Bool, true, false, false≢true, _&&_, _||_, not}
 use mathlib.Core.List.{List}
-use Prim.Native.Nat.{ℕ, _+_, _<_, _≤_}
+use Prim.Native.Nat.{ℕ, _+_, _^_, _<_, _≤_}
 use native.Mathlib.Nat.{le-trans, not-suc-le-zero}
 use native.Mathlib.Decide.{decLt, ℕ-discrete}
 use native.Mathlib.Omega.{arith}
 use lib.Dec.{eqb}
+use lib.ListN.{set, length, length-set}
+use lib.Seq.{getD-set-same, getD-set-other}
+use lib.Bits.{bitOr, bitAnd, bitXor, and-le-l, or-lt}
 use Rattle.meaning.specs.Finite.{Yes, neg, pick}
 use Rattle.meaning.proofs.Tests.{yes-case, clash, is-eq, eq-yes, pick-yes, pick-no}
 use Rattle.rowbits.specs.Bit.{bit}
 use Rattle.tables.specs.Tables.{row}
-use Rattle.tables.specs.Rows.{gained, without}
-use Rattle.tables.proofs.Bits.{none-in, gained-up, gained-has, gained-case, some-in, in-row, without-in, without-out}
+use Rattle.tables.specs.Rows.{without, Lowest}
+use Rattle.tables.proofs.Bits.{none-in, or-case, or-l, or-r, one-is, one-has, one-small, in-both, both-in, some-in, in-row, without-in, without-out, without-less}
 use Rattle.tables.proofs.Loops.{below-cases, Rowing}
 use Rattle.merge.specs.Rows.{Union, Gap, Apart, LabelOf, TwoLabels, Painted}
 use Rattle.tables.proofs.Tested.{or-yes, or-no, and-yes, yes-and, not-eq, eq-not, not-yes}
@@ -33,116 +36,212 @@ all-rows new same rows small t r within beyond i = go (decLt i 16)
     go (yes l) = within i l
     go (no l) = beyond i (omega arith) ∙ out (bit rows i) refl (omega arith)
 
-pub was-painted : (t : List ℕ) (rows l x : ℕ) (r : List ℕ) → rows < 65536 → 16 ≤ x → x ≤ 16 → Rowing (λ k v. pick (bit rows k) l v) 16 t x r → Painted t rows l r
-unfolding pick
-was-painted t rows l x r small h h2 w =
-    record { paints = all-rows (λ b v. pick b l v) (λ v. refl) rows small t r (λ k q. w .done k (le-trans q h)) (λ k q. w .rest k (le-trans h2 q)) }
+-- ---- the rows named, taken one by one
 
--- ---- a row gathered from h i for each i named
+pub lowest-in : (r k : ℕ) → r < 65536 → r ≢ 0 → Lowest r k → k < 16
+lowest-in r k small some low = go (decLt k 16)
+  where
+    go : Dec (k < 16) → k < 16
+    go (yes l) = l
+    go (no l) = let w = some-in r small some in let q = in-row r (w .0) small (w .1) in absurd (low .none (w .0) (omega arith) (w .1))
 
-pub record Gathered (h : ℕ → ℕ) (rows x a : ℕ) : Type 0 where
-  pub from : (j : ℕ) → Yes (bit a j) → (i : ℕ) × Yes (bit rows i) × Yes (bit (h i) j)
-  pub to : (i j : ℕ) → i < x → Yes (bit rows i) → Yes (bit (h i) j) → Yes (bit a j)
+-- P holds of every row named but those that are left
+pub record Passed (P : ℕ → Type 0) (rows rest : ℕ) : Type 0 where
+  pub small : rest < 65536
+  pub left : (i : ℕ) → Yes (bit rest i) → Yes (bit rows i)
+  pub past : (i : ℕ) → Yes (bit rows i) → P i ⊎ Yes (bit rest i)
 
-pub gathered-none : (h : ℕ → ℕ) (rows : ℕ) → Gathered h rows 0 0
-gathered-none h rows = record { from = λ j t. none-in j t; to = λ i j l. absurd (not-suc-le-zero l) }
+pub passed-none : (P : ℕ → Type 0) (rows : ℕ) → rows < 65536 → Passed P rows rows
+passed-none P rows small = record { small = small; left = λ i u. u; past = λ i u. inr u }
 
-pub gathered-more : (h : ℕ → ℕ) (rows x a b : ℕ) → b ≡ gained (bit rows x) a (h x) → Gathered h rows x a → Gathered h rows (x + 1) b
-gathered-more h rows x a b e g = record {
-  from = λ j u. ⊎-elim (g .from j) (λ w. (x, w .0, w .1)) (gained-case (bit rows x) a (h x) j (subst (λ (k : ℕ). Yes (bit k j)) e u));
-  to = λ i j l u v. subst (λ (k : ℕ). Yes (bit k j)) (sym e) (⊎-elim
-      (λ q. gained-has (bit rows x) a (h x) j (subst (λ (k : ℕ). Yes (bit rows k)) q u) (subst (λ (k : ℕ). Yes (bit (h k) j)) q v))
-      (λ m. gained-up (bit rows x) a (h x) .kept j (g .to i j m u v)) (below-cases l));
-}
+module _ (P : ℕ → Type 0) (rows rest x : ℕ) (w : Passed P rows rest) (some : rest ≢ 0) (low : Lowest rest x) where
+  pub next-in : x < 16
+  next-in = lowest-in rest x (w .small) some low
 
-pub no-union : (t : List ℕ) (rows : ℕ) → rows ≡ 0 → Union t rows 0
-no-union t rows e = record {
-  small = omega arith;
-  from = λ j u. none-in j u;
-  to = λ i j u v. none-in i (subst (λ (k : ℕ). Yes (bit k i)) e u);
-}
+  pub next-named : Yes (bit rows x)
+  next-named = w .left x (low .this next-in)
 
-pub is-union : (t : List ℕ) (rows x a : ℕ) → rows < 65536 → a < 65536 → 16 ≤ x → Gathered (row t) rows x a → Union t rows a
-is-union t rows x a small s l g = record { small = s; from = g .from; to = λ i j u v. g .to i j (le-trans (in-row rows i small u) l) u v }
+  pub passed-less : without rest (2 ^ x) < rest
+  passed-less = without-less rest x next-in (low .this next-in)
 
-pub not-apart : (t : List ℕ) (rows : ℕ) → rows ≡ 0 → Apart t rows 0
-not-apart t rows e = record { none = λ _ i j u. none-in i (subst (λ (k : ℕ). Yes (bit k i)) e u); some = λ n. absurd (n refl) }
-
-module _ (t : List ℕ) (rows x a : ℕ) (small : rows < 65536) (s : a < 65536) (l : 16 ≤ x) (g : Gathered (λ i. without rows (row t i)) rows x a) where
-  gap : a ≢ 0 → Gap t rows
-  gap z =
-      let w = some-in a s z in
-      let v = g .from (w .0) (w .1) in
-      let k = without-out rows (row t (v .0)) (w .0) (in-row a (w .0) s (w .1)) (v .2) in
-      record { at = v .0; lacks = w .0; at-in = v .1; lacks-in = k .0; missing = k .1 }
-
-  whole : a ≡ 0 → (i j : ℕ) → Yes (bit rows i) → Yes (bit rows j) → Yes (bit (row t i) j)
-  whole e i j u v =
-      ⊎-elim (λ y. y)
-      (λ y. none-in j (subst (λ (k : ℕ). Yes (bit k j)) e (g .to i j (le-trans (in-row rows i small u) l) u (without-in rows (row t i) j (in-row rows j small v) v (λ q. clash q y)))))
-      (yes-case (bit (row t i) j))
-
-  pub is-apart : (r : ℕ) → r ≡ pick (not (eqb a 0)) rows 0 → Apart t rows r
-  is-apart r e = go (ℕ-discrete a 0)
+  pub passed-more : (Q : ℕ → Type 0) → ((i : ℕ) → P i → Q i) → Q x → Passed Q rows (without rest (2 ^ x))
+  passed-more Q up q = record {
+    small = let l = passed-less in let k = w .small in omega arith;
+    left = λ i u. w .left i (without-out rest (2 ^ x) i (in-row _ i (let l = passed-less in let k = w .small in omega arith) u) u .0);
+    past = λ i u. ⊎-elim (λ p. inl (up i p)) (λ v. this i v (ℕ-discrete i x)) (w .past i u);
+  }
     where
-      go : Dec (a ≡ 0) → Apart t rows r
-      go (yes z) = record { none = λ _. whole z; some = λ n. absurd (n (e ∙ pick-no rows 0 (λ y. not-eq a 0 y z))) }
-      go (no z) = record {
-        none = λ q i j u. none-in i (subst (λ (k : ℕ). Yes (bit k i)) (sym (e ∙ pick-yes rows 0 (eq-not a 0 z)) ∙ q) u);
-        some = λ _. (e ∙ pick-yes rows 0 (eq-not a 0 z), gap z);
+      this : (i : ℕ) → Yes (bit rest i) → Dec (i ≡ x) → Q i ⊎ Yes (bit (without rest (2 ^ x)) i)
+      this i v (yes e) = inl (subst Q (sym e) q)
+      this i v (no e) = inr (without-in rest (2 ^ x) i (in-row rest i (w .small) v) v (λ y. e (one-is x i y)))
+
+pub passed-all : (P : ℕ → Type 0) (rows rest : ℕ) → Passed P rows rest → rest ≡ 0 → (i : ℕ) → Yes (bit rows i) → P i
+passed-all P rows rest w z i u = ⊎-elim (λ p. p) (λ v. none-in i (subst (λ (k : ℕ). Yes (bit k i)) z v)) (w .past i u)
+
+-- ---- what they hold together
+
+abbrev pub Within : List ℕ → ℕ → ℕ → Type 0
+Within t a i = (j : ℕ) → Yes (bit (row t i) j) → Yes (bit a j)
+
+pub record Uniting (t : List ℕ) (rows a rest : ℕ) : Type 0 where
+  pub small : a < 65536
+  pub from : (j : ℕ) → Yes (bit a j) → (i : ℕ) × Yes (bit rows i) × Yes (bit (row t i) j)
+  pub passed : Passed (Within t a) rows rest
+
+pub uniting-none : (t : List ℕ) (rows : ℕ) → rows < 65536 → Uniting t rows 0 rows
+uniting-none t rows small = record { small = omega arith; from = λ j u. none-in j u; passed = passed-none _ rows small }
+
+pub uniting-more : (t : List ℕ) (rows a rest x : ℕ) → Uniting t rows a rest → rest ≢ 0 → Lowest rest x → row t x < 65536
+    → Uniting t rows (bitOr a (row t x)) (without rest (2 ^ x))
+uniting-more t rows a rest x w some low s = record {
+  small = or-lt 16 a (row t x) (w .small) s;
+  from = λ j u. ⊎-elim (w .from j) (λ v. (x, next-named _ rows rest x (w .passed) some low, v)) (or-case a (row t x) j u);
+  passed = passed-more _ rows rest x (w .passed) some low _ (λ i p j u. or-l a (row t x) j (p j u)) (λ j u. or-r a (row t x) j u);
+}
+
+pub is-union : (t : List ℕ) (rows a rest : ℕ) → Uniting t rows a rest → rest ≡ 0 → Union t rows a
+is-union t rows a rest w z = record { small = w .small; from = w .from; to = λ i j u v. passed-all _ rows rest (w .passed) z i u j v }
+
+-- ---- whether one of them lacks one
+
+abbrev pub Whole : List ℕ → ℕ → ℕ → Type 0
+Whole t rows i = (j : ℕ) → Yes (bit rows j) → Yes (bit (row t i) j)
+
+pub is-whole : (t : List ℕ) (rows x : ℕ) → rows < 65536 → without rows (row t x) ≡ 0 → Whole t rows x
+is-whole t rows x small z j v =
+    ⊎-elim (λ y. y)
+    (λ y. none-in j (subst (λ (k : ℕ). Yes (bit k j)) z (without-in rows (row t x) j (in-row rows j small v) v (λ q. clash q y))))
+    (yes-case (bit (row t x) j))
+
+pub is-apart : (t : List ℕ) (rows x : ℕ) → rows < 65536 → Yes (bit rows x) → without rows (row t x) ≢ 0 → Apart t rows rows
+unfolding without
+is-apart t rows x small u z =
+    let s : bitAnd rows (bitXor (row t x) 65535) < 65536 = let l = and-le-l rows (bitXor (row t x) 65535) in omega arith in
+    let w = some-in _ s z in
+    let k = without-out rows (row t x) (w .0) (in-row _ (w .0) s (w .1)) (w .1) in
+    record {
+      none = λ e. none-in x (subst (λ (k : ℕ). Yes (bit k x)) e u);
+      some = λ _. (refl, record { at = x; lacks = w .0; at-in = u; lacks-in = k .0; missing = k .1 });
+    }
+
+pub not-apart : (t : List ℕ) (rows rest : ℕ) → Passed (Whole t rows) rows rest → rest ≡ 0 → Apart t rows 0
+not-apart t rows rest w z = record { none = λ _ i j u v. passed-all _ rows rest w z i u j v; some = λ n. absurd (n refl) }
+
+-- ---- two rows
+
+two-case : (Q : ℕ → Type 0) (a b : ℕ) → Q a → Q b → (i : ℕ) → Yes (bit (bitOr (2 ^ a) (2 ^ b)) i) → Q i
+two-case Q a b p q i u =
+    ⊎-elim (λ y. subst Q (sym (one-is a i y)) p) (λ y. subst Q (sym (one-is b i y)) q) (or-case (2 ^ a) (2 ^ b) i u)
+
+module _ (t : List ℕ) (a b : ℕ) (ha : a < 16) (hb : b < 16) where
+  abbrev two : ℕ
+  two = bitOr (2 ^ a) (2 ^ b)
+
+  a-in : Yes (bit two a)
+  a-in = or-l (2 ^ a) (2 ^ b) a (one-has a)
+
+  b-in : Yes (bit two b)
+  b-in = or-r (2 ^ a) (2 ^ b) b (one-has b)
+
+  pub is-union-two : row t a < 65536 → row t b < 65536 → Union t two (bitOr (row t a) (row t b))
+  is-union-two sa sb = record {
+    small = or-lt 16 (row t a) (row t b) sa sb;
+    from = λ j u. ⊎-elim (λ y. (a, a-in, y)) (λ y. (b, b-in, y)) (or-case (row t a) (row t b) j u);
+    to = λ i j u. two-case (λ k. Yes (bit (row t k) j) → Yes (bit (bitOr (row t a) (row t b)) j)) a b (or-l (row t a) (row t b) j) (or-r (row t a) (row t b) j) i u;
+  }
+
+  two-small : two < 65536
+  two-small = or-lt 16 (2 ^ a) (2 ^ b) (one-small a ha) (one-small b hb)
+
+  pub not-apart-two : without two (bitAnd (row t a) (row t b)) ≡ 0 → Apart t two 0
+  not-apart-two z = record {
+    none = λ _ i j u v. two-case (λ k. Yes (bit (row t k) j)) a b (both j v .0) (both j v .1) i u;
+    some = λ n. absurd (n refl);
+  }
+    where
+      both : (j : ℕ) → Yes (bit two j) → Yes (bit (row t a) j) × Yes (bit (row t b) j)
+      both j v = in-both (row t a) (row t b) j
+          (⊎-elim (λ y. y)
+          (λ y. none-in j (subst (λ (k : ℕ). Yes (bit k j)) z (without-in two (bitAnd (row t a) (row t b)) j (in-row two j two-small v) v (λ q. clash q y))))
+          (yes-case (bit (bitAnd (row t a) (row t b)) j)))
+
+  pub is-apart-two : without two (bitAnd (row t a) (row t b)) ≢ 0 → Apart t two two
+  unfolding without
+  is-apart-two z =
+      let l = and-le-l two (bitXor (bitAnd (row t a) (row t b)) 65535) in
+      let k = two-small in
+      let s : bitAnd two (bitXor (bitAnd (row t a) (row t b)) 65535) < 65536 = omega arith in
+      let w = some-in _ s z in
+      let o = without-out two (bitAnd (row t a) (row t b)) (w .0) (in-row _ (w .0) s (w .1)) (w .1) in
+      record {
+        none = λ e. none-in a (subst (λ (k : ℕ). Yes (bit k a)) e a-in);
+        some = λ _. (
+          refl,
+          ⊎-elim
+              (λ y. record { at = b; lacks = w .0; at-in = b-in; lacks-in = o .0; missing = λ q. o .1 (both-in (row t a) (row t b) (w .0) y q) })
+              (λ y. record { at = a; lacks = w .0; at-in = a-in; lacks-in = o .0; missing = λ q. clash q y }) (yes-case (bit (row t a) (w .0))),
+        );
       }
 
 -- ---- labels
 
-pub record LabelSoFar (t : List ℕ) (rows x l : ℕ) : Type 0 where
-  pub none : l ≡ 0 → (i : ℕ) → i < x → Yes (bit rows i) → row t i ≡ 0
-  pub some : l ≢ 0 → (i : ℕ) × Yes (bit rows i) × (row t i ≡ l)
+abbrev pub Unlabelled : List ℕ → ℕ → Type 0
+Unlabelled t i = row t i ≡ 0
 
-pub label-none : (t : List ℕ) (rows : ℕ) → LabelSoFar t rows 0 0
-label-none t rows = record { none = λ _ i l. absurd (not-suc-le-zero l); some = λ n. absurd (n refl) }
+pub is-label : (t : List ℕ) (rows x : ℕ) → Yes (bit rows x) → row t x ≢ 0 → LabelOf t rows (row t x)
+is-label t rows x u n = record { none = λ z. absurd (n z); some = λ _. (x, u, refl) }
 
-pub label-more : (t : List ℕ) (rows x l m : ℕ) → m ≡ pick (bit rows x && not (eqb (row t x) 0)) (row t x) l → LabelSoFar t rows x l → LabelSoFar t rows (x + 1) m
-label-more t rows x l m e g = ⊎-elim new old (yes-case (bit rows x && not (eqb (row t x) 0)))
-  where
-    new : Yes (bit rows x && not (eqb (row t x) 0)) → LabelSoFar t rows (x + 1) m
-    new y =
-        let w = and-yes _ _ y in
-        let k : m ≡ row t x = e ∙ pick-yes (row t x) l y in
-        record { none = λ z. absurd (not-eq _ _ (w .1) (sym k ∙ z)); some = λ _. (x, w .0, sym k) }
+pub no-label : (t : List ℕ) (rows rest : ℕ) → Passed (Unlabelled t) rows rest → rest ≡ 0 → LabelOf t rows 0
+no-label t rows rest w z = record { none = λ _. passed-all _ rows rest w z; some = λ n. absurd (n refl) }
 
-    old : Yes (neg (bit rows x && not (eqb (row t x) 0))) → LabelSoFar t rows (x + 1) m
-    old y =
-        let k : m ≡ l = e ∙ pick-no (row t x) l (λ u. clash u y) in
-        record {
-          none = λ z i q u. ⊎-elim
-              (λ c. ⊎-elim is-eq
-              (λ d. clash (yes-and _ _ (subst (λ (j : ℕ). Yes (bit rows j)) c u) (eq-not (row t x) 0 (λ b. clash (subst (λ (j : ℕ). Yes (eqb (row t j) 0)) (sym c) (eq-yes b)) d))) y)
-              (yes-case (eqb (row t i) 0)))
-              (λ c. g .none (sym k ∙ z) i c u) (below-cases q);
-          some = λ n. let w = g .some (λ z. n (k ∙ z)) in (w .0, w .1, w .2 ∙ sym k);
-        }
+abbrev pub Only : List ℕ → ℕ → ℕ → Type 0
+Only t l i = row t i ≢ 0 → row t i ≡ l
 
-pub is-label-of : (t : List ℕ) (rows x l : ℕ) → rows < 65536 → 16 ≤ x → LabelSoFar t rows x l → LabelOf t rows l
-is-label-of t rows x l small h g = record { none = λ z i u. g .none z i (le-trans (in-row rows i small u) h) u; some = g .some }
+pub only-one : (t : List ℕ) (l x : ℕ) → (not (eqb (row t x) 0) && not (eqb (row t x) l)) ≡ false → Only t l x
+only-one t l x e n = ⊎-elim is-eq (λ d. absurd (not-yes e (yes-and _ _ (eq-not (row t x) 0 n) (eq-not (row t x) l (λ b. clash (eq-yes b) d))))) (yes-case (eqb (row t x) l))
 
-pub record TwoSoFar (t : List ℕ) (rows l x : ℕ) (r : Bool) : Type 0 where
-  pub two : r ≡ true → (i : ℕ) × Yes (bit rows i) × (row t i ≢ 0) × (row t i ≢ l)
-  pub one : r ≡ false → (i : ℕ) → i < x → Yes (bit rows i) → row t i ≢ 0 → row t i ≡ l
+pub is-two : (t : List ℕ) (rows l x : ℕ) → Yes (bit rows x) → Yes (not (eqb (row t x) 0) && not (eqb (row t x) l)) → TwoLabels t rows l true
+is-two t rows l x u y = let w = and-yes _ _ y in record { two = λ _. (x, u, not-eq _ _ (w .0), not-eq _ _ (w .1)); one = λ e. absurd (false≢true (sym e)) }
 
-pub two-none : (t : List ℕ) (rows l : ℕ) → TwoSoFar t rows l 0 false
-two-none t rows l = record { two = λ e. absurd (false≢true e); one = λ _ i q. absurd (not-suc-le-zero q) }
+pub is-one : (t : List ℕ) (rows l rest : ℕ) → Passed (Only t l) rows rest → rest ≡ 0 → TwoLabels t rows l false
+is-one t rows l rest w z = record { two = λ e. absurd (false≢true e); one = λ _. passed-all _ rows rest w z }
 
-pub two-more : (t : List ℕ) (rows l x : ℕ) (r : Bool) → TwoSoFar t rows l x r
-    → TwoSoFar t rows l (x + 1) (r || ((bit rows x && not (eqb (row t x) 0)) && not (eqb (row t x) l)))
-two-more t rows l x r g = record {
-  two = λ e. ⊎-elim (g .two) (λ y. let v = and-yes _ _ y in let w = and-yes _ _ (v .0) in (x, w .0, not-eq _ _ (w .1), not-eq _ _ (v .1))) (or-yes r _ e);
-  one = λ e i q u n. let o = or-no r _ e in ⊎-elim
-      (λ c. ⊎-elim is-eq
-      (λ d. absurd (not-yes (o .1) (yes-and _ _ (yes-and _ _ (subst (λ (j : ℕ). Yes (bit rows j)) c u) (eq-not (row t x) 0 (subst (λ (j : ℕ). row t j ≢ 0) c n)))
-      (eq-not (row t x) l (λ b. clash (subst (λ (j : ℕ). Yes (eqb (row t j) l)) (sym c) (eq-yes b)) d)))))
-      (yes-case (eqb (row t i) l)))
-      (λ c. g .one (o .0) i c u n) (below-cases q);
+pub none-two : (t : List ℕ) (rows l : ℕ) → LabelOf t rows l → l ≡ 0 → TwoLabels t rows l false
+none-two t rows l o z = record { two = λ e. absurd (false≢true e); one = λ _ i u n. absurd (n (o .none z i u)) }
+
+pub none-painted : (t : List ℕ) (rows l : ℕ) → LabelOf t rows l → l ≡ 0 → Painted t rows l t
+none-painted t rows l o z = record {
+  paints = λ i. ⊎-elim
+      (λ y. o .none z i y ∙ sym z ∙ sym (pick-yes l (row t i) y))
+      (λ y. sym (pick-no l (row t i) (λ u. clash u y))) (yes-case (bit rows i));
 }
 
-pub is-two : (t : List ℕ) (rows l x : ℕ) (r : Bool) → rows < 65536 → 16 ≤ x → TwoSoFar t rows l x r → TwoLabels t rows l r
-is-two t rows l x r small h g = record { two = g .two; one = λ e i u. g .one e i (le-trans (in-row rows i small u) h) u }
+pub record Painting (t : List ℕ) (rows l : ℕ) (a : List ℕ) (rest : ℕ) : Type 0 where
+  pub long : length a ≡ 16
+  pub passed : Passed (λ i. row a i ≡ l) rows rest
+  pub kept : (i : ℕ) → ¬ Yes (bit rows i) → row a i ≡ row t i
+
+pub painting-none : (t : List ℕ) (rows l : ℕ) → length t ≡ 16 → rows < 65536 → Painting t rows l t rows
+painting-none t rows l long small = record { long = long; passed = passed-none _ rows small; kept = λ i n. refl }
+
+pub painting-more : (t : List ℕ) (rows l : ℕ) (a : List ℕ) (rest x : ℕ) → Painting t rows l a rest → rest ≢ 0 → Lowest rest x
+    → Painting t rows l (set a x l) (without rest (2 ^ x))
+painting-more t rows l a rest x w some low = record {
+  long = length-set a x l ∙ w .long;
+  passed = passed-more _ rows rest x (w .passed) some low _ (λ i p. up i p (ℕ-discrete i x)) here;
+  kept = λ i n. getD-set-other a x i l 0 (λ e. n (subst (λ (k : ℕ). Yes (bit rows k)) (sym e) (next-named _ rows rest x (w .passed) some low))) ∙ w .kept i n;
+}
+  where
+    here : row (set a x l) x ≡ l
+    here = getD-set-same a x l 0 (rw (w .long) (next-in _ rows rest x (w .passed) some low))
+
+    up : (i : ℕ) → row a i ≡ l → Dec (i ≡ x) → row (set a x l) i ≡ l
+    up i p (yes e) = subst (λ (k : ℕ). row (set a x l) k ≡ l) (sym e) here
+    up i p (no e) = getD-set-other a x i l 0 e ∙ p
+
+pub was-painted : (t : List ℕ) (rows l : ℕ) (a : List ℕ) (rest : ℕ) → Painting t rows l a rest → rest ≡ 0 → Painted t rows l a
+was-painted t rows l a rest w z = record {
+  paints = λ i. ⊎-elim
+      (λ y. passed-all _ rows rest (w .passed) z i y ∙ sym (pick-yes l (row t i) y))
+      (λ y. w .kept i (λ u. clash u y) ∙ sym (pick-no l (row t i) (λ u. clash u y))) (yes-case (bit rows i));
+}

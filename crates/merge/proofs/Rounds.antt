@@ -278,14 +278,20 @@ module _ (f : Facts) (x w near far far-of : ℕ) (small : x < 65536) (uw : Union
   reached : (n : ℕ) (T : List Fact) → Pending n T x f → Reach (Held f) (In x) (In U) (In D)
   reached n T p = reach n T x small f p w near far uw un (subst (λ (k : ℕ). Union (f .above) k far) is-far-of uf)
 
-  pub round-clash : (d l : ℕ) → Union (f .differ) M d → LabelOf (f .label) M l → Yes (meets d M) ⊎ ((i : Var) × In M i × (row (f .label) i ≢ 0) × (row (f .label) i ≢ l))
-      → RoundOf f x (record { clash = true; next = 0; facts = f })
-  round-clash d l ud lo h = record {
-    clashes = λ _ n T p. ⊎-elim (clash-differs n T f x U D p (reached n T p) d ud) (λ y. clash-labels n T f x U D p (reached n T p) l lo (y .0) (y .1) (y .2) (y .3)) h;
+  clashing : ((n : ℕ) (T : List Fact) → Pending n T x f → Clash n T) → RoundOf f x (record { clash = true; next = 0; facts = f })
+  clashing h = record {
+    clashes = λ _. h;
     goes-on = λ e. absurd (false≢true (sym e));
     gap = λ z. absurd (z refl);
     falls = λ e. absurd (false≢true (sym e));
   }
+
+  pub round-differs : (d : ℕ) → Union (f .differ) M d → Yes (meets d M) → RoundOf f x (record { clash = true; next = 0; facts = f })
+  round-differs d ud h = clashing (λ n T p. clash-differs n T f x U D p (reached n T p) d ud h)
+
+  pub round-labels : (l : ℕ) → LabelOf (f .label) M l → ((i : Var) × In M i × (row (f .label) i ≢ 0) × (row (f .label) i ≢ l))
+      → RoundOf f x (record { clash = true; next = 0; facts = f })
+  round-labels l lo y = clashing (λ n T p. clash-labels n T f x U D p (reached n T p) l lo (y .0) (y .1) (y .2) (y .3))
 
   pub round-well : f .root < 65536 → f .leaf < 65536 → (parents : ℕ) (g : Facts) → Made f U D M parents g → (next : ℕ) → Apart (g .below) parents next
       → RoundOf f x (record { clash = false; next = next; facts = g })

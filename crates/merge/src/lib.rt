@@ -1,33 +1,24 @@
 // Entering below(a, b) where it makes variables the same: their group is merged by rows, then that of its parents, and so on upwards.
 ghost use mathlib.Core.Path.{_≡_};
-ghost use Prim.Native.Nat.{_<_, _≤_};
-ghost use Rattle.meaning.specs.Finite.{pick};
+ghost use Prim.Native.Nat.{_<_, _≤_, _^_};
+ghost use lib.Bits.{bitOr};
 ghost use Rattle.merge.specs.Rows.{Union, Apart, LabelOf, TwoLabels, Painted};
 ghost use Rattle.merge.specs.Merging.{RoundOf, MergedOf};
 use ids::Var;
 use tables::Facts;
 use tables::Settled;
 
-fn choose(t: bool, l: u8, m: u8) -> u8
-    ensures { λ r. ⌜ r ≡ pick t l m ⌝ }
-{
-    if t {
-        return l;
-    }
-    m
-}
-
 // What the rows named hold together.
 fn union_rows(t: [u16; 16], rows: u16) -> u16
     ensures { λ r. ⌜ Union t rows r ⌝ }
 {
     let mut a: u16 = 0;
-    if rows == 0 {
-        return a;
-    }
-    for x in 0usize..16 {
+    let mut rest = rows;
+    while rest != 0 {
+        let x = tables::lowest(rest);
         let v = t[x];
-        a = tables::gain(rowbits::has(rows, x), a, v);
+        a = a | v;
+        rest = tables::except(rest, tables::one(x));
     }
     a
 }
@@ -36,49 +27,92 @@ fn union_rows(t: [u16; 16], rows: u16) -> u16
 fn apart(t: [u16; 16], rows: u16) -> u16
     ensures { λ r. ⌜ Apart t rows r ⌝ }
 {
-    let mut a: u16 = 0;
-    if rows == 0 {
-        return a;
-    }
-    for x in 0usize..16 {
+    let mut rest = rows;
+    while rest != 0 {
+        let x = tables::lowest(rest);
         let v = t[x];
-        a = tables::gain(rowbits::has(rows, x), a, tables::except(rows, v));
+        if tables::except(rows, v) != 0 {
+            return rows;
+        }
+        rest = tables::except(rest, tables::one(x));
     }
-    tables::when(a != 0, rows)
+    0
+}
+
+// What the rows a and b hold together.
+fn union_two(t: [u16; 16], a: usize, b: usize) -> u16
+    requires { ⌜ (a < 16) × (b < 16) ⌝ }
+    ensures { λ r. ⌜ Union t (bitOr (2 ^ a) (2 ^ b)) r ⌝ }
+{
+    let v = t[a];
+    let w = t[b];
+    v | w
+}
+
+// Both a and b, if the row of one lacks one of them; else none.
+fn apart_two(t: [u16; 16], a: usize, b: usize) -> u16
+    requires { ⌜ (a < 16) × (b < 16) ⌝ }
+    ensures { λ r. ⌜ Apart t (bitOr (2 ^ a) (2 ^ b)) r ⌝ }
+{
+    let v = t[a];
+    let w = t[b];
+    let rows = tables::one(a) | tables::one(b);
+    if tables::except(rows, v & w) == 0 {
+        return 0;
+    }
+    rows
 }
 
 // A label of the variables named, or 0 where none has one.
 fn label_of(t: [u8; 16], rows: u16) -> u8
     ensures { λ r. ⌜ LabelOf t rows r ⌝ }
 {
-    let mut a: u8 = 0;
-    for x in 0usize..16 {
+    let mut rest = rows;
+    while rest != 0 {
+        let x = tables::lowest(rest);
         let v = t[x];
-        a = choose(rowbits::has(rows, x) & (v != 0), v, a);
+        if v != 0 {
+            return v;
+        }
+        rest = tables::except(rest, tables::one(x));
     }
-    a
+    0
 }
 
 // Whether one of the variables named has another label than l.
 fn two_labels(t: [u8; 16], rows: u16, l: u8) -> bool
+    requires { ⌜ LabelOf t rows l ⌝ }
     ensures { λ r. ⌜ TwoLabels t rows l r ⌝ }
 {
-    let mut a = false;
-    for x in 0usize..16 {
-        let v = t[x];
-        a = a | (rowbits::has(rows, x) & (v != 0) & (v != l));
+    if l == 0 {
+        return false;
     }
-    a
+    let mut rest = rows;
+    while rest != 0 {
+        let x = tables::lowest(rest);
+        let v = t[x];
+        if (v != 0) & (v != l) {
+            return true;
+        }
+        rest = tables::except(rest, tables::one(x));
+    }
+    false
 }
 
 // The label l given to each of the variables named.
 fn paint(t: [u8; 16], rows: u16, l: u8) -> [u8; 16]
+    requires { ⌜ LabelOf t rows l ⌝ }
     ensures { λ r. ⌜ Painted t rows l r ⌝ }
 {
     let mut a = t;
-    for x in 0usize..16 {
-        let v = a[x];
-        a[x] = choose(rowbits::has(rows, x), l, v);
+    if l == 0 {
+        return a;
+    }
+    let mut rest = rows;
+    while rest != 0 {
+        let x = tables::lowest(rest);
+        a[x] = l;
+        rest = tables::except(rest, tables::one(x));
     }
     a
 }
@@ -92,7 +126,8 @@ struct Round {
 
 // One round: the variables of x become the same. All that is at or above one of them and at or below one becomes one group, and shares every
 // fact; a leaf at or above x is the same as all below it, so that these join the group. The parents of the group are left to the next round.
-fn unify(f: Facts, x: u16) -> Round
+fn unify(f: Facts, x: u16, lower: u16, upper: u16) -> Round
+    requires { ⌜ Union (f .below) x lower × Union (f .above) x upper ⌝ }
     ensures { λ r. ⌜ RoundOf f x r ⌝ }
 {
     let below = f.below;
@@ -101,14 +136,21 @@ fn unify(f: Facts, x: u16) -> Round
     let parent = f.parent;
     let differ = f.differ;
     let label = f.label;
-    let down = x | union_rows(below, x);
-    let near = x | union_rows(above, x);
+    let down = x | lower;
+    let near = x | upper;
     let far = union_rows(above, tables::when(tables::meet(near, f.leaf), down));
     let up = near | far;
     let group = up & down;
     let others = union_rows(differ, group);
+    if tables::meet(others, group) {
+        return Round {
+            clash: true,
+            next: 0,
+            facts: f,
+        };
+    }
     let shown = label_of(label, group);
-    if tables::meet(others, group) | two_labels(label, group, shown) {
+    if two_labels(label, group, shown) {
         return Round {
             clash: true,
             next: 0,
@@ -147,11 +189,16 @@ pub fn enter_same(f: Facts, n: usize, a: Var, b: Var) -> Settled
     requires { ⌜ (a .0 < n) × (b .0 < n) × (n ≤ 16) ⌝ }
     ensures { λ r. ⌜ MergedOf n f (a .0) (b .0) r ⌝ }
 {
-    let below = f.below;
+    let i = a.0 as usize;
+    let j = b.0 as usize;
+    let mut below = f.below;
+    let mut above = f.above;
     let mut g = f;
-    let mut x = apart(below, tables::one(a.0 as usize) | tables::one(b.0 as usize));
+    let mut x = apart_two(below, i, j);
+    let mut lower = union_two(below, i, j);
+    let mut upper = union_two(above, i, j);
     while x != 0 {
-        let r = unify(g, x);
+        let r = unify(g, x, lower, upper);
         if r.clash {
             return Settled {
                 clash: true,
@@ -160,6 +207,10 @@ pub fn enter_same(f: Facts, n: usize, a: Var, b: Var) -> Settled
         }
         g = r.facts;
         x = r.next;
+        below = g.below;
+        above = g.above;
+        lower = union_rows(below, x);
+        upper = union_rows(above, x);
     }
     Settled {
         clash: false,

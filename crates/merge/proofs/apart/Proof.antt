@@ -1,55 +1,65 @@
--- `merge::apart` meets its contract: it gathers what each row named lacks of them, which is nothing exactly if there is no gap.
-use Prim.Native.Nat.{_<_, _≤_, _-_}
-use mir.Val.{Fits}
-use mir.Syntax.{w16}
-use Rattle.tables.specs.Tables.{row}
-use Rattle.tables.specs.Rows.{without}
-use Rattle.merge.proofs.Loops.{Gathered, gathered-none, gathered-more, not-apart, is-apart}
+-- `merge::apart` meets its contract: every row named but those that are left has all of them, and the first that has not shows a gap.
+use mathlib.Core.Path.{sym, _∙_}
+use Prim.Native.Nat.{_<_}
+use native.Mathlib.Omega.{arith}
+use Rattle.merge.proofs.Loops.{Passed, Whole, passed-none, passed-more, passed-less, next-in, next-named, is-whole, is-apart, not-apart}
 use borrow.Author.Needs.{needs}
 use Rattle.merge.proofs.apart.Statement.{statement}
 use Rattle.merge.proofs.apart.Tie as tie
 
 abbrev Inv-loop : tie.InvT-loop
-Inv-loop rows t a₀ x₀ a x = (x ≤ 16) × (a < 65536) × Gathered (λ i. without rows (row t i)) rows x a
+Inv-loop rows t rest₀ rest = Passed (Whole t rows) rows rest
 
 abbrev μ-loop : tie.MeasureT-loop
-μ-loop rows t a₀ x₀ a x = 16 - x
+μ-loop rows t rest₀ rest = rest
 
-returns : tie.Need-returns Inv-loop μ-loop
-returns c = not-apart _ _ (c .if1 .taken)
+variable-in : (c : tie.After-lowest Inv-loop μ-loop) → c .lowest .result < 16
+variable-in c = next-in _ _ _ _ (c .before .before .loop .inv) (c .before .loop-test .taken) (c .lowest .ensures)
 
 loop-holds : tie.Need-loop-holds Inv-loop μ-loop
-loop-holds c = (search needs, search needs, gathered-none _ _)
+loop-holds c = passed-none _ _ (c .fits .rows .fits)
+
+lowest-requires : tie.Need-lowest-requires Inv-loop μ-loop
+lowest-requires c κs = search needs
 
 mul-v : tie.Need-mul-v Inv-loop μ-loop
-mul-v c = search needs
+mul-v c = omega (arith, variable-in c)
 
 array-read-v : tie.Need-array-read-v Inv-loop μ-loop
-array-read-v c = search needs
-
-has-requires : tie.Need-has-requires Inv-loop μ-loop
-has-requires c κs = search needs
+array-read-v c = variable-in c
 
 except-requires : tie.Need-except-requires Inv-loop μ-loop
 except-requires c κs = search needs
 
-gain-requires : tie.Need-gain-requires Inv-loop μ-loop
-gain-requires c κs = search needs
+returns : tie.Need-returns Inv-loop μ-loop
+returns c =
+    let e = c .before in
+    let w = e .before in
+    let l = w .before .before in
+    is-apart _ _ _ (l .before .fits .rows .fits) (next-named _ _ _ _ (l .loop .inv) (w .before .loop-test .taken) (w .lowest .ensures)) (rw (← e .except .ensures) (c .if1 .taken))
 
-add-x : tie.Need-add-x Inv-loop μ-loop
-add-x c = search needs
+one-requires : tie.Need-one-requires Inv-loop μ-loop
+one-requires c κs = variable-in (c .before .before)
+
+except-requires-2 : tie.Need-except-requires-2 Inv-loop μ-loop
+except-requires-2 c κs = search needs
 
 loop-less : tie.Need-loop-less Inv-loop μ-loop
-loop-less c = search needs
+loop-less c =
+    let w = c .before .before .before .before in
+    let l = w .before .before in
+    rw (c .except2 .ensures, c .before .one .ensures) (passed-less _ _ _ _ (l .loop .inv) (w .before .loop-test .taken) (w .lowest .ensures))
 
 loop-again : tie.Need-loop-again Inv-loop μ-loop
-loop-again c = (search needs, (let h : Fits w16 (c .gain .result) = search needs in h .fits), gathered-more _ _ _ _ _ (rw (c .gain .ensures, c .before .before .has .ensures, c .before .except .ensures)) (c .before .before .before .before .loop .inv .2))
-
-when-requires : tie.Need-when-requires Inv-loop μ-loop
-when-requires c κs = search needs
+loop-again c =
+    let t = c .before .before in
+    let w = t .before .before in
+    let l = w .before .before in
+    rw (c .except2 .ensures, c .before .one .ensures) (passed-more _ _ _ _ (l .loop .inv) (w .before .loop-test .taken) (w .lowest .ensures) _ (λ i p. p)
+    (is-whole (l .before .args .t1) (l .before .args .rows) (w .lowest .result) (l .before .fits .rows .fits) (sym (t .before .except .ensures) ∙ t .if1 .left)))
 
 returns-2 : tie.Need-returns-2 Inv-loop μ-loop
-returns-2 c = is-apart _ _ _ _ (let h : Fits w16 (c .before .before .before .before .args .rows) = search needs in h .fits) (c .before .before .loop .inv .1) (search needs) (c .before .before .loop .inv .2) _ (c .when .ensures)
+returns-2 c = not-apart _ _ _ (c .before .loop .inv) (c .loop-test .left)
 
 pub apart-spec : {M : Type 1} → statement M
 apart-spec =
@@ -57,15 +67,14 @@ apart-spec =
     (tie.spec
     Inv-loop
     μ-loop
-    returns
     loop-holds
+    lowest-requires
     mul-v
     array-read-v
-    has-requires
     except-requires
-    gain-requires
-    add-x
+    returns
+    one-requires
+    except-requires-2
     loop-less
     loop-again
-    when-requires
     returns-2)

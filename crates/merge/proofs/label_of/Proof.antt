@@ -1,41 +1,55 @@
--- `merge::label_of` meets its contract: after x rows it holds the last label of those named, or 0 if they had none.
-use Prim.Native.Nat.{_≤_, _-_}
-use mir.Val.{Fits}
-use mir.Syntax.{w16}
-use Rattle.merge.proofs.Loops.{LabelSoFar, label-none, label-more, is-label-of}
+-- `merge::label_of` meets its contract: the rows named have no label but for those that are left, and the first label is the answer.
+use Prim.Native.Nat.{_<_}
+use Rattle.merge.proofs.Loops.{Passed, Unlabelled, passed-none, passed-more, passed-less, next-in, next-named, is-label, no-label}
 use borrow.Author.Needs.{needs}
 use Rattle.merge.proofs.label_of.Statement.{statement}
 use Rattle.merge.proofs.label_of.Tie as tie
 
 abbrev Inv-loop : tie.InvT-loop
-Inv-loop rows t a₀ x₀ a x = (x ≤ 16) × LabelSoFar t rows x a
+Inv-loop rows t rest₀ rest = Passed (Unlabelled t) rows rest
 
 abbrev μ-loop : tie.MeasureT-loop
-μ-loop rows t a₀ x₀ a x = 16 - x
+μ-loop rows t rest₀ rest = rest
+
+variable-in : (c : tie.After-lowest Inv-loop μ-loop) → c .lowest .result < 16
+variable-in c = next-in _ _ _ _ (c .before .before .loop .inv) (c .before .loop-test .taken) (c .lowest .ensures)
 
 loop-holds : tie.Need-loop-holds Inv-loop μ-loop
-loop-holds c = (search needs, label-none _ _)
+loop-holds c = passed-none _ _ (c .fits .rows .fits)
+
+lowest-requires : tie.Need-lowest-requires Inv-loop μ-loop
+lowest-requires c κs = search needs
 
 array-read-v : tie.Need-array-read-v Inv-loop μ-loop
-array-read-v c = search needs
-
-has-requires : tie.Need-has-requires Inv-loop μ-loop
-has-requires c κs = search needs
-
-choose-requires : tie.Need-choose-requires Inv-loop μ-loop
-choose-requires c κs = search needs
-
-add-x : tie.Need-add-x Inv-loop μ-loop
-add-x c = search needs
-
-loop-less : tie.Need-loop-less Inv-loop μ-loop
-loop-less c = search needs
-
-loop-again : tie.Need-loop-again Inv-loop μ-loop
-loop-again c = (search needs, label-more _ _ _ _ _ (rw (c .choose .ensures, c .before .has .ensures)) (c .before .before .before .loop .inv .1))
+array-read-v c = variable-in c
 
 returns : tie.Need-returns Inv-loop μ-loop
-returns c = is-label-of _ _ _ _ (let h : Fits w16 (c .before .before .args .rows) = search needs in h .fits) (search needs) (c .before .loop .inv .1)
+returns c =
+    let w = c .before in
+    let l = w .before .before in
+    is-label _ _ _ (next-named _ _ _ _ (l .loop .inv) (w .before .loop-test .taken) (w .lowest .ensures)) (c .if1 .taken)
+
+one-requires : tie.Need-one-requires Inv-loop μ-loop
+one-requires c κs = variable-in (c .before)
+
+except-requires : tie.Need-except-requires Inv-loop μ-loop
+except-requires c κs = search needs
+
+loop-less : tie.Need-loop-less Inv-loop μ-loop
+loop-less c =
+    let w = c .before .before .before in
+    let l = w .before .before in
+    rw (c .except .ensures, c .before .one .ensures) (passed-less _ _ _ _ (l .loop .inv) (w .before .loop-test .taken) (w .lowest .ensures))
+
+loop-again : tie.Need-loop-again Inv-loop μ-loop
+loop-again c =
+    let t = c .before .before in
+    let w = t .before in
+    let l = w .before .before in
+    rw (c .except .ensures, c .before .one .ensures) (passed-more _ _ _ _ (l .loop .inv) (w .before .loop-test .taken) (w .lowest .ensures) _ (λ i p. p) (t .if1 .left))
+
+returns-2 : tie.Need-returns-2 Inv-loop μ-loop
+returns-2 c = no-label _ _ _ (c .before .loop .inv) (c .loop-test .left)
 
 pub label-of-spec : {M : Type 1} → statement M
 label-of-spec =
@@ -44,10 +58,11 @@ label-of-spec =
     Inv-loop
     μ-loop
     loop-holds
+    lowest-requires
     array-read-v
-    has-requires
-    choose-requires
-    add-x
+    returns
+    one-requires
+    except-requires
     loop-less
     loop-again
-    returns)
+    returns-2)

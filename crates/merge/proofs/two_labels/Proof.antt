@@ -1,38 +1,59 @@
--- `merge::two_labels` meets its contract: after x rows it says whether one of those named had another label.
-use Prim.Native.Nat.{_≤_, _-_}
-use mir.Val.{Fits}
-use mir.Syntax.{w16}
-use Rattle.merge.proofs.Loops.{TwoSoFar, two-none, two-more, is-two}
+-- `merge::two_labels` meets its contract: the rows named have no other label but for those that are left.
+use Prim.Native.Nat.{_<_}
+use Rattle.merge.proofs.Loops.{Passed, Only, passed-none, passed-more, passed-less, next-in, next-named, only-one, is-two, is-one, none-two}
 use borrow.Author.Needs.{needs}
 use Rattle.merge.proofs.two_labels.Statement.{statement}
 use Rattle.merge.proofs.two_labels.Tie as tie
 
 abbrev Inv-loop : tie.InvT-loop
-Inv-loop rows l t a₀ x₀ a x = (x ≤ 16) × TwoSoFar t rows l x a
+Inv-loop rows l t rest₀ rest = Passed (Only t l) rows rest
 
 abbrev μ-loop : tie.MeasureT-loop
-μ-loop rows l t a₀ x₀ a x = 16 - x
+μ-loop rows l t rest₀ rest = rest
 
-loop-holds : tie.Need-loop-holds Inv-loop μ-loop
-loop-holds c = (search needs, two-none _ _ _)
-
-array-read-v : tie.Need-array-read-v Inv-loop μ-loop
-array-read-v c = search needs
-
-has-requires : tie.Need-has-requires Inv-loop μ-loop
-has-requires c κs = search needs
-
-add-x : tie.Need-add-x Inv-loop μ-loop
-add-x c = search needs
-
-loop-less : tie.Need-loop-less Inv-loop μ-loop
-loop-less c = search needs
-
-loop-again : tie.Need-loop-again Inv-loop μ-loop
-loop-again c = (search needs, rw (c .has .ensures) (two-more _ _ _ _ _ (c .before .before .loop .inv .1)))
+variable-in : (c : tie.After-lowest Inv-loop μ-loop) → c .lowest .result < 16
+variable-in c = next-in _ _ _ _ (c .before .before .loop .inv) (c .before .loop-test .taken) (c .lowest .ensures)
 
 returns : tie.Need-returns Inv-loop μ-loop
-returns c = is-two _ _ _ _ _ (let h : Fits w16 (c .before .before .args .rows) = search needs in h .fits) (search needs) (c .before .loop .inv .1)
+returns c = none-two _ _ _ (c .before .pre) (c .if1 .taken)
+
+loop-holds : tie.Need-loop-holds Inv-loop μ-loop
+loop-holds c = passed-none _ _ (c .before .fits .rows .fits)
+
+lowest-requires : tie.Need-lowest-requires Inv-loop μ-loop
+lowest-requires c κs = search needs
+
+array-read-v : tie.Need-array-read-v Inv-loop μ-loop
+array-read-v c = variable-in c
+
+returns-2 : tie.Need-returns-2 Inv-loop μ-loop
+returns-2 c =
+    let w = c .before in
+    let l = w .before .before in
+    is-two _ _ _ _ (next-named _ _ _ _ (l .loop .inv) (w .before .loop-test .taken) (w .lowest .ensures)) (c .if2 .taken)
+
+one-requires : tie.Need-one-requires Inv-loop μ-loop
+one-requires c κs = variable-in (c .before)
+
+except-requires : tie.Need-except-requires Inv-loop μ-loop
+except-requires c κs = search needs
+
+loop-less : tie.Need-loop-less Inv-loop μ-loop
+loop-less c =
+    let w = c .before .before .before in
+    let l = w .before .before in
+    rw (c .except .ensures, c .before .one .ensures) (passed-less _ _ _ _ (l .loop .inv) (w .before .loop-test .taken) (w .lowest .ensures))
+
+loop-again : tie.Need-loop-again Inv-loop μ-loop
+loop-again c =
+    let t = c .before .before in
+    let w = t .before in
+    let l = w .before .before in
+    rw (c .except .ensures, c .before .one .ensures) (passed-more _ _ _ _ (l .loop .inv) (w .before .loop-test .taken) (w .lowest .ensures) _ (λ i p. p)
+    (only-one (l .before .before .args .t1) (l .before .before .args .l) (w .lowest .result) (t .if2 .left)))
+
+returns-3 : tie.Need-returns-3 Inv-loop μ-loop
+returns-3 c = is-one _ _ _ _ (c .before .loop .inv) (c .loop-test .left)
 
 pub two-labels-spec : {M : Type 1} → statement M
 two-labels-spec =
@@ -40,10 +61,13 @@ two-labels-spec =
     (tie.spec
     Inv-loop
     μ-loop
+    returns
     loop-holds
+    lowest-requires
     array-read-v
-    has-requires
-    add-x
+    returns-2
+    one-requires
+    except-requires
     loop-less
     loop-again
-    returns)
+    returns-3)

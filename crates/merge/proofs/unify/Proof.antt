@@ -1,11 +1,10 @@
 -- `merge::unify` meets its contract: what its helpers ensure is what a round has to have made (proofs/Rounds.antt).
 use Prim.Native.Nat.{_<_}
 use mathlib.Core.Path.{sym, _∙_}
-use mathlib.Core.Logic.{inl, inr, ⊎-elim}
 use mir.Val.{Fits}
 use mir.Syntax.{w16}
-use Rattle.tables.proofs.Tested.{or-yes, or-no, not-yes}
-use Rattle.merge.proofs.Rounds.{round-clash, round-well}
+use Rattle.tables.proofs.Tested.{not-yes}
+use Rattle.merge.proofs.Rounds.{round-differs, round-labels, round-well}
 use borrow.Author.Needs.{needs}
 use Rattle.merge.proofs.unify.Statement.{statement}
 use Rattle.merge.proofs.unify.Tie as tie
@@ -19,54 +18,56 @@ root-small c = let h : Fits w16 (c .args .f .root) = search needs in h .fits
 leaf-small : (c : tie.Start) → c .args .f .leaf < 65536
 leaf-small c = let h : Fits w16 (c .args .f .leaf) = search needs in h .fits
 
-union-rows-requires : tie.Need-union-rows-requires
-union-rows-requires c κs = search needs
-
-union-rows-requires-2 : tie.Need-union-rows-requires-2
-union-rows-requires-2 c κs = search needs
-
 meet-requires : tie.Need-meet-requires
 meet-requires c κs = search needs
 
 when-requires : tie.Need-when-requires
 when-requires c κs = search needs
 
+union-rows-requires : tie.Need-union-rows-requires
+union-rows-requires c κs = search needs
+
+union-rows-requires-2 : tie.Need-union-rows-requires-2
+union-rows-requires-2 c κs = search needs
+
+meet-requires-2 : tie.Need-meet-requires-2
+meet-requires-2 c κs = search needs
+
+returns : tie.Need-returns
+returns c =
+    let differing = c .before in
+    let others = differing .before in
+    let far = others .before in
+    let leafy = far .before in
+    let met = leafy .before in
+    let s = met .before .before .before .before .before .before .before in
+    round-differs _ _ _ _ _ _ (x-small s) (s .pre .0) (s .pre .1) (far .union-rows .ensures) (rw (leafy .when .ensures, met .meet .ensures))
+    _ (others .union-rows2 .ensures) (sym (differing .meet2 .ensures) ∙ c .if1 .taken)
+
+label-of-requires : tie.Need-label-of-requires
+label-of-requires c κs = search needs
+
+two-labels-requires : tie.Need-two-labels-requires
+two-labels-requires c κs = c .label-of .ensures
+
+returns-2 : tie.Need-returns-2
+returns-2 c =
+    let test = c .before in
+    let shown = test .before in
+    let differing = shown .before .before in
+    let others = differing .before in
+    let far = others .before in
+    let leafy = far .before in
+    let met = leafy .before in
+    let s = met .before .before .before .before .before .before .before in
+    round-labels _ _ _ _ _ _ (x-small s) (s .pre .0) (s .pre .1) (far .union-rows .ensures) (rw (leafy .when .ensures, met .meet .ensures))
+    _ (shown .label-of .ensures) (test .two-labels .ensures .two (c .if2 .taken))
+
 union-rows-requires-3 : tie.Need-union-rows-requires-3
 union-rows-requires-3 c κs = search needs
 
 union-rows-requires-4 : tie.Need-union-rows-requires-4
 union-rows-requires-4 c κs = search needs
-
-label-of-requires : tie.Need-label-of-requires
-label-of-requires c κs = search needs
-
-meet-requires-2 : tie.Need-meet-requires-2
-meet-requires-2 c κs = search needs
-
-two-labels-requires : tie.Need-two-labels-requires
-two-labels-requires c κs = search needs
-
-returns : tie.Need-returns
-returns c =
-    let test = c .before in
-    let differing = test .before in
-    let shown = differing .before in
-    let others = shown .before in
-    let far = others .before in
-    let leafy = far .before in
-    let met = leafy .before in
-    let near = met .before in
-    let down = near .before in
-    let s = down .before .before .before .before .before .before .before in
-    round-clash _ _ _ _ _ _ (x-small s) (down .union-rows .ensures) (near .union-rows2 .ensures) (far .union-rows3 .ensures) (rw (leafy .when .ensures, met .meet .ensures))
-    _ _ (others .union-rows4 .ensures) (shown .label-of .ensures)
-    (⊎-elim (λ y. inl (sym (differing .meet2 .ensures) ∙ y)) (λ y. inr (test .two-labels .ensures .two y)) (or-yes _ _ (c .if1 .taken)))
-
-union-rows-requires-5 : tie.Need-union-rows-requires-5
-union-rows-requires-5 c κs = search needs
-
-union-rows-requires-6 : tie.Need-union-rows-requires-6
-union-rows-requires-6 c κs = search needs
 
 raise-requires : tie.Need-raise-requires
 raise-requires c κs = search needs
@@ -93,7 +94,7 @@ raise-requires-8 : tie.Need-raise-requires-8
 raise-requires-8 c κs = search needs
 
 paint-requires : tie.Need-paint-requires
-paint-requires c κs = search needs
+paint-requires c κs = c .before .before .before .before .before .before .before .before .before .before .before .before .label-of .ensures
 
 meet-requires-3 : tie.Need-meet-requires-3
 meet-requires-3 c κs = search needs
@@ -110,8 +111,8 @@ gain-requires-2 c κs = search needs
 apart-requires : tie.Need-apart-requires
 apart-requires c κs = search needs
 
-returns-2 : tie.Need-returns-2
-returns-2 c =
+returns-3 : tie.Need-returns-3
+returns-3 c =
     let leaf = c .before in
     let leaf-met = leaf .before in
     let root = leaf-met .before in
@@ -129,28 +130,26 @@ returns-2 c =
     let children = parents .before in
     let free = children .before in
     let test = free .before in
-    let differing = test .before in
-    let shown = differing .before in
-    let others = shown .before in
+    let shown = test .before in
+    let differs-not = shown .before in
+    let differing = differs-not .before in
+    let others = differing .before in
     let far = others .before in
     let leafy = far .before in
     let met = leafy .before in
-    let near = met .before in
-    let down = near .before in
-    let s = down .before .before .before .before .before .before .before in
-    let o = or-no _ _ (free .if1 .left) in
-    round-well _ _ _ _ _ _ (x-small s) (down .union-rows .ensures) (near .union-rows2 .ensures) (far .union-rows3 .ensures) (rw (leafy .when .ensures, met .meet .ensures))
+    let s = met .before .before .before .before .before .before .before in
+    round-well _ _ _ _ _ _ (x-small s) (s .pre .0) (s .pre .1) (far .union-rows .ensures) (rw (leafy .when .ensures, met .meet .ensures))
     (root-small s) (leaf-small s) _ _
     (record {
-      is-parents = parents .union-rows6 .ensures;
+      is-parents = parents .union-rows4 .ensures;
       children = _;
-      is-children = children .union-rows5 .ensures;
+      is-children = children .union-rows3 .ensures;
       others = _;
-      is-others = others .union-rows4 .ensures;
-      apart = λ y. not-yes (sym (differing .meet2 .ensures) ∙ o .0) y;
+      is-others = others .union-rows2 .ensures;
+      apart = λ y. not-yes (sym (differing .meet2 .ensures) ∙ differs-not .if1 .left) y;
       shown = _;
       is-shown = shown .label-of .ensures;
-      only = test .two-labels .ensures .one (o .1);
+      only = test .two-labels .ensures .one (free .if2 .left);
       below = below .raise .ensures;
       above = above .raise2 .ensures;
       child-half = _;
@@ -172,18 +171,17 @@ pub unify-spec : {M : Type 1} → statement M
 unify-spec =
     tie.close
     (tie.spec
-    union-rows-requires
-    union-rows-requires-2
     meet-requires
     when-requires
+    union-rows-requires
+    union-rows-requires-2
+    meet-requires-2
+    returns
+    label-of-requires
+    two-labels-requires
+    returns-2
     union-rows-requires-3
     union-rows-requires-4
-    label-of-requires
-    meet-requires-2
-    two-labels-requires
-    returns
-    union-rows-requires-5
-    union-rows-requires-6
     raise-requires
     raise-requires-2
     raise-requires-3
@@ -198,4 +196,4 @@ unify-spec =
     meet-requires-4
     gain-requires-2
     apart-requires
-    returns-2)
+    returns-3)

@@ -1,48 +1,56 @@
--- `merge::union_rows` meets its contract: after x rows it holds what those named held together.
-use Prim.Native.Nat.{_<_, _≤_, _-_}
+-- `merge::union_rows` meets its contract: at every turn it holds what the rows named held together, but for those that are left.
 use mir.Val.{Fits}
 use mir.Syntax.{w16}
+use Prim.Native.Nat.{_<_}
+use native.Mathlib.Omega.{arith}
 use Rattle.tables.specs.Tables.{row}
-use Rattle.merge.proofs.Loops.{Gathered, gathered-none, gathered-more, no-union, is-union}
+use Rattle.merge.proofs.Loops.{Uniting, uniting-none, uniting-more, next-in, passed-less, is-union}
 use borrow.Author.Needs.{needs}
 use Rattle.merge.proofs.union_rows.Statement.{statement}
 use Rattle.merge.proofs.union_rows.Tie as tie
 
 abbrev Inv-loop : tie.InvT-loop
-Inv-loop rows t a₀ x₀ a x = (x ≤ 16) × (a < 65536) × Gathered (row t) rows x a
+Inv-loop rows t a₀ rest₀ a rest = Uniting t rows a rest
 
 abbrev μ-loop : tie.MeasureT-loop
-μ-loop rows t a₀ x₀ a x = 16 - x
+μ-loop rows t a₀ rest₀ a rest = rest
 
-returns : tie.Need-returns Inv-loop μ-loop
-returns c = no-union _ _ (c .if1 .taken)
+variable-in : (c : tie.After-lowest Inv-loop μ-loop) → c .lowest .result < 16
+variable-in c = next-in _ _ _ _ (c .before .before .loop .inv .passed) (c .before .loop-test .taken) (c .lowest .ensures)
 
 loop-holds : tie.Need-loop-holds Inv-loop μ-loop
-loop-holds c = (search needs, search needs, gathered-none _ _)
+loop-holds c = uniting-none _ _ (c .fits .rows .fits)
+
+lowest-requires : tie.Need-lowest-requires Inv-loop μ-loop
+lowest-requires c κs = search needs
 
 mul-v : tie.Need-mul-v Inv-loop μ-loop
-mul-v c = search needs
+mul-v c = omega (arith, variable-in c)
 
 array-read-v : tie.Need-array-read-v Inv-loop μ-loop
-array-read-v c = search needs
+array-read-v c = variable-in c
 
-has-requires : tie.Need-has-requires Inv-loop μ-loop
-has-requires c κs = search needs
+one-requires : tie.Need-one-requires Inv-loop μ-loop
+one-requires c κs = variable-in c
 
-gain-requires : tie.Need-gain-requires Inv-loop μ-loop
-gain-requires c κs = search needs
-
-add-x : tie.Need-add-x Inv-loop μ-loop
-add-x c = search needs
+except-requires : tie.Need-except-requires Inv-loop μ-loop
+except-requires c κs = search needs
 
 loop-less : tie.Need-loop-less Inv-loop μ-loop
-loop-less c = search needs
+loop-less c =
+    let w = c .before .before in
+    let l = w .before .before in
+    rw (c .except .ensures, c .before .one .ensures) (passed-less _ _ _ _ (l .loop .inv .passed) (w .before .loop-test .taken) (w .lowest .ensures))
 
 loop-again : tie.Need-loop-again Inv-loop μ-loop
-loop-again c = (search needs, (let h : Fits w16 (c .gain .result) = search needs in h .fits), gathered-more _ _ _ _ _ (rw (c .gain .ensures, c .before .has .ensures)) (c .before .before .before .loop .inv .2))
+loop-again c =
+    let w = c .before .before in
+    let l = w .before .before in
+    let v : Fits w16 (row (l .before .args .t1) (w .lowest .result)) = search needs in
+    rw (c .except .ensures, c .before .one .ensures) (uniting-more _ _ _ _ _ (l .loop .inv) (w .before .loop-test .taken) (w .lowest .ensures) (v .fits))
 
-returns-2 : tie.Need-returns-2 Inv-loop μ-loop
-returns-2 c = is-union _ _ _ _ (let h : Fits w16 (c .before .before .before .args .rows) = search needs in h .fits) (c .before .loop .inv .1) (search needs) (c .before .loop .inv .2)
+returns : tie.Need-returns Inv-loop μ-loop
+returns c = is-union _ _ _ _ (c .before .loop .inv) (c .loop-test .left)
 
 pub union-rows-spec : {M : Type 1} → statement M
 union-rows-spec =
@@ -50,13 +58,12 @@ union-rows-spec =
     (tie.spec
     Inv-loop
     μ-loop
-    returns
     loop-holds
+    lowest-requires
     mul-v
     array-read-v
-    has-requires
-    gain-requires
-    add-x
+    one-requires
+    except-requires
     loop-less
     loop-again
-    returns-2)
+    returns)
