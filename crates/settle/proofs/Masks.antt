@@ -1,18 +1,18 @@
 -- The masks of a row x: root, leaf and groups after it, how far its loops go, and that a mask of differences is 0 where nothing changed.
 use mathlib.Core.Path.{_≡_, refl, subst}
 use mathlib.Core.Logic.{_≢_, _⊎_, inl, inr, ⊎-elim}
-use mathlib.Core.Bool.{Bool, true, false}
+use mathlib.Core.Bool.{Bool, true, false, false≢true}
 use Prim.Native.Nat.{ℕ, _^_, _<_, _≤_, zero-le}
 use native.Mathlib.Nat.{le-refl}
 use native.Mathlib.Omega.{arith}
 use lib.Dec.{eqb}
-use lib.Bits.{bitOr, bitXor, xor-self}
+use lib.Bits.{bitOr, bitAnd, bitXor, xor-self}
 use Rattle.meaning.specs.Finite.{Yes, _or_, neg, pick}
 use Rattle.meaning.proofs.Tests.{clash, yes-case, or-left, or-right, no-neg, is-eq, pick-yes}
 use Rattle.rowbits.specs.Bit.{bit}
 use Rattle.tables.specs.Rows.{Up, meets}
-use Rattle.tables.proofs.Bits.{or-l, gained-up, gained-has, gained-case, gained-small, one-is, one-has, one-small, meets-in, meets-out, xor-zero, or-zero}
-use Rattle.settle.specs.Rows.{spread, grouped, spanned}
+use Rattle.tables.proofs.Bits.{or-l, in-both, gained-up, gained-has, gained-case, gained-small, one-is, one-has, one-small, meets-in, meets-out, xor-zero, or-zero}
+use Rattle.settle.specs.Rows.{spread, grouped, spanned, lacking}
 
 -- ---- a mask after row x
 
@@ -55,6 +55,21 @@ spanned-cases s x rest groups n =
   where
     same-is : Yes (neg (neg (eqb (bitOr s (2 ^ x)) (2 ^ x)) or meets rest groups)) → bitOr s (2 ^ x) ≡ 2 ^ x
     same-is u = ⊎-elim is-eq (λ v. clash (or-left _ v) u) (yes-case (eqb (bitOr s (2 ^ x)) (2 ^ x)))
+
+-- how far the loop over z goes
+pub lacking-cases : (a b i : ℕ) → Yes (bit a i) → Yes (lacking a b) ⊎ Yes (bit b i)
+unfolding lacking
+lacking-cases a b i u = ⊎-elim (λ e. inr (subst (λ (k : ℕ). Yes (bit k i)) (is-eq e) (or-l a b i u))) inl (yes-case (eqb (bitOr a b) b))
+
+pub full-differ : (t : Bool) (c d f i : ℕ) → f ≡ pick t (bitAnd c d) d → Yes (bit f i) → Yes (bit d i)
+unfolding pick
+full-differ true c d f i e u = in-both c d i (subst (λ (k : ℕ). Yes (bit k i)) e u) .1
+full-differ false c d f i e u = subst (λ (k : ℕ). Yes (bit k i)) e u
+
+pub full-child : (t : Bool) (c d f i : ℕ) → f ≡ pick t (bitAnd c d) d → Yes t → Yes (bit f i) → Yes (bit c i)
+unfolding pick
+full-child true c d f i e s u = in-both c d i (subst (λ (k : ℕ). Yes (bit k i)) e u) .0
+full-child false c d f i e s u = absurd (false≢true s)
 
 -- ---- what changed
 

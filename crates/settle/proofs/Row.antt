@@ -73,8 +73,9 @@ module _ (n : ℕ) (small : n ≤ 16) (m : ℕ) (f : Facts) (x : ℕ) (hx : x < 
   unfolding has
   same-in y l s = both-in b up y (b-up .kept y (p .above .below x .kept y (s .down))) (gu-to y (omega arith) (s .up))
 
-  module _ (y end c d l rt lf now : ℕ) (he : end ≡ spanned same x (bitOr (row (g .child) x) d₀) groups n) (hy : end ≤ y)
-      (v : Visiting n g groups same x (row (g .child) x) d₀ (row (g .label) x) y c d l)
+  module _ (ups : List ℕ) (cols : (k z : ℕ) → k < n → z < n → Yes (has f (below z k)) → Yes (bit (row ups k) z))
+      (y end c d l rt lf now : ℕ) (he : end ≡ spanned same x (bitOr (row (g .child) x) d₀) groups n) (hy : end ≤ y)
+      (v : Visiting n g ups same x (row (g .child) x) d₀ (row (g .label) x) y c d l)
       (free : bit d₀ x ≡ false)
       (ert : rt ≡ spread (g .root) same x) (elf : lf ≡ spread (g .leaf) same x) (enow : now ≡ grouped groups same x) where
     abbrev pub g' : Facts
@@ -149,10 +150,10 @@ module _ (n : ℕ) (small : n ≤ 16) (m : ℕ) (f : Facts) (x : ℕ) (hx : x < 
         (λ q. subst (λ (j : ℕ). row (g .label) j ≢ 0 → l ≡ row (g .label) j) (sym (q .0 k a)) (v .label-up .kept) e)
         (spanned-cases same x (bitOr (row (g .child) x) d₀) groups n)
 
-    all-columns : (k z : ℕ) → k < n → z < n → Yes (bit groups k) → Yes (bit (row (g .below) k) z) → Yes (bit (row (g .below) z) k)
+    all-columns : (k z : ℕ) → k < n → z < n → Yes (bit groups k) → Yes (bit (row (g .below) k) z) → Yes (bit (row ups k) z)
         → (Yes (bit (row (g .child) x) k) → Yes (bit c z)) × (Yes (bit d₀ k) → Yes (bit d z))
     all-columns k z h hz a s t =
-        ⊎-elim (λ q. v .columns k z (le-trans h (le-trans (subst (λ (j : ℕ). n ≤ j) (sym (he ∙ q)) (le-refl _)) hy)) hz a s t)
+        ⊎-elim (λ q. v .columns k z (le-trans h (le-trans (subst (λ (j : ℕ). n ≤ j) (sym (he ∙ q)) (le-refl _)) hy)) hz s t)
         (λ q. ((λ u. absurd (q .1 k (or-l (row (g .child) x) d₀ k u) a)), (λ u. absurd (q .1 k (or-r (row (g .child) x) d₀ k u) a))))
         (spanned-cases same x (bitOr (row (g .child) x) d₀) groups n)
 
@@ -205,8 +206,8 @@ module _ (n : ℕ) (small : n ≤ 16) (m : ℕ) (f : Facts) (x : ℕ) (hx : x < 
       shared-leaf = λ y h s u. subst (λ (j : ℕ). Yes (bit j x)) (sym elf) (spread-has _ _ x y (into-g (leaf y) u) (same-in y h s));
       shared-label = λ y k h s u. let q = label-is g y k (into-g (label y k) u) in
           label-has g' x k (set-same (g .label) x l (p .shape .label) l16 ∙ all-named y h (same-in y h s) (λ z. q .1 (sym (q .0) ∙ z)) ∙ q .0) (q .1);
-      column-child = λ y z h hz e s u. child-now z (all-columns y z h hz (p .groups-up .kept y e) (into-g (below y z) (s .down)) (into-g (below z y) (s .up)) .0 (into-g (child x y) u));
-      column-differ = λ y z h hz e s u. differ-now z (all-columns y z h hz (p .groups-up .kept y e) (into-g (below y z) (s .down)) (into-g (below z y) (s .up)) .1 (d₀-has y (into-g (differ x y) u)));
+      column-child = λ y z h hz e s u. child-now z (all-columns y z h hz (p .groups-up .kept y e) (into-g (below y z) (s .down)) (cols y z h hz (s .up)) .0 (into-g (child x y) u));
+      column-differ = λ y z h hz e s u. differ-now z (all-columns y z h hz (p .groups-up .kept y e) (into-g (below y z) (s .down)) (cols y z h hz (s .up)) .1 (d₀-has y (into-g (differ x y) u)));
       grouped = λ y h s e. subst (λ (j : ℕ). Yes (bit j x)) (sym enow) (group-has _ _ x y (same-in y h s) e);
     }
 

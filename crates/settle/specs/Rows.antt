@@ -38,6 +38,10 @@ grouped row same x = gained (neg (eqb (bitOr same (2 ^ x)) (2 ^ x))) row (2 ^ x)
 unfoldable pub spanned : ℕ → ℕ → ℕ → ℕ → ℕ → ℕ
 spanned same x rest groups n = pick (neg (eqb (bitOr same (2 ^ x)) (2 ^ x)) or meets rest groups) n 0
 
+-- some of the first row is not in the second
+unfoldable pub lacking : ℕ → ℕ → Bool
+lacking a b = neg (eqb (bitOr a b) b)
+
 -- row y added to each row that has y
 pub record Lifted (t : List ℕ) (y : ℕ) (r : List ℕ) : Type 0 where
   pub within : (x : ℕ) → x < 16 → row r x ≡ gained (bit (row t x) y) (row t x) (row t y)

@@ -1,9 +1,10 @@
 // Settling: the tables of rows, closed under the rules of document 01 by passes over x, y and z.
 ghost use mathlib.Core.Path.{_≡_};
 ghost use Prim.Native.Nat.{_<_, _≤_};
-ghost use Rattle.meaning.specs.Finite.{pick};
-ghost use Rattle.tables.specs.Rows.{both};
-ghost use Rattle.settle.specs.Rows.{firstRow, twin, clashing, merged, spread, grouped, spanned, Chained};
+ghost use Rattle.meaning.specs.Finite.{pick, _and_};
+ghost use Rattle.rowbits.specs.Bit.{bit};
+ghost use lib.Bits.{bitAnd};
+ghost use Rattle.settle.specs.Rows.{firstRow, twin, clashing, merged, spread, grouped, spanned, lacking, Chained};
 ghost use Rattle.settle.specs.Pass.{PassOf};
 ghost use Rattle.settle.specs.Settling.{SettledOf};
 use tables::Facts;
@@ -93,12 +94,22 @@ fn span(same: u16, x: usize, row: u16, groups: u16, n: usize) -> usize
     0
 }
 
-// How many z row x has to look at for y: none, where y is no child or differ of x or is in no group.
-fn depth(row: u16, groups: u16, y: usize, n: usize) -> usize
-    requires { ⌜ y < 16 ⌝ }
-    ensures { λ r. ⌜ r ≡ pick (both row y groups y) n 0 ⌝ }
+// What the rows of x have of a group for sure: of a child's in both, of a differ's in differ.
+fn full(child: bool, c: u16, d: u16) -> u16
+    ensures { λ r. ⌜ r ≡ pick child (bitAnd c d) d ⌝ }
 {
-    if tables::has_both(row, y, groups, y) {
+    if child {
+        return c & d;
+    }
+    d
+}
+
+// How many z row x has to look at for y: none, where y is no child or differ of x or all its twins are in the rows.
+fn depth(row: u16, y: usize, twins: u16, full: u16, n: usize) -> usize
+    requires { ⌜ y < 16 ⌝ }
+    ensures { λ r. ⌜ r ≡ pick (bit row y and lacking twins full) n 0 ⌝ }
+{
+    if rowbits::has(row, y) & (twins | full != full) {
         return n;
     }
     0
@@ -157,6 +168,7 @@ fn pass(f: Facts, n: usize, m: u16) -> Passed
             let by = g.below[y];
             let cy = g.child[y];
             let ly = g.label[y];
+            let uy = ups[y];
             let t = rowbits::has(same, y);
             c = tables::gain(t, c, cy);
             if clashes(t, l, ly) {
@@ -165,7 +177,7 @@ fn pass(f: Facts, n: usize, m: u16) -> Passed
             }
             l = merge(t, l, ly);
             let hc = rowbits::has(c, y);
-            let stop = depth(c | d, groups, y, n);
+            let stop = depth(c | d, y, by & uy, full(hc, c, d), n);
             for z in 0..stop {
                 let bz = g.below[z];
                 let v = twins(by, bz, y, z);

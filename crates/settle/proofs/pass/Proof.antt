@@ -17,7 +17,6 @@ use Rattle.meaning.specs.Finite.{Yes}
 use Rattle.meaning.proofs.Tests.{and-left}
 use Rattle.rowbits.specs.Bit.{bit}
 use Rattle.tables.specs.Tables.{row, has}
-use Rattle.tables.specs.Rows.{both}
 use Rattle.tables.specs.declared.Facts.{Facts}
 use Rattle.tables.proofs.Bits.{or-case}
 use Rattle.tables.proofs.Shape.{label-has, Rows, Shape}
@@ -32,16 +31,16 @@ use Rattle.settle.proofs.pass.Statement.{statement}
 use Rattle.settle.proofs.pass.Tie as tie
 
 abbrev Inv-loop2 : tie.InvT-loop2
-Inv-loop2 n m g start childs ups backs groups diff clash₀ x ob nb oc od ol up back b same c₀ d₀ l end y by cy ly t hc stop z₀ clash c d z =
+Inv-loop2 n m g start childs ups backs groups diff clash₀ x ob nb oc od ol up back b same c₀ d₀ l end y by cy ly uy t hc stop z₀ clash c d z =
     (z ≤ stop) × (stop ≤ n) × (clash ≡ false) × Sharing n g x y hc c₀ d₀ z c d
 
 abbrev μ-loop2 : tie.MeasureT-loop2
-μ-loop2 n m g start childs ups backs groups diff clash₀ x ob nb oc od ol up back b same c₀ d₀ l end y by cy ly t hc stop z₀ clash c d z =
+μ-loop2 n m g start childs ups backs groups diff clash₀ x ob nb oc od ol up back b same c₀ d₀ l end y by cy ly uy t hc stop z₀ clash c d z =
     stop - z
 
 abbrev Inv-loop : tie.InvT-loop
 Inv-loop n m g start childs ups backs groups diff clash₀ x ob nb oc od ol up back b same c₀ d₀ l₀ end y₀ clash c d l y =
-    (y ≤ end) × (end ≤ n) × (clash ≡ false) × Visiting n g groups same x c₀ d₀ l₀ y c d l
+    (y ≤ end) × (end ≤ n) × (clash ≡ false) × Visiting n g ups same x c₀ d₀ l₀ y c d l
 
 abbrev μ-loop : tie.MeasureT-loop
 μ-loop n m g start childs ups backs groups diff clash₀ x ob nb oc od ol up back b same c₀ d₀ l₀ end y₀ clash c d l y =
@@ -123,7 +122,7 @@ abbrev row-of : In-loop → After-span
 row-of c = c .before .before
 
 abbrev visit-of : After-depth → In-loop
-visit-of c = c .before .before .before .before .before .before .before .before .before .before
+visit-of c = c .before .before .before .before .before .before .before .before .before .before .before
 
 abbrev z-of : In-loop2 → After-depth
 z-of c = c .before .before
@@ -241,10 +240,18 @@ module _ (c : After-meeting) where
   d₀-fits : d₀ < 65536
   d₀-fits = d₀-small n n-small m f x hx g groups _ known up par turned par-small turned-small gu gu-to (c .meeting .ensures) gt gt-to
 
-  visiting-start : Visiting n g groups same x (row (g .child) x) d₀ (row (g .label) x) 0 (row (g .child) x) d₀ (row (g .label) x)
+  -- the columns of below, as the pass has them and as f had them
+  cols : (k z : ℕ) → k < n → z < n → Yes (has f (below z k)) → Yes (bit (row (ups .transpose .result) k) z)
+  unfolding has
+  cols k z h hz u = ups .transpose .ensures .columns k (le-trans h n-small) .to z (le-trans hz n-small) (chains .chain-rows .ensures .up z .kept k u)
+
+  cols-in : (k : ℕ) → k < 16 → (z : ℕ) → Yes (bit (row (ups .transpose .result) k) z) → Yes (bit (row (g .below) z) k)
+  cols-in k h z u = loop-x .pass .inv .3 .below z .kept k (ups .transpose .ensures .columns k h .from z u)
+
+  visiting-start : Visiting n g (ups .transpose .result) same x (row (g .child) x) d₀ (row (g .label) x) 0 (row (g .child) x) d₀ (row (g .label) x)
   unfolding has
   visiting-start =
-      visiting-none n g groups same x (row (g .child) x) d₀ (row (g .label) x) (known .shape .child .small x) d₀-fits (known .shape .label .small x)
+      visiting-none n g (ups .transpose .result) same x (row (g .child) x) d₀ (row (g .label) x) (known .shape .child .small x) d₀-fits (known .shape .label .small x)
       (λ i u S s. s (child x i) u) d₀-known (λ z S s. s (label x (row (g .label) x)) (label-has g x (row (g .label) x) refl z))
 
 -- what is known in the loop over y, once row y is in
@@ -256,42 +263,41 @@ module _ (c : After-depth) where
   visit = visit-of c .before
 
   abbrev tested : After-has2
-  tested = c .before .before .before .before .before .before
+  tested = c .before .before .before .before .before .before .before
 
   abbrev shared : After-gain
-  shared = c .before .before .before .before .before
+  shared = c .before .before .before .before .before .before
 
   abbrev y : ℕ
   y = visit .loop .y
 
-  so-far : Visiting (n at-row) (g at-row) (groups at-row) (same at-row) (x at-row) (row (g at-row .child) (x at-row)) (d₀ at-row) (row (g at-row .label) (x at-row)) y (visit .loop .c) (visit .loop .d) (visit .loop .l)
+  so-far : Visiting (n at-row) (g at-row) (ups at-row .transpose .result) (same at-row) (x at-row) (row (g at-row .child) (x at-row)) (d₀ at-row) (row (g at-row .label) (x at-row)) y (visit .loop .c) (visit .loop .d) (visit .loop .l)
   so-far = visit .loop .inv .3
 
   not-clashing : clashing (tested .has2 .result) (visit .loop .l) (row (g at-row .label) y) ≡ false
-  not-clashing = sym (c .before .before .before .before .clashes .ensures) ∙ c .before .before .before .if2 .left
+  not-clashing = sym (c .before .before .before .before .before .clashes .ensures) ∙ c .before .before .before .before .if2 .left
 
   child-known : (i : ℕ) → Yes (bit (shared .gain .result) i) → D (n at-row) (g at-row) (child (x at-row) i)
   child-known =
-      child-y (n at-row) (g at-row) (known at-row .shape) (groups at-row) (same at-row) (x at-row) _ _ _ y _ _ _ (tested .has2 .result) (tested .has2 .ensures)
-      (same-known at-row) so-far (shared .gain .result) (c .before .before .merge .result) (shared .gain .ensures) (c .before .before .merge .ensures) not-clashing
+      child-y (n at-row) (g at-row) (known at-row .shape) (ups at-row .transpose .result) (same at-row) (x at-row) _ _ _ y _ _ _ (tested .has2 .result) (tested .has2 .ensures)
+      (same-known at-row) so-far (shared .gain .result) (c .before .before .before .merge .result) (shared .gain .ensures) (c .before .before .before .merge .ensures) not-clashing
 
   child-fits : shared .gain .result < 65536
   child-fits =
-      child-y-small (n at-row) (g at-row) (known at-row .shape) (groups at-row) (same at-row) (x at-row) _ _ _ y _ _ _ (tested .has2 .result) (tested .has2 .ensures)
-      (same-known at-row) so-far (shared .gain .result) (c .before .before .merge .result) (shared .gain .ensures) (c .before .before .merge .ensures) not-clashing
+      child-y-small (n at-row) (g at-row) (known at-row .shape) (ups at-row .transpose .result) (same at-row) (x at-row) _ _ _ y _ _ _ (tested .has2 .result) (tested .has2 .ensures)
+      (same-known at-row) so-far (shared .gain .result) (c .before .before .before .merge .result) (shared .gain .ensures) (c .before .before .before .merge .ensures) not-clashing
 
-  sharing-start : Sharing (n at-row) (g at-row) (x at-row) y (c .before .has3 .result) (shared .gain .result) (visit .loop .d) 0 (shared .gain .result) (visit .loop .d)
-  sharing-start = sharing-none (n at-row) (g at-row) (x at-row) y (c .before .has3 .result) (shared .gain .result) (visit .loop .d) child-fits (so-far .differ-small) child-known (so-far .differ-s)
+  sharing-start : Sharing (n at-row) (g at-row) (x at-row) y (c .before .before .has3 .result) (shared .gain .result) (visit .loop .d) 0 (shared .gain .result) (visit .loop .d)
+  sharing-start = sharing-none (n at-row) (g at-row) (x at-row) y (c .before .before .has3 .result) (shared .gain .result) (visit .loop .d) child-fits (so-far .differ-small) child-known (so-far .differ-s)
 
   -- the loop over z runs only for a child or a differ in a group
   differ-known : (z : ℕ) → z < c .depth .result → D (n at-row) (g at-row) (differ (x at-row) y)
-  unfolding both
   differ-known z h =
       ⊎-elim (λ u S s. child-differ (child-known y u S s)) (so-far .differ-s y)
       (or-case (shared .gain .result) (visit .loop .d) y (and-left _ (picked-on _ _ _ z (c .depth .ensures) h)))
 
-  hc-known : Yes (c .before .has3 .result) → D (n at-row) (g at-row) (child (x at-row) y)
-  hc-known u = child-known y (sym (c .before .has3 .ensures) ∙ u)
+  hc-known : Yes (c .before .before .has3 .result) → D (n at-row) (g at-row) (child (x at-row) y)
+  hc-known u = child-known y (sym (c .before .before .has3 .ensures) ∙ u)
 
 chain-rows-requires :
     tie.Need-chain-rows-requires Inv-loop2 μ-loop2 Inv-loop μ-loop Inv-pass μ-pass
@@ -383,6 +389,12 @@ element-copy-out-ly :
     tie.Need-element-copy-out-ly Inv-loop2 μ-loop2 Inv-loop μ-loop Inv-pass μ-pass
 element-copy-out-ly c = search needs
 
+mul-uy : tie.Need-mul-uy Inv-loop2 μ-loop2 Inv-loop μ-loop Inv-pass μ-pass
+mul-uy c = search needs
+
+array-read-uy : tie.Need-array-read-uy Inv-loop2 μ-loop2 Inv-loop μ-loop Inv-pass μ-pass
+array-read-uy c = search needs
+
 has-requires-2 : tie.Need-has-requires-2 Inv-loop2 μ-loop2 Inv-loop μ-loop Inv-pass μ-pass
 has-requires-2 c κs = search needs
 
@@ -398,8 +410,11 @@ merge-requires c κs = search needs
 has-requires-3 : tie.Need-has-requires-3 Inv-loop2 μ-loop2 Inv-loop μ-loop Inv-pass μ-pass
 has-requires-3 c κs = y-small (c .before .before .before .before .before .before .before .before)
 
+full-requires : tie.Need-full-requires Inv-loop2 μ-loop2 Inv-loop μ-loop Inv-pass μ-pass
+full-requires c κs = search needs
+
 depth-requires : tie.Need-depth-requires Inv-loop2 μ-loop2 Inv-loop μ-loop Inv-pass μ-pass
-depth-requires c κs = y-small (c .before .before .before .before .before .before .before .before .before)
+depth-requires c κs = y-small (c .before .before .before .before .before .before .before .before .before .before)
 
 loop2-holds : tie.Need-loop2-holds Inv-loop2 μ-loop2 Inv-loop μ-loop Inv-pass μ-pass
 loop2-holds c = (zero-le, picked-most _ _ _ (c .depth .ensures), visit c .loop .inv .2, sharing-start c)
@@ -450,8 +465,8 @@ loop-again c =
       add-one-le (visit-of d .loop-test .taken),
       visit d .loop .inv .1,
       c .before .loop2 .inv .2,
-      visiting-more _ _ (known r .shape) _ _ _ _ _ _ _ _ _ _ _ (tested d .has2 .ensures) (same-known r) (so-far d) _ _ (shared d .gain .ensures) (d .before .before .merge .ensures)
-          (not-clashing d) _ _ _ _ _ (d .before .has3 .ensures) (d .depth .ensures) (c .loop2-test .left) (c .before .loop2 .inv .3),
+      visiting-more _ _ (known r .shape) _ _ _ _ _ _ _ _ _ _ _ (tested d .has2 .ensures) (same-known r) (so-far d) _ _ (shared d .gain .ensures) (d .before .before .before .merge .ensures)
+          (not-clashing d) _ _ _ _ _ _ (cols-in r _ (y-small (visit-of d))) (d .before .before .has3 .ensures) (d .before .full .ensures) (d .depth .ensures) (c .loop2-test .left) (c .before .loop2 .inv .3),
     )
 
 spreads-requires : tie.Need-spreads-requires Inv-loop2 μ-loop2 Inv-loop μ-loop Inv-pass μ-pass
@@ -504,11 +519,11 @@ pass-again c =
       add-one-le (hx r),
       l .before .loop .inv .2,
       passing-more-as _ (n-small r) _ _ _ (hx r) _ _ _ (known r) _ _ _ (par-small r) (turned-small r) (gu r) (gu-to r) (r .meeting .ensures) (gt r) (gt-to r)
-          _ _ _ _ _ _ _ _ (l .before .before .span .ensures) (l .loop-test .left) (l .before .loop .inv .3) free
+          _ (cols r) _ _ _ _ _ _ _ _ (l .before .before .span .ensures) (l .loop-test .left) (l .before .loop .inv .3) free
           (c .before .before .before .before .spreads .ensures) (c .before .before .before .spreads2 .ensures) (c .before .before .group .ensures) _ _ (c .before .widen .ensures) (c .widen2 .ensures),
       above-trans (loop-x r .pass .inv .3)
           (grows _ (n-small r) _ _ _ (hx r) _ _ _ (known r) _ _ _ (par-small r) (turned-small r) (gu r) (gu-to r) (r .meeting .ensures) (gt r) (gt-to r)
-          _ _ _ _ _ _ _ _ (l .before .before .span .ensures) (l .loop-test .left) (l .before .loop .inv .3) free
+          _ (cols r) _ _ _ _ _ _ _ _ (l .before .before .span .ensures) (l .loop-test .left) (l .before .loop .inv .3) free
           (c .before .before .before .before .spreads .ensures) (c .before .before .before .spreads2 .ensures) (c .before .before .group .ensures)),
     )
 
@@ -572,11 +587,14 @@ pass-spec =
     mul-cy
     element-copy-out-cy
     element-copy-out-ly
+    mul-uy
+    array-read-uy
     has-requires-2
     gain-requires
     clashes-requires
     merge-requires
     has-requires-3
+    full-requires
     depth-requires
     loop2-holds
     mul-bz
