@@ -1,5 +1,5 @@
 -- The masks of a row x: root, leaf and groups after it, how far its loops go, and that a mask of differences is 0 where nothing changed.
-use mathlib.Core.Path.{_≡_, refl, subst}
+use mathlib.Core.Path.{_≡_, refl, sym, subst}
 use mathlib.Core.Logic.{_≢_, _⊎_, inl, inr, ⊎-elim}
 use mathlib.Core.Bool.{Bool, true, false, false≢true}
 use Prim.Native.Nat.{ℕ, _^_, _<_, _≤_, zero-le}
@@ -11,7 +11,7 @@ use Rattle.meaning.specs.Finite.{Yes, _or_, neg, pick}
 use Rattle.meaning.proofs.Tests.{clash, yes-case, or-left, or-right, no-neg, is-eq, pick-yes}
 use Rattle.rowbits.specs.Bit.{bit}
 use Rattle.tables.specs.Rows.{Up, meets}
-use Rattle.tables.proofs.Bits.{or-l, in-both, gained-up, gained-has, gained-case, gained-small, one-is, one-has, one-small, meets-in, meets-out, xor-zero, or-zero}
+use Rattle.tables.proofs.Bits.{or-l, in-both, up-trans, gained-up, gained-has, gained-case, gained-small, one-is, one-has, one-small, meets-in, meets-out, xor-zero, or-zero}
 use Rattle.settle.specs.Rows.{spread, grouped, spanned, lacking}
 
 -- ---- a mask after row x
@@ -39,6 +39,9 @@ group-up r s x = gained-up _ _ _
 pub group-small : (r s x : ℕ) → r < 65536 → x < 16 → grouped r s x < 65536
 unfolding grouped
 group-small r s x h l = gained-small _ r _ h (one-small x l)
+
+pub group-more : (m a s x r : ℕ) → r ≡ grouped a s x → Up m a → Up m r
+group-more m a s x r e u = up-trans u (subst (λ (k : ℕ). Up a k) (sym e) (group-up a s x))
 
 pub group-has : (r s x y : ℕ) → Yes (bit s y) → y ≢ x → Yes (bit (grouped r s x) x)
 unfolding grouped

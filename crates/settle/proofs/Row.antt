@@ -33,7 +33,7 @@ module _ (n : ℕ) (small : n ≤ 16) (m : ℕ) (f : Facts) (x : ℕ) (hx : x < 
     (gu : (y : ℕ) → Yes (bit up y) → Yes (has g (below y x)))
     (gu-to : (y : ℕ) → y < 16 → Yes (has f (below y x)) → Yes (bit up y))
     (gp : Gathers (λ y. meets (row (f .child) y) (row (g .child) x)) par)
-    (gt : (y : ℕ) → Yes (bit turned y) → Yes (has g (differ y x)))
+    (gt : (y : ℕ) → Yes (bit turned y) → D n g (differ y x))
     (gt-to : (y : ℕ) → y < 16 → Yes (has f (differ y x)) → Yes (bit turned y)) where
   abbrev pub b : ℕ
   b = bitOr (bitOr (row (g .below) x) (bitAnd up (g .leaf))) par

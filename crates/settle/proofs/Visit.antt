@@ -36,7 +36,7 @@ have n g φ u S s = s φ u
 module _ (n : ℕ) (g : Facts) (x up par turned : ℕ)
     (gu : (y : ℕ) → Yes (bit up y) → Yes (has g (below y x)))
     (gp : (y : ℕ) → Yes (bit par y) → (i : ℕ) × Yes (has g (child y i)) × Yes (has g (child x i)))
-    (gt : (y : ℕ) → Yes (bit turned y) → Yes (has g (differ y x))) where
+    (gt : (y : ℕ) → Yes (bit turned y) → D n g (differ y x)) where
   -- above x
   pub up-s : (y : ℕ) → Yes (bit up y) → D n g (below y x)
   up-s y u = have n g (below y x) (gu y u)
@@ -54,7 +54,7 @@ module _ (n : ℕ) (g : Facts) (x up par turned : ℕ)
   differ-s₀ y u =
       ⊎-elim
       (λ v. ⊎-elim (λ t. have n g (differ x y) t) (λ t S s. child-differ (s (child x y) t)) (or-case _ _ y v))
-      (λ v S s. differ-back (s (differ y x) (gt y v)))
+      (λ v S s. differ-back (gt y v S s))
       (or-case _ _ y u)
 
 -- ---- over z

@@ -42,6 +42,10 @@ spanned same x rest groups n = pick (neg (eqb (bitOr same (2 ^ x)) (2 ^ x)) or m
 unfoldable pub lacking : ℕ → ℕ → Bool
 lacking a b = neg (eqb (bitOr a b) b)
 
+-- the rows of two tables together
+pub record United (t more r : List ℕ) : Type 0 where
+  pub rows : (x : ℕ) → x < 16 → row r x ≡ bitOr (row t x) (row more x)
+
 -- row y added to each row that has y
 pub record Lifted (t : List ℕ) (y : ℕ) (r : List ℕ) : Type 0 where
   pub within : (x : ℕ) → x < 16 → row r x ≡ gained (bit (row t x) y) (row t x) (row t y)

@@ -3,8 +3,9 @@ ghost use mathlib.Core.Path.{_≡_};
 ghost use Prim.Native.Nat.{_<_, _≤_};
 ghost use Rattle.meaning.specs.Finite.{pick, _and_};
 ghost use Rattle.rowbits.specs.Bit.{bit};
+ghost use Rattle.tables.specs.Rows.{Up};
 ghost use lib.Bits.{bitAnd};
-ghost use Rattle.settle.specs.Rows.{firstRow, twin, clashing, merged, spread, grouped, spanned, lacking, Chained};
+ghost use Rattle.settle.specs.Rows.{firstRow, twin, clashing, merged, spread, grouped, spanned, lacking, Chained, United};
 ghost use Rattle.settle.specs.Pass.{PassOf};
 ghost use Rattle.settle.specs.Settling.{SettledOf};
 use tables::Facts;
@@ -115,6 +116,33 @@ fn depth(row: u16, y: usize, twins: u16, full: u16, n: usize) -> usize
     0
 }
 
+// The rows of two tables together.
+fn unite(t: [u16; 16], more: [u16; 16]) -> [u16; 16]
+    ensures { λ r. ⌜ United t more r ⌝ }
+{
+    let mut a = t;
+    for x in 0usize..16 {
+        let v = a[x];
+        let w = more[x];
+        a[x] = v | w;
+    }
+    a
+}
+
+// The groups that the rows of below show, beside those of m: a pass that knows them at its start shares their columns at once.
+fn grouping(below: [u16; 16], above: [u16; 16], m: u16, n: usize) -> u16
+    requires { ⌜ n ≤ 16 ⌝ }
+    ensures { λ r. ⌜ Up m r ⌝ }
+{
+    let mut a = m;
+    for x in 0..n {
+        let down = below[x];
+        let up = above[x];
+        a = group(a, down & up, x);
+    }
+    a
+}
+
 struct Passed {
     clash: bool,
     diff: u16,
@@ -142,9 +170,9 @@ fn pass(f: Facts, n: usize, m: u16) -> Passed
     g.below = closed;
     let ups = tables::transpose(closed);
     let differ = f.differ;
-    let backs = tables::transpose(differ);
-    let mut groups = m;
-    let mut diff: u16 = 0;
+    let backs = tables::transpose(unite(differ, childs));
+    let mut groups = grouping(closed, ups, m, n);
+    let mut diff = m ^ groups;
     let mut clash = false;
     'pass: for x in 0..n {
         let ob = start[x];

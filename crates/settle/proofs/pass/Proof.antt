@@ -1,11 +1,12 @@
 -- `settle::pass` meets its contract. The loop over x knows every rule for the rows it has passed, the loops over y and z what they have
 -- added to row x; a clash found on the way is one of every set that the tables hold settled facts of.
 use mathlib.Core.Logic.{⊎-elim}
-use mathlib.Core.Path.{_≡_, refl, sym, _∙_}
+use mathlib.Core.Path.{_≡_, refl, sym, _∙_, subst}
 use mathlib.Core.Bool.{false}
 use Prim.Native.Nat.{zero-le, ℕ, _≤_, _<_, _-_}
 use native.Mathlib.Numerals.{add-one-le}
 use native.Mathlib.Nat.{le-trans}
+use native.Mathlib.Omega.{arith}
 use lib.Bits.{bitOr, bitAnd}
 use lib.ListN.{getD}
 use mir.Val.{Fits}
@@ -18,7 +19,7 @@ use Rattle.meaning.proofs.Tests.{and-left}
 use Rattle.rowbits.specs.Bit.{bit}
 use Rattle.tables.specs.Tables.{row, has}
 use Rattle.tables.specs.declared.Facts.{Facts}
-use Rattle.tables.proofs.Bits.{or-case}
+use Rattle.tables.proofs.Bits.{or-case, or-l, in-row}
 use Rattle.tables.proofs.Shape.{label-has, Rows, Shape}
 use Rattle.tables.proofs.Helpers.{doubled}
 use Rattle.settle.specs.Rows.{clashing}
@@ -67,6 +68,9 @@ After-transpose = tie.After-transpose Inv-loop2 μ-loop2 Inv-loop μ-loop Inv-pa
 
 abbrev After-transpose2 : Type 0
 After-transpose2 = tie.After-transpose2 Inv-loop2 μ-loop2 Inv-loop μ-loop Inv-pass μ-pass
+
+abbrev After-unite : Type 0
+After-unite = tie.After-unite Inv-loop2 μ-loop2 Inv-loop μ-loop Inv-pass μ-pass
 
 abbrev At-pass : Type 0
 At-pass = tie.At-pass Inv-loop2 μ-loop2 Inv-loop μ-loop Inv-pass μ-pass
@@ -127,8 +131,8 @@ visit-of c = c .before .before .before .before .before .before .before .before .
 abbrev z-of : In-loop2 → After-depth
 z-of c = c .before .before
 
-small : (c : In-pass) → c .before .before .before .before .before .before .before .before .args .n ≤ 16
-small c = c .before .before .before .before .before .before .before .before .pre
+small : (c : In-pass) → c .before .before .before .before .before .before .before .before .before .before .args .n ≤ 16
+small c = c .before .before .before .before .before .before .before .before .before .before .pre
 
 x-small : (c : In-pass) → c .before .pass .x < 16
 x-small c = le-trans (c .pass-test .taken) (small c)
@@ -150,10 +154,13 @@ module _ (c : After-meeting) where
   loop-x = in-x .before
 
   abbrev backs : After-transpose2
-  backs = loop-x .before
+  backs = loop-x .before .before
+
+  abbrev joined : After-unite
+  joined = backs .before
 
   abbrev ups : After-transpose
-  ups = backs .before .before
+  ups = backs .before .before .before
 
   abbrev chains : After-chain-rows
   chains = ups .before
@@ -208,19 +215,24 @@ module _ (c : After-meeting) where
   unfolding has
   gu-to y h u = ups .transpose .ensures .columns x hx16 .to y h (chains .chain-rows .ensures .up y .kept x u)
 
-  gt : (y : ℕ) → Yes (bit turned y) → Yes (has g (differ y x))
+  turned-small : turned < 65536
+  turned-small = let h : Fits w16 (getD (backs .transpose2 .result) x 0) = search needs in h .fits
+
+  gt : (y : ℕ) → Yes (bit turned y) → D n g (differ y x)
   unfolding has
-  gt y u = known .above .differ y .kept x (backs .transpose2 .ensures .columns x hx16 .from y u)
+  gt y u =
+      ⊎-elim (λ v S s. s (differ y x) (known .above .differ y .kept x v)) (λ v S s. child-differ (s (child y x) (known .above .child y .kept x v)))
+      (or-case (row (f .differ) y) (row (f .child) y) x
+      (subst (λ (k : ℕ). Yes (bit k x)) (joined .unite .ensures .rows y (in-row turned y turned-small u)) (backs .transpose2 .ensures .columns x hx16 .from y u)))
 
   gt-to : (y : ℕ) → y < 16 → Yes (has f (differ y x)) → Yes (bit turned y)
   unfolding has
-  gt-to y h u = backs .transpose2 .ensures .columns x hx16 .to y h u
+  gt-to y h u =
+      backs .transpose2 .ensures .columns x hx16 .to y h
+      (subst (λ (k : ℕ). Yes (bit k x)) (sym (joined .unite .ensures .rows y h)) (or-l (row (f .differ) y) (row (f .child) y) x u))
 
   par-small : par < 65536
   par-small = let h : Fits w16 par = search needs in h .fits
-
-  turned-small : turned < 65536
-  turned-small = let h : Fits w16 (getD (backs .transpose2 .result) x 0) = search needs in h .fits
 
   abbrev b : ℕ
   b = bitOr (bitOr (row (g .below) x) (bitAnd up (g .leaf))) par
@@ -310,11 +322,18 @@ transpose-requires-2 :
     tie.Need-transpose-requires-2 Inv-loop2 μ-loop2 Inv-loop μ-loop Inv-pass μ-pass
 transpose-requires-2 c κs = search needs
 
+unite-requires : tie.Need-unite-requires Inv-loop2 μ-loop2 Inv-loop μ-loop Inv-pass μ-pass
+unite-requires c κs = search needs
+
+grouping-requires : tie.Need-grouping-requires Inv-loop2 μ-loop2 Inv-loop μ-loop Inv-pass μ-pass
+grouping-requires c κs = search needs
+
 pass-holds : tie.Need-pass-holds Inv-loop2 μ-loop2 Inv-loop μ-loop Inv-pass μ-pass
 pass-holds c =
-    let r = c .before .before .before in
+    let r = c .before .before .before .before .before in
     let s = r .before .before .before in
-    (search needs, refl, passing-none _ _ (s .args .f) _ (shaped s) (closed-rows r) (s .fits .m .fits) (r .chain-rows .ensures), above-self _)
+    let h : Fits w16 (c .grouping .result) = search needs in
+    (search needs, refl, passing-none _ _ (s .args .f) _ (shaped s) (closed-rows r) (r .chain-rows .ensures) _ (h .fits) (c .grouping .ensures), above-self _)
 
 mul-ob : tie.Need-mul-ob Inv-loop2 μ-loop2 Inv-loop μ-loop Inv-pass μ-pass
 mul-ob c = search needs
@@ -484,29 +503,33 @@ widen-requires c κs = search needs
 widen-requires-2 : tie.Need-widen-requires-2 Inv-loop2 μ-loop2 Inv-loop μ-loop Inv-pass μ-pass
 widen-requires-2 c κs = search needs
 
+-- row x, where it is stored
+abbrev stored : tie.After-widen2 Inv-loop2 μ-loop2 Inv-loop μ-loop Inv-pass μ-pass → After-meeting
+stored c = c .before .before .before .before .before .before .before .before .before .before
+
 mul-g : tie.Need-mul-g Inv-loop2 μ-loop2 Inv-loop μ-loop Inv-pass μ-pass
-mul-g c = search needs
+mul-g c = doubled _ (hx16 (stored c))
 
 element-write-g : tie.Need-element-write-g Inv-loop2 μ-loop2 Inv-loop μ-loop Inv-pass μ-pass
-element-write-g c = search needs
+element-write-g c = hx16 (stored c)
 
 mul-g-2 : tie.Need-mul-g-2 Inv-loop2 μ-loop2 Inv-loop μ-loop Inv-pass μ-pass
-mul-g-2 c = search needs
+mul-g-2 c = doubled _ (hx16 (stored c))
 
 element-write-g-2 : tie.Need-element-write-g-2 Inv-loop2 μ-loop2 Inv-loop μ-loop Inv-pass μ-pass
-element-write-g-2 c = search needs
+element-write-g-2 c = hx16 (stored c)
 
 mul-g-3 : tie.Need-mul-g-3 Inv-loop2 μ-loop2 Inv-loop μ-loop Inv-pass μ-pass
-mul-g-3 c = search needs
+mul-g-3 c = doubled _ (hx16 (stored c))
 
 element-write-g-3 : tie.Need-element-write-g-3 Inv-loop2 μ-loop2 Inv-loop μ-loop Inv-pass μ-pass
-element-write-g-3 c = search needs
+element-write-g-3 c = hx16 (stored c)
 
 element-write-g-4 : tie.Need-element-write-g-4 Inv-loop2 μ-loop2 Inv-loop μ-loop Inv-pass μ-pass
-element-write-g-4 c = search needs
+element-write-g-4 c = hx16 (stored c)
 
 add-x : tie.Need-add-x Inv-loop2 μ-loop2 Inv-loop μ-loop Inv-pass μ-pass
-add-x c = search needs
+add-x c = omega (arith, hx16 (stored c))
 
 pass-less : tie.Need-pass-less Inv-loop2 μ-loop2 Inv-loop μ-loop Inv-pass μ-pass
 pass-less c = search needs
@@ -563,7 +586,9 @@ pass-spec =
     μ-pass
     chain-rows-requires
     transpose-requires
+    unite-requires
     transpose-requires-2
+    grouping-requires
     pass-holds
     mul-ob
     array-read-ob
