@@ -5,7 +5,7 @@ ghost use Rattle.meaning.specs.Finite.{pick, _and_};
 ghost use Rattle.rowbits.specs.Bit.{bit};
 ghost use Rattle.tables.specs.Rows.{Up};
 ghost use lib.Bits.{bitAnd};
-ghost use Rattle.settle.specs.Rows.{firstRow, twin, clashing, merged, spread, grouped, spanned, lacking, Chained, United};
+ghost use Rattle.settle.specs.Rows.{firstRow, twin, clashing, merged, spread, grouped, visited, lacking, Chained, United};
 ghost use Rattle.settle.specs.Pass.{PassOf};
 ghost use Rattle.settle.specs.Settling.{SettledOf};
 use tables::Facts;
@@ -83,16 +83,12 @@ fn chain_rows(below: [u16; 16], child: [u16; 16], root: u16, n: usize) -> [u16; 
     a
 }
 
-// How many y row x has to look at: none, where no other variable is the same as x and no child or differ of x is in a group.
-fn span(same: u16, x: usize, row: u16, groups: u16, n: usize) -> usize
+// The y that row x has to look at: the others that are the same, and each child or differ in a group.
+fn visits(same: u16, x: usize, row: u16, groups: u16) -> u16
     requires { ⌜ x < 16 ⌝ }
-    ensures { λ r. ⌜ r ≡ spanned same x row groups n ⌝ }
+    ensures { λ r. ⌜ r ≡ visited same x row groups ⌝ }
 {
-    let w = tables::one(x);
-    if (same | w != w) | tables::meet(row, groups) {
-        return n;
-    }
-    0
+    tables::except(same, tables::one(x)) | (row & groups)
 }
 
 // What the rows of x have of a group for sure: of a child's in both, of a differ's in differ.
@@ -191,8 +187,9 @@ fn pass(f: Facts, n: usize, m: u16) -> Passed
             clash = true;
             break 'pass;
         }
-        let end = span(same, x, c | d, groups, n);
-        for y in 0..end {
+        let mut rest = visits(same, x, c | d, groups);
+        while rest != 0 {
+            let y = tables::lowest(rest);
             let by = g.below[y];
             let cy = g.child[y];
             let ly = g.label[y];
@@ -216,6 +213,7 @@ fn pass(f: Facts, n: usize, m: u16) -> Passed
                     break 'pass;
                 }
             }
+            rest = tables::except(rest, tables::one(y));
         }
         let root = spreads(g.root, same, x);
         let leaf = spreads(g.leaf, same, x);

@@ -1,13 +1,13 @@
 -- `settle::pass` meets its contract. The loop over x knows every rule for the rows it has passed, the loops over y and z what they have
 -- added to row x; a clash found on the way is one of every set that the tables hold settled facts of.
 use mathlib.Core.Logic.{⊎-elim}
-use mathlib.Core.Path.{_≡_, refl, sym, _∙_, subst}
+use mathlib.Core.Path.{_≡_, refl, sym, ap, _∙_, subst}
 use mathlib.Core.Bool.{false}
-use Prim.Native.Nat.{zero-le, ℕ, _≤_, _<_, _-_}
+use Prim.Native.Nat.{zero-le, ℕ, _≤_, _<_, _-_, _^_}
 use native.Mathlib.Numerals.{add-one-le}
 use native.Mathlib.Nat.{le-trans}
 use native.Mathlib.Omega.{arith}
-use lib.Bits.{bitOr, bitAnd}
+use lib.Bits.{bitOr, bitAnd, and-le-r}
 use lib.ListN.{getD}
 use mir.Val.{Fits}
 use mir.Syntax.{w16}
@@ -19,12 +19,13 @@ use Rattle.meaning.proofs.Tests.{and-left}
 use Rattle.rowbits.specs.Bit.{bit}
 use Rattle.tables.specs.Tables.{row, has}
 use Rattle.tables.specs.declared.Facts.{Facts}
-use Rattle.tables.proofs.Bits.{or-case, or-l, in-row}
+use Rattle.tables.specs.Rows.{without}
+use Rattle.tables.proofs.Bits.{or-case, or-l, in-row, without-less}
 use Rattle.tables.proofs.Shape.{label-has, Rows, Shape}
 use Rattle.tables.proofs.Helpers.{doubled}
-use Rattle.settle.specs.Rows.{clashing}
+use Rattle.settle.specs.Rows.{clashing, visited}
 use Rattle.settle.proofs.Visit.{D, Sharing, Visiting, sharing-none, sharing-more, visiting-none, visiting-more, label-clash, differ-z, child-y, child-y-small}
-use Rattle.settle.proofs.Masks.{picked-on, spanned-most, picked-most}
+use Rattle.settle.proofs.Masks.{picked-on, picked-most, lowest-in}
 use Rattle.settle.proofs.Row.{passing-more-as, grows, same-s, d₀-s, d₀-small}
 use Rattle.settle.proofs.Above.{Above, above-trans, above-self}
 use Rattle.settle.proofs.Passing.{passing-none, gone, ended-well, ended-clash, Passing, began}
@@ -32,20 +33,20 @@ use Rattle.settle.proofs.pass.Statement.{statement}
 use Rattle.settle.proofs.pass.Tie as tie
 
 abbrev Inv-loop2 : tie.InvT-loop2
-Inv-loop2 n m g start childs ups backs groups diff clash₀ x ob nb oc od ol up back b same c₀ d₀ l end y by cy ly uy t hc stop z₀ clash c d z =
+Inv-loop2 n m g start childs ups backs groups diff clash₀ x ob nb oc od ol up back b same c₀ d₀ l rest y by cy ly uy t hc stop z₀ clash c d z =
     (z ≤ stop) × (stop ≤ n) × (clash ≡ false) × Sharing n g x y hc c₀ d₀ z c d
 
 abbrev μ-loop2 : tie.MeasureT-loop2
-μ-loop2 n m g start childs ups backs groups diff clash₀ x ob nb oc od ol up back b same c₀ d₀ l end y by cy ly uy t hc stop z₀ clash c d z =
+μ-loop2 n m g start childs ups backs groups diff clash₀ x ob nb oc od ol up back b same c₀ d₀ l rest y by cy ly uy t hc stop z₀ clash c d z =
     stop - z
 
 abbrev Inv-loop : tie.InvT-loop
-Inv-loop n m g start childs ups backs groups diff clash₀ x ob nb oc od ol up back b same c₀ d₀ l₀ end y₀ clash c d l y =
-    (y ≤ end) × (end ≤ n) × (clash ≡ false) × Visiting n g ups same x c₀ d₀ l₀ y c d l
+Inv-loop n m g start childs ups backs groups diff clash₀ x ob nb oc od ol up back b same c₀ d₀ l₀ rest₀ clash c d l rest =
+    (clash ≡ false) × Visiting n g ups groups same x c₀ d₀ l₀ rest c d l
 
 abbrev μ-loop : tie.MeasureT-loop
-μ-loop n m g start childs ups backs groups diff clash₀ x ob nb oc od ol up back b same c₀ d₀ l₀ end y₀ clash c d l y =
-    end - y
+μ-loop n m g start childs ups backs groups diff clash₀ x ob nb oc od ol up back b same c₀ d₀ l₀ rest₀ clash c d l rest =
+    rest
 
 abbrev Inv-pass : tie.InvT-pass
 Inv-pass n m g₀ start childs ups backs groups₀ diff₀ clash₀ x₀ g groups diff clash x =
@@ -81,14 +82,17 @@ In-pass = tie.In-pass Inv-loop2 μ-loop2 Inv-loop μ-loop Inv-pass μ-pass
 abbrev After-meeting : Type 0
 After-meeting = tie.After-meeting Inv-loop2 μ-loop2 Inv-loop μ-loop Inv-pass μ-pass
 
-abbrev After-span : Type 0
-After-span = tie.After-span Inv-loop2 μ-loop2 Inv-loop μ-loop Inv-pass μ-pass
+abbrev After-visits : Type 0
+After-visits = tie.After-visits Inv-loop2 μ-loop2 Inv-loop μ-loop Inv-pass μ-pass
 
 abbrev At-loop : Type 0
 At-loop = tie.At-loop Inv-loop2 μ-loop2 Inv-loop μ-loop Inv-pass μ-pass
 
 abbrev In-loop : Type 0
 In-loop = tie.In-loop Inv-loop2 μ-loop2 Inv-loop μ-loop Inv-pass μ-pass
+
+abbrev After-lowest : Type 0
+After-lowest = tie.After-lowest Inv-loop2 μ-loop2 Inv-loop μ-loop Inv-pass μ-pass
 
 abbrev After-has2 : Type 0
 After-has2 = tie.After-has2 Inv-loop2 μ-loop2 Inv-loop μ-loop Inv-pass μ-pass
@@ -119,14 +123,17 @@ closed-rows c = record { long = search needs; small = λ i. let h : Fits w16 (ge
 
 -- ---- paths
 
-abbrev turn-of : After-span → In-pass
+abbrev turn-of : After-visits → In-pass
 turn-of c = c .before .before .before .before .before .before .before .before
 
-abbrev row-of : In-loop → After-span
+abbrev row-of : In-loop → After-visits
 row-of c = c .before .before
 
 abbrev visit-of : After-depth → In-loop
-visit-of c = c .before .before .before .before .before .before .before .before .before .before .before
+visit-of c = c .before .before .before .before .before .before .before .before .before .before .before .before
+
+abbrev lowest-of : After-depth → After-lowest
+lowest-of c = c .before .before .before .before .before .before .before .before .before .before .before
 
 abbrev z-of : In-loop2 → After-depth
 z-of c = c .before .before
@@ -137,8 +144,8 @@ small c = c .before .before .before .before .before .before .before .before .bef
 x-small : (c : In-pass) → c .before .pass .x < 16
 x-small c = le-trans (c .pass-test .taken) (small c)
 
-y-small : (c : In-loop) → c .before .loop .y < 16
-y-small c = le-trans (c .loop-test .taken) (le-trans (c .before .loop .inv .1) (small (turn-of (row-of c))))
+y-small : (c : After-lowest) → c .lowest .result < 16
+y-small c = lowest-in _ _ (c .before .before .loop .inv .1 .rest-small) (c .before .loop-test .taken) (c .lowest .ensures)
 
 z-small : (c : In-loop2) → c .before .loop2 .z < 16
 z-small c = le-trans (c .loop2-test .taken) (le-trans (c .before .loop2 .inv .1) (small (turn-of (row-of (visit-of (z-of c))))))
@@ -260,10 +267,14 @@ module _ (c : After-meeting) where
   cols-in : (k : ℕ) → k < 16 → (z : ℕ) → Yes (bit (row (ups .transpose .result) k) z) → Yes (bit (row (g .below) z) k)
   cols-in k h z u = loop-x .pass .inv .3 .below z .kept k (ups .transpose .ensures .columns k h .from z u)
 
-  visiting-start : Visiting n g (ups .transpose .result) same x (row (g .child) x) d₀ (row (g .label) x) 0 (row (g .child) x) d₀ (row (g .label) x)
+  same-small : same < 65536
+  same-small = let h : Fits w16 (getD (ups .transpose .result) x 0) = search needs in let k = h .fits in let l = and-le-r b up in omega arith
+
+  visiting-start : (rest : ℕ) → rest < 65536 → rest ≡ visited same x (bitOr (row (g .child) x) d₀) groups
+      → Visiting n g (ups .transpose .result) groups same x (row (g .child) x) d₀ (row (g .label) x) rest (row (g .child) x) d₀ (row (g .label) x)
   unfolding has
-  visiting-start =
-      visiting-none n g (ups .transpose .result) same x (row (g .child) x) d₀ (row (g .label) x) (known .shape .child .small x) d₀-fits (known .shape .label .small x)
+  visiting-start rest hr er =
+      visiting-none n g (ups .transpose .result) groups same x d₀ rest (known .shape .child .small x) d₀-fits (known .shape .label .small x) same-small hr er
       (λ i u S s. s (child x i) u) d₀-known (λ z S s. s (label x (row (g .label) x)) (label-has g x (row (g .label) x) refl z))
 
 -- what is known in the loop over y, once row y is in
@@ -281,22 +292,22 @@ module _ (c : After-depth) where
   shared = c .before .before .before .before .before .before
 
   abbrev y : ℕ
-  y = visit .loop .y
+  y = lowest-of c .lowest .result
 
-  so-far : Visiting (n at-row) (g at-row) (ups at-row .transpose .result) (same at-row) (x at-row) (row (g at-row .child) (x at-row)) (d₀ at-row) (row (g at-row .label) (x at-row)) y (visit .loop .c) (visit .loop .d) (visit .loop .l)
-  so-far = visit .loop .inv .3
+  so-far : Visiting (n at-row) (g at-row) (ups at-row .transpose .result) (groups at-row) (same at-row) (x at-row) (row (g at-row .child) (x at-row)) (d₀ at-row) (row (g at-row .label) (x at-row)) (visit .loop .rest) (visit .loop .c) (visit .loop .d) (visit .loop .l)
+  so-far = visit .loop .inv .1
 
   not-clashing : clashing (tested .has2 .result) (visit .loop .l) (row (g at-row .label) y) ≡ false
   not-clashing = sym (c .before .before .before .before .before .clashes .ensures) ∙ c .before .before .before .before .if2 .left
 
   child-known : (i : ℕ) → Yes (bit (shared .gain .result) i) → D (n at-row) (g at-row) (child (x at-row) i)
   child-known =
-      child-y (n at-row) (g at-row) (known at-row .shape) (ups at-row .transpose .result) (same at-row) (x at-row) _ _ _ y _ _ _ (tested .has2 .result) (tested .has2 .ensures)
+      child-y (n at-row) (g at-row) (known at-row .shape) (ups at-row .transpose .result) (groups at-row) (same at-row) (x at-row) _ _ _ _ y _ _ _ (tested .has2 .result) (tested .has2 .ensures)
       (same-known at-row) so-far (shared .gain .result) (c .before .before .before .merge .result) (shared .gain .ensures) (c .before .before .before .merge .ensures) not-clashing
 
   child-fits : shared .gain .result < 65536
   child-fits =
-      child-y-small (n at-row) (g at-row) (known at-row .shape) (ups at-row .transpose .result) (same at-row) (x at-row) _ _ _ y _ _ _ (tested .has2 .result) (tested .has2 .ensures)
+      child-y-small (n at-row) (g at-row) (known at-row .shape) (ups at-row .transpose .result) (groups at-row) (same at-row) (x at-row) _ _ _ _ y _ _ _ (tested .has2 .result) (tested .has2 .ensures)
       (same-known at-row) so-far (shared .gain .result) (c .before .before .before .merge .result) (shared .gain .ensures) (c .before .before .before .merge .ensures) not-clashing
 
   sharing-start : Sharing (n at-row) (g at-row) (x at-row) y (c .before .before .has3 .result) (shared .gain .result) (visit .loop .d) 0 (shared .gain .result) (visit .loop .d)
@@ -384,38 +395,43 @@ meeting-requires c κs = search needs
 has-requires : tie.Need-has-requires Inv-loop2 μ-loop2 Inv-loop μ-loop Inv-pass μ-pass
 has-requires c κs = search needs
 
-span-requires : tie.Need-span-requires Inv-loop2 μ-loop2 Inv-loop μ-loop Inv-pass μ-pass
-span-requires c κs = search needs
+visits-requires : tie.Need-visits-requires Inv-loop2 μ-loop2 Inv-loop μ-loop Inv-pass μ-pass
+visits-requires c κs = search needs
 
 loop-holds : tie.Need-loop-holds Inv-loop2 μ-loop2 Inv-loop μ-loop Inv-pass μ-pass
-loop-holds c = (zero-le, spanned-most _ _ _ _ _ _ (c .span .ensures), turn-of c .before .pass .inv .1, visiting-start (c .before .before .before))
+loop-holds c =
+    let h : Fits w16 (c .visits .result) = search needs in
+    (turn-of c .before .pass .inv .1, visiting-start (c .before .before .before) _ (h .fits) (c .visits .ensures))
+
+lowest-requires : tie.Need-lowest-requires Inv-loop2 μ-loop2 Inv-loop μ-loop Inv-pass μ-pass
+lowest-requires c κs = search needs
 
 mul-by : tie.Need-mul-by Inv-loop2 μ-loop2 Inv-loop μ-loop Inv-pass μ-pass
 mul-by c = search needs
 
 element-copy-out-by :
     tie.Need-element-copy-out-by Inv-loop2 μ-loop2 Inv-loop μ-loop Inv-pass μ-pass
-element-copy-out-by c = search needs
+element-copy-out-by c = y-small c
 
 mul-cy : tie.Need-mul-cy Inv-loop2 μ-loop2 Inv-loop μ-loop Inv-pass μ-pass
 mul-cy c = search needs
 
 element-copy-out-cy :
     tie.Need-element-copy-out-cy Inv-loop2 μ-loop2 Inv-loop μ-loop Inv-pass μ-pass
-element-copy-out-cy c = search needs
+element-copy-out-cy c = y-small (c .before)
 
 element-copy-out-ly :
     tie.Need-element-copy-out-ly Inv-loop2 μ-loop2 Inv-loop μ-loop Inv-pass μ-pass
-element-copy-out-ly c = search needs
+element-copy-out-ly c = y-small (c .before .before)
 
 mul-uy : tie.Need-mul-uy Inv-loop2 μ-loop2 Inv-loop μ-loop Inv-pass μ-pass
 mul-uy c = search needs
 
 array-read-uy : tie.Need-array-read-uy Inv-loop2 μ-loop2 Inv-loop μ-loop Inv-pass μ-pass
-array-read-uy c = search needs
+array-read-uy c = y-small (c .before .before .before)
 
 has-requires-2 : tie.Need-has-requires-2 Inv-loop2 μ-loop2 Inv-loop μ-loop Inv-pass μ-pass
-has-requires-2 c κs = search needs
+has-requires-2 c κs = y-small (c .before .before .before)
 
 gain-requires : tie.Need-gain-requires Inv-loop2 μ-loop2 Inv-loop μ-loop Inv-pass μ-pass
 gain-requires c κs = search needs
@@ -436,7 +452,7 @@ depth-requires : tie.Need-depth-requires Inv-loop2 μ-loop2 Inv-loop μ-loop Inv
 depth-requires c κs = y-small (c .before .before .before .before .before .before .before .before .before .before)
 
 loop2-holds : tie.Need-loop2-holds Inv-loop2 μ-loop2 Inv-loop μ-loop Inv-pass μ-pass
-loop2-holds c = (zero-le, picked-most _ _ _ (c .depth .ensures), visit c .loop .inv .2, sharing-start c)
+loop2-holds c = (zero-le, picked-most _ _ _ (c .depth .ensures), visit c .loop .inv .0, sharing-start c)
 
 mul-bz : tie.Need-mul-bz Inv-loop2 μ-loop2 Inv-loop μ-loop Inv-pass μ-pass
 mul-bz c = doubled _ (z-small c)
@@ -446,7 +462,7 @@ element-copy-out-bz :
 element-copy-out-bz c = z-small c
 
 twins-requires : tie.Need-twins-requires Inv-loop2 μ-loop2 Inv-loop μ-loop Inv-pass μ-pass
-twins-requires c κs = (y-small (visit-of (z-of (c .before))), z-small (c .before))
+twins-requires c κs = (y-small (lowest-of (z-of (c .before))), z-small (c .before))
 
 gain-requires-2 : tie.Need-gain-requires-2 Inv-loop2 μ-loop2 Inv-loop μ-loop Inv-pass μ-pass
 gain-requires-2 c κs = search needs
@@ -471,21 +487,30 @@ loop2-again c =
           (differ-known d _ (w .loop2-test .taken)) (w .before .loop2 .inv .3),
     )
 
-add-y : tie.Need-add-y Inv-loop2 μ-loop2 Inv-loop μ-loop Inv-pass μ-pass
-add-y c = search needs
+one-requires : tie.Need-one-requires Inv-loop2 μ-loop2 Inv-loop μ-loop Inv-pass μ-pass
+one-requires c κs = y-small (lowest-of (c .before .before))
+
+except-requires : tie.Need-except-requires Inv-loop2 μ-loop2 Inv-loop μ-loop Inv-pass μ-pass
+except-requires c κs = search needs
+
+-- what is left of row x's visits after y
+left : (c : tie.After-except Inv-loop2 μ-loop2 Inv-loop μ-loop Inv-pass μ-pass) → c .except .result ≡ without (visit (c .before .before .before .before) .loop .rest) (2 ^ y (c .before .before .before .before))
+left c = c .except .ensures ∙ ap (without (visit (c .before .before .before .before) .loop .rest)) (c .before .one .ensures)
 
 loop-less : tie.Need-loop-less Inv-loop2 μ-loop2 Inv-loop μ-loop Inv-pass μ-pass
-loop-less c = search needs
+loop-less c =
+    let d = c .before .before .before .before in
+    let w = lowest-of d in
+    subst (λ (k : ℕ). k < visit d .loop .rest) (sym (left c)) (without-less _ _ (y-small w) (w .lowest .ensures .this (y-small w)))
 
 loop-again : tie.Need-loop-again Inv-loop2 μ-loop2 Inv-loop μ-loop Inv-pass μ-pass
 loop-again c =
-    let d = c .before .before in
+    let e = c .before .before in
+    let d = e .before .before in
     let r = at-row d in (
-      add-one-le (visit-of d .loop-test .taken),
-      visit d .loop .inv .1,
-      c .before .loop2 .inv .2,
-      visiting-more _ _ (known r .shape) _ _ _ _ _ _ _ _ _ _ _ (tested d .has2 .ensures) (same-known r) (so-far d) _ _ (shared d .gain .ensures) (d .before .before .before .merge .ensures)
-          (not-clashing d) _ _ _ _ _ _ (cols-in r _ (y-small (visit-of d))) (d .before .before .has3 .ensures) (d .before .full .ensures) (d .depth .ensures) (c .loop2-test .left) (c .before .loop2 .inv .3),
+      e .before .loop2 .inv .2,
+      visiting-more _ _ (known r .shape) _ _ _ _ _ _ _ _ _ _ _ _ _ (tested d .has2 .ensures) (same-known r) (so-far d) _ _ (shared d .gain .ensures) (d .before .before .before .merge .ensures)
+          (not-clashing d) _ _ _ _ _ _ _ (left c) (cols-in r _ (y-small (lowest-of d))) (d .before .before .has3 .ensures) (d .before .full .ensures) (d .depth .ensures) (e .loop2-test .left) (e .before .loop2 .inv .3),
     )
 
 spreads-requires : tie.Need-spreads-requires Inv-loop2 μ-loop2 Inv-loop μ-loop Inv-pass μ-pass
@@ -540,13 +565,13 @@ pass-again c =
     let r = l .before .before .before .before .before in
     let free = sym (l .before .before .before .before .has .ensures) ∙ l .before .before .before .if1 .left in (
       add-one-le (hx r),
-      l .before .loop .inv .2,
+      l .before .loop .inv .0,
       passing-more-as _ (n-small r) _ _ _ (hx r) _ _ _ (known r) _ _ _ (par-small r) (turned-small r) (gu r) (gu-to r) (r .meeting .ensures) (gt r) (gt-to r)
-          _ (cols r) _ _ _ _ _ _ _ _ (l .before .before .span .ensures) (l .loop-test .left) (l .before .loop .inv .3) free
+          _ (cols r) _ _ _ _ _ _ _ (l .loop-test .left) (l .before .loop .inv .1) free
           (c .before .before .before .before .spreads .ensures) (c .before .before .before .spreads2 .ensures) (c .before .before .group .ensures) _ _ (c .before .widen .ensures) (c .widen2 .ensures),
       above-trans (loop-x r .pass .inv .3)
           (grows _ (n-small r) _ _ _ (hx r) _ _ _ (known r) _ _ _ (par-small r) (turned-small r) (gu r) (gu-to r) (r .meeting .ensures) (gt r) (gt-to r)
-          _ (cols r) _ _ _ _ _ _ _ _ (l .before .before .span .ensures) (l .loop-test .left) (l .before .loop .inv .3) free
+          _ (cols r) _ _ _ _ _ _ _ (l .loop-test .left) (l .before .loop .inv .1) free
           (c .before .before .before .before .spreads .ensures) (c .before .before .before .spreads2 .ensures) (c .before .before .group .ensures)),
     )
 
@@ -561,9 +586,9 @@ returns-2 c =
 returns-3 : tie.Need-returns-3 Inv-loop2 μ-loop2 Inv-loop μ-loop Inv-pass μ-pass
 returns-3 c =
     let t = c .before .before .before in
-    let v = t .before .before .before .before .before in
+    let v = t .before .before .before .before .before .before in
     let r = v .before .before .before .before in
-    ended-clash _ _ _ _ _ _ (λ S s. label-clash _ _ (known r .shape) _ _ _ _ _ _ _ _ _ _ _ (t .has2 .ensures) (same-known r) (v .loop .inv .3)
+    ended-clash _ _ _ _ _ _ (λ S s. label-clash _ _ (known r .shape) _ _ _ _ _ _ _ _ _ _ _ _ _ (t .has2 .ensures) (same-known r) (v .loop .inv .1)
     (sym (c .before .clashes .ensures) ∙ c .if2 .taken) S (known r .sound S s))
 
 returns-4 : tie.Need-returns-4 Inv-loop2 μ-loop2 Inv-loop μ-loop Inv-pass μ-pass
@@ -605,8 +630,9 @@ pass-spec =
     array-read-back
     meeting-requires
     has-requires
-    span-requires
+    visits-requires
     loop-holds
+    lowest-requires
     mul-by
     element-copy-out-by
     mul-cy
@@ -630,7 +656,8 @@ pass-spec =
     add-z
     loop2-less
     loop2-again
-    add-y
+    one-requires
+    except-requires
     loop-less
     loop-again
     spreads-requires
