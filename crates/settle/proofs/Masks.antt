@@ -8,7 +8,7 @@ use native.Mathlib.Decide.{decLt, ℕ-discrete}
 use native.Mathlib.Omega.{arith}
 use lib.Dec.{eqb}
 use lib.Bits.{bitOr, bitAnd, bitXor, xor-self, and-le-l}
-use Rattle.meaning.specs.Finite.{Yes, neg, pick}
+use Rattle.meaning.specs.Finite.{Yes, pick}
 use Rattle.meaning.proofs.Tests.{yes-case, no-neg, is-eq}
 use Rattle.rowbits.specs.Bit.{bit}
 use Rattle.tables.specs.Rows.{Up, Lowest, without}
