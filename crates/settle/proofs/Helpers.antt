@@ -1,13 +1,13 @@
 -- What the code of the helpers computes is what their definitions say.
 use mathlib.Core.Path.{_≡_, refl}
-use mathlib.Core.Bool.{Bool, true, false, _&&_, _||_, not}
-use Prim.Native.Nat.{ℕ, _-_, _^_}
+use mathlib.Core.Bool.{Bool, true, false, _&&_, not}
+use Prim.Native.Nat.{ℕ}
 use lib.Dec.{eqb}
 use lib.Bits.{bitOr}
 use Rattle.meaning.specs.Finite.{_and_, neg, pick}
-use Rattle.tables.specs.Rows.{meets}
-use Rattle.tables.proofs.Helpers.{and-is, not-is, or-is, pick-on, pick-off}
-use Rattle.settle.specs.Rows.{merged, spanned}
+use Rattle.rowbits.specs.Bit.{bit}
+use Rattle.tables.proofs.Helpers.{and-is, not-is, pick-on, pick-off}
+use Rattle.settle.specs.Rows.{merged, lacking}
 
 pub four : (a b c d : Bool) → (((a && not b) && not c) && not d) ≡ (a and neg b and neg c and neg d)
 unfolding _and_ neg
@@ -25,10 +25,10 @@ pub merge-off : (t : Bool) (l m : ℕ) → (t && eqb l 0) ≡ false → l ≡ me
 unfolding merged pick
 merge-off t l m e = rw (← and-is t (eqb l 0), e)
 
-pub span-on : (same x w rest groups n : ℕ) (m : Bool) → w ≡ 2 ^ x → m ≡ meets rest groups → (not (eqb (bitOr same w) w) || m) ≡ true → n ≡ spanned same x rest groups n
-unfolding spanned
-span-on same x w rest groups n m e d h = pick-on _ _ _ (rw (← e, ← d, ← not-is, ← or-is) h)
+pub depth-on : (row y twins full n : ℕ) (h : Bool) → h ≡ bit row y → (h && not (eqb (bitOr twins full) full)) ≡ true → n ≡ pick (bit row y and lacking twins full) n 0
+unfolding lacking
+depth-on row y twins full n h e t = pick-on _ _ _ (rw (← e, ← not-is, ← and-is) t)
 
-pub span-off : (same x w rest groups n : ℕ) (m : Bool) → w ≡ 2 ^ x → m ≡ meets rest groups → (not (eqb (bitOr same w) w) || m) ≡ false → 0 ≡ spanned same x rest groups n
-unfolding spanned
-span-off same x w rest groups n m e d h = pick-off _ _ _ (rw (← e, ← d, ← not-is, ← or-is) h)
+pub depth-off : (row y twins full n : ℕ) (h : Bool) → h ≡ bit row y → (h && not (eqb (bitOr twins full) full)) ≡ false → 0 ≡ pick (bit row y and lacking twins full) n 0
+unfolding lacking
+depth-off row y twins full n h e t = pick-off _ _ _ (rw (← e, ← not-is, ← and-is) t)

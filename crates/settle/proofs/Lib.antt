@@ -1,8 +1,8 @@
 mod Helpers
 mod Chain
 mod Above
-mod Visit
 mod Masks
+mod Visit
 mod Passing
 mod Row
 mod Final

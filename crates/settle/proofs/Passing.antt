@@ -6,6 +6,9 @@ use mathlib.Core.Bool.{Bool, true, false, false≢true}
 use mathlib.Core.List.{List}
 use Prim.Native.Nat.{ℕ, _+_, _<_, _≤_}
 use native.Mathlib.Nat.{le-trans, not-suc-le-zero}
+use native.Mathlib.Decide.{ℕ-discrete}
+use native.Mathlib.Omega.{arith}
+use lib.Bits.{bitXor, xor-self}
 use Rattle.meaning.specs.Constraint.{Fact, child, below, differ, root, leaf, label}
 use Rattle.meaning.specs.Settled.{Clash}
 use Rattle.meaning.specs.Finite.{Yes}
@@ -15,11 +18,11 @@ use Rattle.rowbits.specs.Bit.{bit}
 use Rattle.tables.specs.Tables.{row, has, Sound}
 use Rattle.tables.specs.Rows.{Up}
 use Rattle.tables.specs.declared.Facts.{Facts}
-use Rattle.tables.proofs.Bits.{up-self}
+use Rattle.tables.proofs.Bits.{up-self, xor-zero}
 use Rattle.tables.proofs.Shape.{Rows, Shape, label-has, label-is}
 use Rattle.settle.specs.Rows.{Chained, grouped}
 use Rattle.settle.specs.Pass.{Steps, total, Gone, PassOf}
-use Rattle.settle.proofs.Above.{Above, lup-self, keeps, total-most}
+use Rattle.settle.proofs.Above.{Above, lup-self, keeps, total-up, total-most}
 
 -- what the rules for itself, child, root and chain give is in the rows of below from the start
 pub record Base (n : ℕ) (f : Facts) (x : ℕ) (g : Facts) : Type 0 where
@@ -85,7 +88,7 @@ began g start = record { child = g .child; parent = g .parent; below = start; ab
 
 -- ---- before the loop over x, and after it
 
-module _ (n m : ℕ) (f : Facts) (closed : List ℕ) (w : Shape f) (wc : Rows closed) (hm : m < 65536) (ch : Chained n (f .below) (f .child) (f .root) closed) where
+module _ (n m : ℕ) (f : Facts) (closed : List ℕ) (w : Shape f) (wc : Rows closed) (ch : Chained n (f .below) (f .child) (f .root) closed) where
   abbrev pub chained-facts : Facts
   chained-facts = record { child = f .child; parent = f .parent; below = closed; above = f .above; differ = f .differ; root = f .root; leaf = f .leaf; label = f .label }
 
@@ -117,19 +120,24 @@ module _ (n m : ℕ) (f : Facts) (closed : List ℕ) (w : Shape f) (wc : Rows cl
     chained = λ y z l u v. ch .chained k y z h l u v;
   }
 
-  pub passing-none : Passing n m f 0 chained-facts m 0
-  passing-none = record {
+  -- groups found at the start are a change
+  pub passing-none : (groups : ℕ) → groups < 65536 → Up m groups → Passing n m f 0 chained-facts groups (bitXor m groups)
+  passing-none groups hg u = record {
     shape = record { child = w .child; below = wc; differ = w .differ; label = w .label; root = w .root; leaf = w .leaf };
-    groups-small = hm;
+    groups-small = hg;
     above = first-above;
-    groups-up = up-self _;
+    groups-up = u;
     sound = first-sound;
     base = first-base;
     steps = λ k h. absurd (not-suc-le-zero h);
     rest = λ k h. record { child = refl; differ = refl; label = refl };
-    still = λ e. record { groups-is = refl; root-is = refl; leaf-is = refl; rows = λ k h. absurd (not-suc-le-zero h); belows = λ k h. absurd (not-suc-le-zero h) };
-    more = λ e. absurd (e refl);
+    still = λ e. record { groups-is = sym (xor-zero m groups e); root-is = refl; leaf-is = refl; rows = λ k h. absurd (not-suc-le-zero h); belows = λ k h. absurd (not-suc-le-zero h) };
+    more = λ e. let t = total-up f chained-facts first-above in let k = u .most in grown e t k (ℕ-discrete m groups);
   }
+    where
+      grown : bitXor m groups ≢ 0 → total f ≤ total chained-facts → m ≤ groups → Dec (m ≡ groups) → total f + m < total chained-facts + groups
+      grown e t k (yes i) = absurd (e (rw i (xor-self groups)))
+      grown e t k (no i) = omega arith
 
 module _ (n m : ℕ) (f : Facts) (x : ℕ) (g : Facts) (groups diff : ℕ) (hx : n ≤ x) (p : Passing n m f x g groups diff) where
   back : Quiet m f x g groups → (φ : Fact) → Within n φ → Yes (has g φ) → Yes (has f φ)

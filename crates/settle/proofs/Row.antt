@@ -1,6 +1,6 @@
 -- Storing row x: what the loops over y and z gathered is settled, gives what each rule gives for x, and is noticed where it changes a row.
 use mathlib.Core.Path.{_≡_, sym, ap, _∙_, subst}
-use mathlib.Core.Logic.{_≢_, _⊎_, ⊎-elim}
+use mathlib.Core.Logic.{_≢_, ⊎-elim}
 use mathlib.Core.Bool.{true, false, false≢true}
 use mathlib.Core.List.{List}
 use Prim.Native.Nat.{ℕ, _+_, _<_, _≤_, suc-le-suc}
@@ -18,14 +18,14 @@ use Rattle.rowbits.specs.Bit.{bit}
 use Rattle.tables.specs.Tables.{row, has, Sound}
 use Rattle.tables.specs.Rows.{Up, Gathers, meets}
 use Rattle.tables.specs.declared.Facts.{Facts}
-use Rattle.tables.proofs.Bits.{or-l, or-r, in-both, both-in, up-or, up-trans, meets-in, meets-out}
+use Rattle.tables.proofs.Bits.{or-l, or-r, none-in, in-both, both-in, up-or, up-trans, meets-in, meets-out}
 use Rattle.tables.proofs.Loops.{below-cases}
 use Rattle.tables.proofs.Shape.{set-same, set-rows, set-case, Shape, label-has, label-is}
-use Rattle.settle.specs.Rows.{spread, grouped, spanned}
+use Rattle.settle.specs.Rows.{spread, grouped}
 use Rattle.settle.specs.Pass.{Same, Steps, weight, total}
 use Rattle.settle.proofs.Above.{Above, above-trans, keeps, weight-up, total-up, set-up, set-lup}
 use Rattle.settle.proofs.Visit.{D, up-s, below-s, differ-s₀, Visiting}
-use Rattle.settle.proofs.Masks.{spread-up, spread-has, spread-case, spread-small, group-up, group-small, group-has, spanned-cases, changes, quiet, unchanged}
+use Rattle.settle.proofs.Masks.{spread-up, spread-has, spread-case, spread-small, group-up, group-small, group-has, changes, quiet, unchanged}
 use Rattle.settle.proofs.Passing.{Equal, Quiet, Passing, base-up, steps-up}
 
 module _ (n : ℕ) (small : n ≤ 16) (m : ℕ) (f : Facts) (x : ℕ) (hx : x < n) (g : Facts) (groups diff : ℕ) (p : Passing n m f x g groups diff)
@@ -33,7 +33,7 @@ module _ (n : ℕ) (small : n ≤ 16) (m : ℕ) (f : Facts) (x : ℕ) (hx : x < 
     (gu : (y : ℕ) → Yes (bit up y) → Yes (has g (below y x)))
     (gu-to : (y : ℕ) → y < 16 → Yes (has f (below y x)) → Yes (bit up y))
     (gp : Gathers (λ y. meets (row (f .child) y) (row (g .child) x)) par)
-    (gt : (y : ℕ) → Yes (bit turned y) → Yes (has g (differ y x)))
+    (gt : (y : ℕ) → Yes (bit turned y) → D n g (differ y x))
     (gt-to : (y : ℕ) → y < 16 → Yes (has f (differ y x)) → Yes (bit turned y)) where
   abbrev pub b : ℕ
   b = bitOr (bitOr (row (g .below) x) (bitAnd up (g .leaf))) par
@@ -73,8 +73,9 @@ module _ (n : ℕ) (small : n ≤ 16) (m : ℕ) (f : Facts) (x : ℕ) (hx : x < 
   unfolding has
   same-in y l s = both-in b up y (b-up .kept y (p .above .below x .kept y (s .down))) (gu-to y (omega arith) (s .up))
 
-  module _ (y end c d l rt lf now : ℕ) (he : end ≡ spanned same x (bitOr (row (g .child) x) d₀) groups n) (hy : end ≤ y)
-      (v : Visiting n g groups same x (row (g .child) x) d₀ (row (g .label) x) y c d l)
+  module _ (ups : List ℕ) (cols : (k z : ℕ) → k < n → z < n → Yes (has f (below z k)) → Yes (bit (row ups k) z))
+      (rest c d l rt lf now : ℕ) (hr : rest ≡ 0)
+      (v : Visiting n g ups groups same x (row (g .child) x) d₀ (row (g .label) x) rest c d l)
       (free : bit d₀ x ≡ false)
       (ert : rt ≡ spread (g .root) same x) (elf : lf ≡ spread (g .leaf) same x) (enow : now ≡ grouped groups same x) where
     abbrev pub g' : Facts
@@ -136,25 +137,8 @@ module _ (n : ℕ) (small : n ≤ 16) (m : ℕ) (f : Facts) (x : ℕ) (hx : x < 
             let q = label-is g' k i u in
             s (label k i) (label-has g k i (sym (getD-set-other (g .label) x k l 0 e) ∙ q .0) (q .1))
 
-    -- every y below n was looked at, or did not have to be
-    all-children : (k i : ℕ) → k < n → Yes (bit same k) → Yes (bit (row (g .child) k) i) → Yes (bit c i)
-    all-children k i h a e =
-        ⊎-elim (λ q. v .children k i (le-trans h (le-trans (subst (λ (j : ℕ). n ≤ j) (sym (he ∙ q)) (le-refl _)) hy)) a e)
-        (λ q. v .child-up .kept i (subst (λ (j : ℕ). Yes (bit (row (g .child) j) i)) (q .0 k a) e))
-        (spanned-cases same x (bitOr (row (g .child) x) d₀) groups n)
-
-    all-named : (k : ℕ) → k < n → Yes (bit same k) → row (g .label) k ≢ 0 → l ≡ row (g .label) k
-    all-named k h a e =
-        ⊎-elim (λ q. v .named k (le-trans h (le-trans (subst (λ (j : ℕ). n ≤ j) (sym (he ∙ q)) (le-refl _)) hy)) a e)
-        (λ q. subst (λ (j : ℕ). row (g .label) j ≢ 0 → l ≡ row (g .label) j) (sym (q .0 k a)) (v .label-up .kept) e)
-        (spanned-cases same x (bitOr (row (g .child) x) d₀) groups n)
-
-    all-columns : (k z : ℕ) → k < n → z < n → Yes (bit groups k) → Yes (bit (row (g .below) k) z) → Yes (bit (row (g .below) z) k)
-        → (Yes (bit (row (g .child) x) k) → Yes (bit c z)) × (Yes (bit d₀ k) → Yes (bit d z))
-    all-columns k z h hz a s t =
-        ⊎-elim (λ q. v .columns k z (le-trans h (le-trans (subst (λ (j : ℕ). n ≤ j) (sym (he ∙ q)) (le-refl _)) hy)) hz a s t)
-        (λ q. ((λ u. absurd (q .1 k (or-l (row (g .child) x) d₀ k u) a)), (λ u. absurd (q .1 k (or-r (row (g .child) x) d₀ k u) a))))
-        (spanned-cases same x (bitOr (row (g .child) x) d₀) groups n)
+    none-left : (k : ℕ) → ¬ Yes (bit rest k)
+    none-left k u = none-in k (subst (λ (j : ℕ). Yes (bit j k)) hr u)
 
     child-now : (i : ℕ) → Yes (bit c i) → Yes (has g' (child x i))
     unfolding has
@@ -200,13 +184,13 @@ module _ (n : ℕ) (small : n ≤ 16) (m : ℕ) (f : Facts) (x : ℕ) (hx : x < 
       leaved = λ y h u t. below-now y (b-leaf y (gu-to y (omega arith) t) (into-g (leaf y) u));
       parented = λ y z h u t. below-now y (b-par y (gp .to y (omega arith) (meets-in (row (f .child) y) (row (g .child) x) z t (into-g (child x z) u))));
       turned = λ y h u. differ-now y (v .differ-up .kept y (d₀-turned y (gt-to y (omega arith) u)));
-      shared-child = λ y z h s u. child-now z (all-children y z h (same-in y h s) (into-g (child y z) u));
+      shared-child = λ y z h s u. child-now z (v .children y z (none-left y) (same-in y h s) (into-g (child y z) u));
       shared-root = λ y h s u. subst (λ (j : ℕ). Yes (bit j x)) (sym ert) (spread-has _ _ x y (into-g (root y) u) (same-in y h s));
       shared-leaf = λ y h s u. subst (λ (j : ℕ). Yes (bit j x)) (sym elf) (spread-has _ _ x y (into-g (leaf y) u) (same-in y h s));
       shared-label = λ y k h s u. let q = label-is g y k (into-g (label y k) u) in
-          label-has g' x k (set-same (g .label) x l (p .shape .label) l16 ∙ all-named y h (same-in y h s) (λ z. q .1 (sym (q .0) ∙ z)) ∙ q .0) (q .1);
-      column-child = λ y z h hz e s u. child-now z (all-columns y z h hz (p .groups-up .kept y e) (into-g (below y z) (s .down)) (into-g (below z y) (s .up)) .0 (into-g (child x y) u));
-      column-differ = λ y z h hz e s u. differ-now z (all-columns y z h hz (p .groups-up .kept y e) (into-g (below y z) (s .down)) (into-g (below z y) (s .up)) .1 (d₀-has y (into-g (differ x y) u)));
+          label-has g' x k (set-same (g .label) x l (p .shape .label) l16 ∙ v .named y (none-left y) (same-in y h s) (λ z. q .1 (sym (q .0) ∙ z)) ∙ q .0) (q .1);
+      column-child = λ y z h hz e s u. child-now z (v .columns y z (none-left y) hz (p .groups-up .kept y e) (into-g (below y z) (s .down)) (cols y z h hz (s .up)) .0 (into-g (child x y) u));
+      column-differ = λ y z h hz e s u. differ-now z (v .columns y z (none-left y) hz (p .groups-up .kept y e) (into-g (below y z) (s .down)) (cols y z h hz (s .up)) .1 (d₀-has y (into-g (differ x y) u)));
       grouped = λ y h s e. subst (λ (j : ℕ). Yes (bit j x)) (sym enow) (group-has _ _ x y (same-in y h s) e);
     }
 

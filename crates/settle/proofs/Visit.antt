@@ -15,12 +15,13 @@ use Rattle.meaning.specs.Finite.{Yes, pick, _and_}
 use Rattle.meaning.proofs.Tests.{clash, yes-case, no-neg, is-eq, pick-yes, and-left, and-right, and-both, eq-yes, pick-no}
 use Rattle.rowbits.specs.Bit.{bit}
 use Rattle.tables.specs.Tables.{row, has, Sound}
-use Rattle.tables.specs.Rows.{Up, gained, both}
+use Rattle.tables.specs.Rows.{Up, gained, both, without}
 use Rattle.tables.specs.declared.Facts.{Facts}
-use Rattle.tables.proofs.Bits.{or-l, or-r, in-both, up-or, up-self, up-trans, gained-up, gained-has, gained-case, gained-small, one-is, one-has, one-small, or-case, none-in}
+use Rattle.tables.proofs.Bits.{or-l, or-r, in-both, both-in, up-or, up-self, up-trans, gained-up, gained-has, gained-case, gained-small, one-is, one-has, one-small, or-case, none-in}
 use Rattle.tables.proofs.Loops.{below-cases}
 use Rattle.tables.proofs.Shape.{Shape, label-has}
-use Rattle.settle.specs.Rows.{twin, clashing, merged}
+use Rattle.settle.specs.Rows.{twin, clashing, merged, lacking, visited}
+use Rattle.settle.proofs.Masks.{lacking-cases, full-child, full-differ, not-visited, left-cases, left-small}
 use Rattle.settle.proofs.Above.{LUp, lup-self, lup-trans}
 
 -- a fact follows from the tables: it is settled in every set that they hold nothing but settled facts of
@@ -35,7 +36,7 @@ have n g φ u S s = s φ u
 module _ (n : ℕ) (g : Facts) (x up par turned : ℕ)
     (gu : (y : ℕ) → Yes (bit up y) → Yes (has g (below y x)))
     (gp : (y : ℕ) → Yes (bit par y) → (i : ℕ) × Yes (has g (child y i)) × Yes (has g (child x i)))
-    (gt : (y : ℕ) → Yes (bit turned y) → Yes (has g (differ y x))) where
+    (gt : (y : ℕ) → Yes (bit turned y) → D n g (differ y x)) where
   -- above x
   pub up-s : (y : ℕ) → Yes (bit up y) → D n g (below y x)
   up-s y u = have n g (below y x) (gu y u)
@@ -53,7 +54,7 @@ module _ (n : ℕ) (g : Facts) (x up par turned : ℕ)
   differ-s₀ y u =
       ⊎-elim
       (λ v. ⊎-elim (λ t. have n g (differ x y) t) (λ t S s. child-differ (s (child x y) t)) (or-case _ _ y v))
-      (λ v S s. differ-back (s (differ y x) (gt y v)))
+      (λ v S s. differ-back (gt y v S s))
       (or-case _ _ y u)
 
 -- ---- over z
@@ -147,7 +148,7 @@ sharing-none n g x y hc c d hc' hd cs ds = record {
 
 -- ---- over y
 
-pub record Visiting (n : ℕ) (g : Facts) (groups same x c₀ d₀ l₀ y c d l : ℕ) : Type 0 where
+pub record Visiting (n : ℕ) (g : Facts) (ups : List ℕ) (groups same x c₀ d₀ l₀ rest c d l : ℕ) : Type 0 where
   pub child-up : Up c₀ c
   pub differ-up : Up d₀ d
   pub label-up : LUp l₀ l
@@ -157,15 +158,17 @@ pub record Visiting (n : ℕ) (g : Facts) (groups same x c₀ d₀ l₀ y c d l 
   pub child-s : (i : ℕ) → Yes (bit c i) → D n g (child x i)
   pub differ-s : (i : ℕ) → Yes (bit d i) → D n g (differ x i)
   pub label-s : l ≢ 0 → D n g (label x l)
-  pub children : (k i : ℕ) → k < y → Yes (bit same k) → Yes (bit (row (g .child) k) i) → Yes (bit c i)
-  pub named : (k : ℕ) → k < y → Yes (bit same k) → row (g .label) k ≢ 0 → l ≡ row (g .label) k
-  pub columns : (k z : ℕ) → k < y → z < n → Yes (bit groups k) → Yes (bit (row (g .below) k) z) → Yes (bit (row (g .below) z) k)
+  pub rest-small : rest < 65536
+  pub children : (k i : ℕ) → ¬ Yes (bit rest k) → Yes (bit same k) → Yes (bit (row (g .child) k) i) → Yes (bit c i)
+  pub named : (k : ℕ) → ¬ Yes (bit rest k) → Yes (bit same k) → row (g .label) k ≢ 0 → l ≡ row (g .label) k
+  pub columns : (k z : ℕ) → ¬ Yes (bit rest k) → z < n → Yes (bit groups k) → Yes (bit (row (g .below) k) z) → Yes (bit (row ups k) z)
       → (Yes (bit c₀ k) → Yes (bit c z)) × (Yes (bit d₀ k) → Yes (bit d z))
 
-pub visiting-none : (n : ℕ) (g : Facts) (groups same x c d l : ℕ) → c < 65536 → d < 65536 → l < 65536
-    → ((i : ℕ) → Yes (bit c i) → D n g (child x i)) → ((i : ℕ) → Yes (bit d i) → D n g (differ x i)) → (l ≢ 0 → D n g (label x l))
-    → Visiting n g groups same x c d l 0 c d l
-visiting-none n g groups same x c d l hc hd hl cs ds ls = record {
+pub visiting-none : (n : ℕ) (g : Facts) (ups : List ℕ) (groups same x d rest : ℕ) → row (g .child) x < 65536 → d < 65536 → row (g .label) x < 65536
+    → same < 65536 → rest < 65536 → rest ≡ visited same x (bitOr (row (g .child) x) d) groups
+    → ((i : ℕ) → Yes (bit (row (g .child) x) i) → D n g (child x i)) → ((i : ℕ) → Yes (bit d i) → D n g (differ x i)) → (row (g .label) x ≢ 0 → D n g (label x (row (g .label) x)))
+    → Visiting n g ups groups same x (row (g .child) x) d (row (g .label) x) rest (row (g .child) x) d (row (g .label) x)
+visiting-none n g ups groups same x d rest hc hd hl hs hr er cs ds ls = record {
   child-up = up-self _;
   differ-up = up-self _;
   label-up = lup-self _;
@@ -175,10 +178,14 @@ visiting-none n g groups same x c d l hc hd hl cs ds ls = record {
   child-s = cs;
   differ-s = ds;
   label-s = ls;
-  children = λ k i h. absurd (not-suc-le-zero h);
-  named = λ k h. absurd (not-suc-le-zero h);
-  columns = λ k z h. absurd (not-suc-le-zero h);
+  rest-small = hr;
+  children = λ k i h a b. subst (λ (j : ℕ). Yes (bit (row (g .child) j) i)) (out k h .0 a) b;
+  named = λ k h a b. subst (λ (j : ℕ). row (g .label) x ≡ row (g .label) j) (sym (out k h .0 a)) refl;
+  columns = λ k z h hz gk p q. ((λ u. absurd (out k h .1 (or-l (row (g .child) x) d k u) gk)), (λ u. absurd (out k h .1 (or-r (row (g .child) x) d k u) gk)));
 }
+  where
+    out : (k : ℕ) → ¬ Yes (bit rest k) → (Yes (bit same k) → k ≡ x) × (Yes (bit (bitOr (row (g .child) x) d) k) → Yes (bit groups k) → ⊥)
+    out k h = not-visited same x (bitOr (row (g .child) x) d) groups k hs (λ u. h (subst (λ (j : ℕ). Yes (bit j k)) (sym er) u))
 
 -- two labels: none, or a clash
 clashing-out : (t : Bool) (l m : ℕ) → Yes (clashing t l m) → Yes t × (l ≢ 0) × (m ≢ 0) × (l ≢ m)
@@ -208,9 +215,9 @@ merged-new : (t : Bool) (l m : ℕ) → Yes t → l ≡ 0 → merged t l m ≡ m
 unfolding merged
 merged-new t l m u e = pick-yes m l (and-both u (eq-yes e))
 
-module _ (n : ℕ) (g : Facts) (w : Shape g) (groups same x c₀ d₀ l₀ y c d l : ℕ) (t : Bool) (et : t ≡ bit same y)
+module _ (n : ℕ) (g : Facts) (w : Shape g) (ups : List ℕ) (groups same x c₀ d₀ l₀ rest y c d l : ℕ) (t : Bool) (et : t ≡ bit same y)
     (same-s : (k : ℕ) → Yes (bit same k) → D n g (below x k) × D n g (below k x))
-    (v : Visiting n g groups same x c₀ d₀ l₀ y c d l) where
+    (v : Visiting n g ups groups same x c₀ d₀ l₀ rest c d l) where
   -- a clash of labels
   pub label-clash : Yes (clashing t l (row (g .label) y)) → (S : List Fact) → Sound n S g → Clash n S
   label-clash u S s =
@@ -257,10 +264,10 @@ module _ (n : ℕ) (g : Facts) (w : Shape g) (groups same x c₀ d₀ l₀ y c d
     label-y-small : l' < 65536
     label-y-small = ⊎-elim (λ q. subst (λ (k : ℕ). k < 65536) (sym (el ∙ q .2)) (w .label .small y)) (λ q. subst (λ (k : ℕ). k < 65536) (sym (el ∙ q)) (v .label-small)) (merged-is t l (row (g .label) y))
 
-    pub visiting-more : (hc : Bool) (stop z c'' d'' : ℕ) → hc ≡ bit c' y → stop ≡ pick (both (bitOr c' d) y groups y) n 0 → stop ≤ z
-        → Sharing n g x y hc c' d z c'' d'' → Visiting n g groups same x c₀ d₀ l₀ (y + 1) c'' d'' l'
-    unfolding both
-    visiting-more hc stop z c'' d'' eh es hz r = record {
+    pub visiting-more : (hc : Bool) (full stop z c'' d'' rest' : ℕ) → rest' ≡ without rest (2 ^ y) → ((i : ℕ) → Yes (bit (row ups y) i) → Yes (bit (row (g .below) i) y))
+        → hc ≡ bit c' y → full ≡ pick hc (bitAnd c' d) d → stop ≡ pick (bit (bitOr c' d) y and lacking (bitAnd (row (g .below) y) (row ups y)) full) n 0 → stop ≤ z
+        → Sharing n g x y hc c' d z c'' d'' → Visiting n g ups groups same x c₀ d₀ l₀ rest' c'' d'' l'
+    visiting-more hc full stop z c'' d'' rest' er uy eh ef es hz r = record {
       child-up = up-trans (v .child-up) (up-trans c-up' (r .child-up));
       differ-up = up-trans (v .differ-up) (r .differ-up);
       label-up = lup-trans (v .label-up) l-up;
@@ -270,29 +277,32 @@ module _ (n : ℕ) (g : Facts) (w : Shape g) (groups same x c₀ d₀ l₀ y c d
       child-s = r .child-s;
       differ-s = r .differ-s;
       label-s = label-y;
+      rest-small = left-small rest y rest' (v .rest-small) er;
       children = λ k i h a b. r .child-up .kept i (⊎-elim
           (λ e. subst (λ (j : ℕ). Yes (bit j i)) (sym ec) (gained-has t c _ i (et ∙ subst (λ (j : ℕ). Yes (bit same j)) e a) (subst (λ (j : ℕ). Yes (bit (row (g .child) j) i)) e b)))
-          (λ m. c-up' .kept i (v .children k i m a b)) (below-cases h));
+          (λ m. c-up' .kept i (v .children k i m a b)) (left-cases rest y rest' k (v .rest-small) er h));
       named = λ k h a b. ⊎-elim
           (λ e. subst (λ (j : ℕ). l' ≡ row (g .label) j) (sym e) (named-y (subst (λ (j : ℕ). Yes (bit same j)) e a) (subst (λ (j : ℕ). row (g .label) j ≢ 0) e b)))
-          (λ m. let q = v .named k m a b in l-up .kept (λ z. b (sym q ∙ z)) ∙ q) (below-cases h);
+          (λ m. let q = v .named k m a b in l-up .kept (λ z. b (sym q ∙ z)) ∙ q) (left-cases rest y rest' k (v .rest-small) er h);
       columns = λ k i h hi gk p q. ⊎-elim
-          (λ e. at k i e hi gk p q)
+          (λ e. at k i e hi p q)
           (λ m. let o = v .columns k i m hi gk p q in
-          ((λ u. r .child-up .kept i (c-up' .kept i (o .0 u))), (λ u. r .differ-up .kept i (o .1 u)))) (below-cases h);
+          ((λ u. r .child-up .kept i (c-up' .kept i (o .0 u))), (λ u. r .differ-up .kept i (o .1 u)))) (left-cases rest y rest' k (v .rest-small) er h);
     }
       where
-        whole : Yes (bit (bitOr c' d) y) → Yes (bit groups y) → n ≤ z
+        whole : Yes (bit (bitOr c' d) y) → Yes (lacking (bitAnd (row (g .below) y) (row ups y)) full) → n ≤ z
         whole a b = le-trans (subst (λ (k : ℕ). n ≤ k) (sym (es ∙ pick-yes n 0 (and-both a b))) (le-refl _)) hz
 
-        at : (k i : ℕ) → k ≡ y → i < n → Yes (bit groups k) → Yes (bit (row (g .below) k) i) → Yes (bit (row (g .below) i) k)
+        at : (k i : ℕ) → k ≡ y → i < n → Yes (bit (row (g .below) k) i) → Yes (bit (row ups k) i)
             → (Yes (bit c₀ k) → Yes (bit c'' i)) × (Yes (bit d₀ k) → Yes (bit d'' i))
-        at k i e hi gk p q =
-            let gy = subst (λ (j : ℕ). Yes (bit groups j)) e gk in
+        at k i e hi p q =
             let p' = subst (λ (j : ℕ). Yes (bit (row (g .below) j) i)) e p in
-            let q' = subst (λ (j : ℕ). Yes (bit (row (g .below) i) j)) e q in (
+            let q' = subst (λ (j : ℕ). Yes (bit (row ups j) i)) e q in
+            let o = lacking-cases (bitAnd (row (g .below) y) (row ups y)) full i (both-in (row (g .below) y) (row ups y) i p' q') in (
               (λ u. let cy : Yes (bit c' y) = c-up' .kept y (v .child-up .kept y (subst (λ (j : ℕ). Yes (bit c₀ j)) e u)) in
-                  r .shared i (le-trans hi (whole (or-l c' d y cy) gy)) p' q' .0 (eh ∙ cy)),
+                  ⊎-elim (λ b. r .shared i (le-trans hi (whole (or-l c' d y cy) b)) p' (uy i q') .0 (eh ∙ cy))
+                  (λ b. r .child-up .kept i (full-child hc c' d full i ef (eh ∙ cy) b)) o),
               (λ u. let dy : Yes (bit d y) = v .differ-up .kept y (subst (λ (j : ℕ). Yes (bit d₀ j)) e u) in
-                  r .shared i (le-trans hi (whole (or-r c' d y dy) gy)) p' q' .1),
+                  ⊎-elim (λ b. r .shared i (le-trans hi (whole (or-r c' d y dy) b)) p' (uy i q') .1)
+                  (λ b. r .differ-up .kept i (full-differ hc c' d full i ef b)) o),
             )

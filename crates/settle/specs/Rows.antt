@@ -4,13 +4,13 @@ use mathlib.Core.Path.{_≡_}
 use mathlib.Core.List.{List}
 use Prim.Native.Nat.{ℕ, _-_, _^_, _<_, _≤_}
 use lib.Dec.{eqb}
-use lib.Bits.{bitOr}
-use Rattle.meaning.specs.Finite.{Yes, _and_, _or_, neg, pick}
+use lib.Bits.{bitOr, bitAnd}
+use Rattle.meaning.specs.Finite.{Yes, _and_, neg, pick}
 use Rattle.meaning.specs.Constraint.{Fact, child, below, root}
 use Rattle.meaning.specs.Settled.{Settled}
 use Rattle.rowbits.specs.Bit.{bit}
 use Rattle.tables.specs.Tables.{row}
-use Rattle.tables.specs.Rows.{Up, gained, meets, both}
+use Rattle.tables.specs.Rows.{Up, gained, meets, both, without}
 
 -- a row of below by the rules that look at no other row: itself, its children, and all if it is a root
 unfoldable pub firstRow : ℕ → ℕ → ℕ → ℕ → ℕ → ℕ
@@ -35,8 +35,17 @@ spread row same x = gained (meets row same) row (2 ^ x)
 unfoldable pub grouped : ℕ → ℕ → ℕ → ℕ
 grouped row same x = gained (neg (eqb (bitOr same (2 ^ x)) (2 ^ x))) row (2 ^ x)
 
-unfoldable pub spanned : ℕ → ℕ → ℕ → ℕ → ℕ → ℕ
-spanned same x rest groups n = pick (neg (eqb (bitOr same (2 ^ x)) (2 ^ x)) or meets rest groups) n 0
+-- the others that are the same as x, and what a row has in groups
+unfoldable pub visited : ℕ → ℕ → ℕ → ℕ → ℕ
+visited same x row groups = bitOr (without same (2 ^ x)) (bitAnd row groups)
+
+-- some of the first row is not in the second
+unfoldable pub lacking : ℕ → ℕ → Bool
+lacking a b = neg (eqb (bitOr a b) b)
+
+-- the rows of two tables together
+pub record United (t more r : List ℕ) : Type 0 where
+  pub rows : (x : ℕ) → x < 16 → row r x ≡ bitOr (row t x) (row more x)
 
 -- row y added to each row that has y
 pub record Lifted (t : List ℕ) (y : ℕ) (r : List ℕ) : Type 0 where

@@ -1,9 +1,11 @@
 // Settling: the tables of rows, closed under the rules of document 01 by passes over x, y and z.
 ghost use mathlib.Core.Path.{_≡_};
 ghost use Prim.Native.Nat.{_<_, _≤_};
-ghost use Rattle.meaning.specs.Finite.{pick};
-ghost use Rattle.tables.specs.Rows.{both};
-ghost use Rattle.settle.specs.Rows.{firstRow, twin, clashing, merged, spread, grouped, spanned, Chained};
+ghost use Rattle.meaning.specs.Finite.{pick, _and_};
+ghost use Rattle.rowbits.specs.Bit.{bit};
+ghost use Rattle.tables.specs.Rows.{Up};
+ghost use lib.Bits.{bitAnd};
+ghost use Rattle.settle.specs.Rows.{firstRow, twin, clashing, merged, spread, grouped, visited, lacking, Chained, United};
 ghost use Rattle.settle.specs.Pass.{PassOf};
 ghost use Rattle.settle.specs.Settling.{SettledOf};
 use tables::Facts;
@@ -81,27 +83,60 @@ fn chain_rows(below: [u16; 16], child: [u16; 16], root: u16, n: usize) -> [u16; 
     a
 }
 
-// How many y row x has to look at: none, where no other variable is the same as x and no child or differ of x is in a group.
-fn span(same: u16, x: usize, row: u16, groups: u16, n: usize) -> usize
+// The y that row x has to look at: the others that are the same, and each child or differ in a group.
+fn visits(same: u16, x: usize, row: u16, groups: u16) -> u16
     requires { ⌜ x < 16 ⌝ }
-    ensures { λ r. ⌜ r ≡ spanned same x row groups n ⌝ }
+    ensures { λ r. ⌜ r ≡ visited same x row groups ⌝ }
 {
-    let w = tables::one(x);
-    if (same | w != w) | tables::meet(row, groups) {
+    tables::except(same, tables::one(x)) | (row & groups)
+}
+
+// What the rows of x have of a group for sure: of a child's in both, of a differ's in differ.
+fn full(child: bool, c: u16, d: u16) -> u16
+    ensures { λ r. ⌜ r ≡ pick child (bitAnd c d) d ⌝ }
+{
+    if child {
+        return c & d;
+    }
+    d
+}
+
+// How many z row x has to look at for y: none, where y is no child or differ of x or all its twins are in the rows.
+fn depth(row: u16, y: usize, twins: u16, full: u16, n: usize) -> usize
+    requires { ⌜ y < 16 ⌝ }
+    ensures { λ r. ⌜ r ≡ pick (bit row y and lacking twins full) n 0 ⌝ }
+{
+    if rowbits::has(row, y) & (twins | full != full) {
         return n;
     }
     0
 }
 
-// How many z row x has to look at for y: none, where y is no child or differ of x or is in no group.
-fn depth(row: u16, groups: u16, y: usize, n: usize) -> usize
-    requires { ⌜ y < 16 ⌝ }
-    ensures { λ r. ⌜ r ≡ pick (both row y groups y) n 0 ⌝ }
+// The rows of two tables together.
+fn unite(t: [u16; 16], more: [u16; 16]) -> [u16; 16]
+    ensures { λ r. ⌜ United t more r ⌝ }
 {
-    if tables::has_both(row, y, groups, y) {
-        return n;
+    let mut a = t;
+    for x in 0usize..16 {
+        let v = a[x];
+        let w = more[x];
+        a[x] = v | w;
     }
-    0
+    a
+}
+
+// The groups that the rows of below show, beside those of m: a pass that knows them at its start shares their columns at once.
+fn grouping(below: [u16; 16], above: [u16; 16], m: u16, n: usize) -> u16
+    requires { ⌜ n ≤ 16 ⌝ }
+    ensures { λ r. ⌜ Up m r ⌝ }
+{
+    let mut a = m;
+    for x in 0..n {
+        let down = below[x];
+        let up = above[x];
+        a = group(a, down & up, x);
+    }
+    a
 }
 
 struct Passed {
@@ -131,9 +166,9 @@ fn pass(f: Facts, n: usize, m: u16) -> Passed
     g.below = closed;
     let ups = tables::transpose(closed);
     let differ = f.differ;
-    let backs = tables::transpose(differ);
-    let mut groups = m;
-    let mut diff: u16 = 0;
+    let backs = tables::transpose(unite(differ, childs));
+    let mut groups = grouping(closed, ups, m, n);
+    let mut diff = m ^ groups;
     let mut clash = false;
     'pass: for x in 0..n {
         let ob = start[x];
@@ -152,11 +187,13 @@ fn pass(f: Facts, n: usize, m: u16) -> Passed
             clash = true;
             break 'pass;
         }
-        let end = span(same, x, c | d, groups, n);
-        for y in 0..end {
+        let mut rest = visits(same, x, c | d, groups);
+        while rest != 0 {
+            let y = tables::lowest(rest);
             let by = g.below[y];
             let cy = g.child[y];
             let ly = g.label[y];
+            let uy = ups[y];
             let t = rowbits::has(same, y);
             c = tables::gain(t, c, cy);
             if clashes(t, l, ly) {
@@ -165,7 +202,7 @@ fn pass(f: Facts, n: usize, m: u16) -> Passed
             }
             l = merge(t, l, ly);
             let hc = rowbits::has(c, y);
-            let stop = depth(c | d, groups, y, n);
+            let stop = depth(c | d, y, by & uy, full(hc, c, d), n);
             for z in 0..stop {
                 let bz = g.below[z];
                 let v = twins(by, bz, y, z);
@@ -176,6 +213,7 @@ fn pass(f: Facts, n: usize, m: u16) -> Passed
                     break 'pass;
                 }
             }
+            rest = tables::except(rest, tables::one(y));
         }
         let root = spreads(g.root, same, x);
         let leaf = spreads(g.leaf, same, x);
