@@ -15,10 +15,10 @@ use Rattle.meaning.specs.Finite.{Yes, neg, pick}
 use Rattle.meaning.proofs.Tests.{yes-case, clash, is-eq, eq-yes, pick-yes, pick-no}
 use Rattle.rowbits.specs.Bit.{bit}
 use Rattle.tables.specs.Tables.{row}
-use Rattle.tables.specs.Rows.{without, Lowest}
+use Rattle.tables.specs.Rows.{without, Lowest, Union}
 use Rattle.tables.proofs.Bits.{none-in, or-case, or-l, or-r, one-is, one-has, one-small, in-both, both-in, some-in, in-row, without-in, without-out, without-less}
-use Rattle.tables.proofs.Loops.{below-cases, Rowing}
-use Rattle.merge.specs.Rows.{Union, Gap, Apart, LabelOf, TwoLabels, Painted}
+use Rattle.tables.proofs.Members.{Passed, passed-none, next-in, next-named, passed-more, passed-all}
+use Rattle.merge.specs.Rows.{Gap, Apart, LabelOf, TwoLabels, Painted}
 use Rattle.tables.proofs.Tested.{or-yes, or-no, and-yes, yes-and, not-eq, eq-not, not-yes}
 
 -- ---- rows changed
@@ -35,72 +35,6 @@ all-rows new same rows small t r within beyond i = go (decLt i 16)
     go : Dec (i < 16) → row r i ≡ new (bit rows i) (row t i)
     go (yes l) = within i l
     go (no l) = beyond i (omega arith) ∙ out (bit rows i) refl (omega arith)
-
--- ---- the rows named, taken one by one
-
-pub lowest-in : (r k : ℕ) → r < 65536 → r ≢ 0 → Lowest r k → k < 16
-lowest-in r k small some low = go (decLt k 16)
-  where
-    go : Dec (k < 16) → k < 16
-    go (yes l) = l
-    go (no l) = let w = some-in r small some in let q = in-row r (w .0) small (w .1) in absurd (low .none (w .0) (omega arith) (w .1))
-
--- P holds of every row named but those that are left
-pub record Passed (P : ℕ → Type 0) (rows rest : ℕ) : Type 0 where
-  pub small : rest < 65536
-  pub left : (i : ℕ) → Yes (bit rest i) → Yes (bit rows i)
-  pub past : (i : ℕ) → Yes (bit rows i) → P i ⊎ Yes (bit rest i)
-
-pub passed-none : (P : ℕ → Type 0) (rows : ℕ) → rows < 65536 → Passed P rows rows
-passed-none P rows small = record { small = small; left = λ i u. u; past = λ i u. inr u }
-
-module _ (P : ℕ → Type 0) (rows rest x : ℕ) (w : Passed P rows rest) (some : rest ≢ 0) (low : Lowest rest x) where
-  pub next-in : x < 16
-  next-in = lowest-in rest x (w .small) some low
-
-  pub next-named : Yes (bit rows x)
-  next-named = w .left x (low .this next-in)
-
-  pub passed-less : without rest (2 ^ x) < rest
-  passed-less = without-less rest x next-in (low .this next-in)
-
-  pub passed-more : (Q : ℕ → Type 0) → ((i : ℕ) → P i → Q i) → Q x → Passed Q rows (without rest (2 ^ x))
-  passed-more Q up q = record {
-    small = let l = passed-less in let k = w .small in omega arith;
-    left = λ i u. w .left i (without-out rest (2 ^ x) i (in-row _ i (let l = passed-less in let k = w .small in omega arith) u) u .0);
-    past = λ i u. ⊎-elim (λ p. inl (up i p)) (λ v. this i v (ℕ-discrete i x)) (w .past i u);
-  }
-    where
-      this : (i : ℕ) → Yes (bit rest i) → Dec (i ≡ x) → Q i ⊎ Yes (bit (without rest (2 ^ x)) i)
-      this i v (yes e) = inl (subst Q (sym e) q)
-      this i v (no e) = inr (without-in rest (2 ^ x) i (in-row rest i (w .small) v) v (λ y. e (one-is x i y)))
-
-pub passed-all : (P : ℕ → Type 0) (rows rest : ℕ) → Passed P rows rest → rest ≡ 0 → (i : ℕ) → Yes (bit rows i) → P i
-passed-all P rows rest w z i u = ⊎-elim (λ p. p) (λ v. none-in i (subst (λ (k : ℕ). Yes (bit k i)) z v)) (w .past i u)
-
--- ---- what they hold together
-
-abbrev pub Within : List ℕ → ℕ → ℕ → Type 0
-Within t a i = (j : ℕ) → Yes (bit (row t i) j) → Yes (bit a j)
-
-pub record Uniting (t : List ℕ) (rows a rest : ℕ) : Type 0 where
-  pub small : a < 65536
-  pub from : (j : ℕ) → Yes (bit a j) → (i : ℕ) × Yes (bit rows i) × Yes (bit (row t i) j)
-  pub passed : Passed (Within t a) rows rest
-
-pub uniting-none : (t : List ℕ) (rows : ℕ) → rows < 65536 → Uniting t rows 0 rows
-uniting-none t rows small = record { small = omega arith; from = λ j u. none-in j u; passed = passed-none _ rows small }
-
-pub uniting-more : (t : List ℕ) (rows a rest x : ℕ) → Uniting t rows a rest → rest ≢ 0 → Lowest rest x → row t x < 65536
-    → Uniting t rows (bitOr a (row t x)) (without rest (2 ^ x))
-uniting-more t rows a rest x w some low s = record {
-  small = or-lt 16 a (row t x) (w .small) s;
-  from = λ j u. ⊎-elim (w .from j) (λ v. (x, next-named _ rows rest x (w .passed) some low, v)) (or-case a (row t x) j u);
-  passed = passed-more _ rows rest x (w .passed) some low _ (λ i p j u. or-l a (row t x) j (p j u)) (λ j u. or-r a (row t x) j u);
-}
-
-pub is-union : (t : List ℕ) (rows a rest : ℕ) → Uniting t rows a rest → rest ≡ 0 → Union t rows a
-is-union t rows a rest w z = record { small = w .small; from = w .from; to = λ i j u v. passed-all _ rows rest (w .passed) z i u j v }
 
 -- ---- whether one of them lacks one
 

@@ -14,9 +14,8 @@ use Rattle.meaning.proofs.Least.{settled-within}
 use Rattle.rowbits.specs.Bit.{bit}
 use Rattle.tables.specs.Tables.{row, has, Columns}
 use Rattle.tables.specs.declared.Facts.{Facts}
-use Rattle.tables.specs.Rows.{meets}
+use Rattle.tables.specs.Rows.{meets, Union}
 use Rattle.tables.proofs.Bits.{or-case, or-l, or-r, none-in, meets-in, meets-out, in-row}
-use Rattle.merge.specs.Rows.{Union}
 use Rattle.merge.specs.Merging.{In, Held, held, waits, Pending}
 use Rattle.merge.proofs.Reach.{Above, Reach}
 

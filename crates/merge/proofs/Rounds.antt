@@ -18,11 +18,11 @@ use Rattle.meaning.proofs.Finite.{sum-le, sum-lt, one-le, one-lt}
 use Rattle.meaning.proofs.Tests.{clash, no-neg}
 use Rattle.rowbits.specs.Bit.{bit}
 use Rattle.tables.specs.Tables.{row, has}
-use Rattle.tables.specs.Rows.{gained, meets, Raised}
+use Rattle.tables.specs.Rows.{gained, meets, Raised, Union}
 use Rattle.tables.specs.declared.Facts.{Facts}
 use Rattle.tables.proofs.Bits.{in-both, both-in, none-in, meets-in, meets-out, in-row, or-l}
 use Rattle.tables.proofs.Shape.{label-has}
-use Rattle.merge.specs.Rows.{Union, Gap, Apart, LabelOf, Painted}
+use Rattle.merge.specs.Rows.{Gap, Apart, LabelOf, Painted}
 use Rattle.merge.specs.Merging.{Sharing, Awaits, held, waits, In, Held, Pending, lacking, RoundOf}
 use Rattle.merge.proofs.Glue.{Cut, Twin, Glued, Over, glued-sharing, glued-apart, arrived, glued-parent, glued-sound}
 use Rattle.merge.proofs.Reach.{Reach, within, ends, cut, glue}

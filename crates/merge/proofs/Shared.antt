@@ -13,10 +13,10 @@ use Rattle.meaning.specs.Finite.{Yes, _and_, neg}
 use Rattle.meaning.proofs.Tests.{clash, yes-case, yes-eq, and-left, and-right, is-eq, eq-yes, pick-yes, pick-no}
 use Rattle.rowbits.specs.Bit.{bit}
 use Rattle.tables.specs.Tables.{row, Columns}
-use Rattle.tables.specs.Rows.{gained, meets, Raised}
+use Rattle.tables.specs.Rows.{gained, meets, Raised, Union}
 use Rattle.tables.proofs.Helpers.{gain-off}
 use Rattle.tables.proofs.Bits.{in-both, both-in, gained-up, gained-has, gained-case, meets-in, meets-out}
-use Rattle.merge.specs.Rows.{Union, LabelOf, Painted}
+use Rattle.merge.specs.Rows.{LabelOf, Painted}
 use Rattle.merge.specs.Merging.{Sharing, In}
 use Rattle.merge.proofs.Loops.{all-rows}
 use Rattle.merge.proofs.Glue.{Cut, Twin, One, Two, mid-twin, twin-cases}

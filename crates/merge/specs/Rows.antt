@@ -8,12 +8,6 @@ use Rattle.meaning.specs.Finite.{Yes, pick}
 use Rattle.rowbits.specs.Bit.{bit}
 use Rattle.tables.specs.Tables.{row}
 
--- what the rows named hold together
-pub record Union (t : List ℕ) (rows r : ℕ) : Type 0 where
-  pub small : r < 65536
-  pub from : (j : ℕ) → Yes (bit r j) → (i : ℕ) × Yes (bit rows i) × Yes (bit (row t i) j)
-  pub to : (i j : ℕ) → Yes (bit rows i) → Yes (bit (row t i) j) → Yes (bit r j)
-
 -- one of the rows named lacks one of them
 pub record Gap (t : List ℕ) (rows : ℕ) : Type 0 where
   pub at : ℕ

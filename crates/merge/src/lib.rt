@@ -2,26 +2,12 @@
 ghost use mathlib.Core.Path.{_≡_};
 ghost use Prim.Native.Nat.{_<_, _≤_, _^_};
 ghost use lib.Bits.{bitOr};
-ghost use Rattle.merge.specs.Rows.{Union, Apart, LabelOf, TwoLabels, Painted};
+ghost use Rattle.tables.specs.Rows.{Union};
+ghost use Rattle.merge.specs.Rows.{Apart, LabelOf, TwoLabels, Painted};
 ghost use Rattle.merge.specs.Merging.{RoundOf, MergedOf};
 use ids::Var;
 use tables::Facts;
 use tables::Settled;
-
-// What the rows named hold together.
-fn union_rows(t: [u16; 16], rows: u16) -> u16
-    ensures { λ r. ⌜ Union t rows r ⌝ }
-{
-    let mut a: u16 = 0;
-    let mut rest = rows;
-    while rest != 0 {
-        let x = tables::lowest(rest);
-        let v = t[x];
-        a = a | v;
-        rest = tables::except(rest, tables::one(x));
-    }
-    a
-}
 
 // The rows named, if one of them lacks one of them; else no row.
 fn apart(t: [u16; 16], rows: u16) -> u16
@@ -34,7 +20,7 @@ fn apart(t: [u16; 16], rows: u16) -> u16
         if tables::except(rows, v) != 0 {
             return rows;
         }
-        rest = tables::except(rest, tables::one(x));
+        rest = tables::rest(rest);
     }
     0
 }
@@ -74,7 +60,7 @@ fn label_of(t: [u8; 16], rows: u16) -> u8
         if v != 0 {
             return v;
         }
-        rest = tables::except(rest, tables::one(x));
+        rest = tables::rest(rest);
     }
     0
 }
@@ -94,7 +80,7 @@ fn two_labels(t: [u8; 16], rows: u16, l: u8) -> bool
         if (v != 0) & (v != l) {
             return true;
         }
-        rest = tables::except(rest, tables::one(x));
+        rest = tables::rest(rest);
     }
     false
 }
@@ -112,7 +98,7 @@ fn paint(t: [u8; 16], rows: u16, l: u8) -> [u8; 16]
     while rest != 0 {
         let x = tables::lowest(rest);
         a[x] = l;
-        rest = tables::except(rest, tables::one(x));
+        rest = tables::rest(rest);
     }
     a
 }
@@ -138,10 +124,10 @@ fn unify(f: Facts, x: u16, lower: u16, upper: u16) -> Round
     let label = f.label;
     let down = x | lower;
     let near = x | upper;
-    let far = union_rows(above, tables::when(tables::meet(near, f.leaf), down));
+    let far = tables::union_rows(above, tables::when(tables::meet(near, f.leaf), down));
     let up = near | far;
     let group = up & down;
-    let others = union_rows(differ, group);
+    let others = tables::union_rows(differ, group);
     if tables::meet(others, group) {
         return Round {
             clash: true,
@@ -157,8 +143,8 @@ fn unify(f: Facts, x: u16, lower: u16, upper: u16) -> Round
             facts: f,
         };
     }
-    let children = union_rows(child, group);
-    let parents = union_rows(parent, group);
+    let children = tables::union_rows(child, group);
+    let parents = tables::union_rows(parent, group);
     let new_below = tables::raise(below, up, down);
     let new_above = tables::raise(above, down, up);
     let new_child = tables::raise(tables::raise(child, group, children), parents, group);
@@ -209,8 +195,8 @@ pub fn enter_same(f: Facts, n: usize, a: Var, b: Var) -> Settled
         x = r.next;
         below = g.below;
         above = g.above;
-        lower = union_rows(below, x);
-        upper = union_rows(above, x);
+        lower = tables::union_rows(below, x);
+        upper = tables::union_rows(above, x);
     }
     Settled {
         clash: false,

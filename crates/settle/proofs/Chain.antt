@@ -1,27 +1,27 @@
 -- What the rules for itself, child, root and chain make of the rows of below.
-use mathlib.Core.Path.{_≡_, sym, subst}
-use mathlib.Core.Logic.{_⊎_, inl, inr, ⊎-elim}
+use mathlib.Core.Path.{_≡_, sym, _∙_, subst}
+use mathlib.Core.Logic.{_≢_, _⊎_, inl, inr, ⊎-elim}
 use mathlib.Core.List.{List}
 use Prim.Native.Nat.{ℕ, _+_, _-_, _^_, _<_, _≤_}
 use native.Mathlib.Nat.{le-trans, not-suc-le-zero}
 use native.Mathlib.Decide.{decLt}
 use native.Mathlib.Omega.{arith}
-use lib.Bits.{bitOr}
+use lib.Bits.{bitOr, bitAnd}
 use Rattle.meaning.specs.Constraint.{Fact, child, below, root}
 use Rattle.meaning.specs.Settled.{Settled, child-below, self-below, chain, root-below}
 use Rattle.meaning.specs.Finite.{Yes}
 use Rattle.rowbits.specs.Bit.{bit}
 use Rattle.tables.specs.Tables.{row}
-use Rattle.tables.specs.Rows.{Up, gained}
+use Rattle.tables.specs.Rows.{Up, gained, without}
 use Rattle.tables.proofs.Loops.{below-cases, Rowing}
-use Rattle.tables.proofs.Bits.{or-l, or-r, or-case, up-or, up-self, up-trans, all-is, all-has, gained-up, gained-has, gained-case, one-is, one-has}
-use Rattle.settle.specs.Rows.{Lifted, Chained, United, firstRow}
+use Rattle.tables.proofs.Bits.{or-l, or-r, or-case, up-or, up-self, up-trans, all-is, all-has, gained-up, gained-has, gained-case, one-is, one-has, without-in}
+use Rattle.settle.specs.Rows.{Lifted, Chained, Common, Grouped, firstRow}
 
 pub lifted : (t : List ℕ) (y x : ℕ) (r : List ℕ) → 16 ≤ x → x ≤ 16 → Rowing (λ k v. gained (bit v y) v (row t y)) 16 t x r → Lifted t y r
 lifted t y x r h h2 w = record { within = λ k l. w .done k (le-trans l h); beyond = λ k l. w .rest k (le-trans h2 l) }
 
-pub united : (t more : List ℕ) (x : ℕ) (r : List ℕ) → 16 ≤ x → Rowing (λ k v. bitOr v (row more k)) 16 t x r → United t more r
-united t more x r h w = record { rows = λ k l. w .done k (le-trans l h) }
+pub commons : (t u : List ℕ) (x : ℕ) (r : List ℕ) → 16 ≤ x → Rowing (λ k v. bitAnd v (row u k)) 16 t x r → Common t u r
+commons t u x r h w = record { rows = λ k l. w .done k (le-trans l h) }
 
 -- ---- the rows of below
 
@@ -48,15 +48,16 @@ first-case b c r x n i t =
     (λ u. ⊎-elim (λ v. ⊎-elim inl (λ w. inr (inl w)) (or-case b c i v)) (λ v. inr (inr (inl (one-is x i v)))) (or-case _ _ i u))
     (λ u. inr (inr (inr (u .0, all-is n i (u .1))))) (gained-case _ _ _ i t)
 
+-- Warshall's invariant: through the variables before y the rows are chained
 pub record Lifting (n : ℕ) (t : List ℕ) (y : ℕ) (a : List ℕ) : Type 0 where
   pub up : (x : ℕ) → Up (row t x) (row a x)
   pub sound : (S : List Fact) → ((x z : ℕ) → Yes (bit (row t x) z) → Settled n S (below x z)) → (x z : ℕ) → Yes (bit (row a x) z) → Settled n S (below x z)
-  pub chained : (x k z : ℕ) → x < 16 → k < y → Yes (bit (row t x) k) → Yes (bit (row t k) z) → Yes (bit (row a x) z)
+  pub chained : (x k z : ℕ) → x < 16 → k < 16 → k < y → Yes (bit (row a x) k) → Yes (bit (row a k) z) → Yes (bit (row a x) z)
 
 pub lifting-none : (n : ℕ) (t : List ℕ) → Lifting n t 0 t
-lifting-none n t = record { up = λ x. up-self _; sound = λ S h. h; chained = λ x k z l m. absurd (not-suc-le-zero m) }
+lifting-none n t = record { up = λ x. up-self _; sound = λ S h. h; chained = λ x k z l i m. absurd (not-suc-le-zero m) }
 
-module _ (n : ℕ) (t : List ℕ) (y : ℕ) (a b : List ℕ) (w : Lifted a y b) (g : Lifting n t y a) where
+module _ (n : ℕ) (t : List ℕ) (y : ℕ) (a b : List ℕ) (hy : y < 16) (w : Lifted a y b) (g : Lifting n t y a) where
   one-up : (x : ℕ) → Up (row a x) (row b x)
   one-up x = go (decLt x 16)
     where
@@ -64,24 +65,38 @@ module _ (n : ℕ) (t : List ℕ) (y : ℕ) (a b : List ℕ) (w : Lifted a y b) 
       go (yes h) = subst (λ (k : ℕ). Up (row a x) k) (sym (w .within x h)) (gained-up _ _ _)
       go (no h) = subst (λ (k : ℕ). Up (row a x) k) (sym (w .beyond x (omega arith))) (up-self _)
 
+  one-case : (x z : ℕ) → x < 16 → Yes (bit (row b x) z) → Yes (bit (row a x) z) ⊎ (Yes (bit (row a x) y) × Yes (bit (row a y) z))
+  one-case x z h u = gained-case _ _ _ z (subst (λ (k : ℕ). Yes (bit k z)) (w .within x h) u)
+
   one-sound : (S : List Fact) → ((x z : ℕ) → Yes (bit (row a x) z) → Settled n S (below x z)) → (x z : ℕ) → Yes (bit (row b x) z) → Settled n S (below x z)
   one-sound S s x z u = go (decLt x 16)
     where
       go : Dec (x < 16) → Settled n S (below x z)
-      go (yes h) =
-          ⊎-elim (s x z) (λ v. chain (s x y (v .0)) (s y z (v .1)))
-          (gained-case _ _ _ z (subst (λ (k : ℕ). Yes (bit k z)) (w .within x h) u))
+      go (yes h) = ⊎-elim (s x z) (λ v. chain (s x y (v .0)) (s y z (v .1))) (one-case x z h u)
       go (no h) = s x z (subst (λ (k : ℕ). Yes (bit k z)) (w .beyond x (omega arith)) u)
+
+  through : (x z : ℕ) → x < 16 → Yes (bit (row a x) y) → Yes (bit (row a y) z) → Yes (bit (row b x) z)
+  through x z h p q = subst (λ (k : ℕ). Yes (bit k z)) (sym (w .within x h)) (gained-has _ _ _ z p q)
+
+  to-y : (x : ℕ) → x < 16 → Yes (bit (row b x) y) → Yes (bit (row a x) y)
+  to-y x h u = ⊎-elim (λ v. v) (λ v. v .0) (one-case x y h u)
+
+  from-y : (z : ℕ) → Yes (bit (row b y) z) → Yes (bit (row a y) z)
+  from-y z u = ⊎-elim (λ v. v) (λ v. v .1) (one-case y z hy u)
+
+  one-chained : (x k z : ℕ) → x < 16 → k < 16 → (k ≡ y) ⊎ (k < y) → Yes (bit (row b x) k) → Yes (bit (row b k) z) → Yes (bit (row b x) z)
+  one-chained x k z h hk (inl e) p q =
+      through x z h (to-y x h (subst (λ (i : ℕ). Yes (bit (row b x) i)) e p)) (from-y z (subst (λ (i : ℕ). Yes (bit (row b i) z)) e q))
+  one-chained x k z h hk (inr l) p q = ⊎-elim
+      (λ u. ⊎-elim (λ v. one-up x .kept z (g .chained x k z h hk l u v)) (λ v. through x z h (g .chained x k y h hk l u (v .0)) (v .1)) (one-case k z hk q))
+      (λ u. ⊎-elim (λ v. through x z h (u .0) (g .chained y k z hy hk l (u .1) v)) (λ v. through x z h (u .0) (v .1)) (one-case k z hk q))
+      (one-case x k h p)
 
   pub lifting-more : Lifting n t (y + 1) b
   lifting-more = record {
     up = λ x. up-trans (g .up x) (one-up x);
     sound = λ S s. one-sound S (g .sound S s);
-    chained = λ x k z h l p q. ⊎-elim
-        (λ e. subst (λ (i : ℕ). Yes (bit i z)) (sym (w .within x h))
-        (gained-has _ _ _ z (g .up x .kept y (subst (λ (i : ℕ). Yes (bit (row t x) i)) e p))
-        (g .up y .kept z (subst (λ (i : ℕ). Yes (bit (row t i) z)) e q))))
-        (λ m. one-up x .kept z (g .chained x k z h m p q)) (below-cases l);
+    chained = λ x k z h hk l. one-chained x k z h hk (below-cases l);
   }
 
 module _ (n : ℕ) (small : n ≤ 16) (t children : List ℕ) (roots x y : ℕ) (a r : List ℕ) (hx : n ≤ x) (hx2 : x ≤ n) (hy : n ≤ y)
@@ -117,5 +132,21 @@ module _ (n : ℕ) (small : n ≤ 16) (t children : List ℕ) (roots x y : ℕ) 
     itself = λ k h. into k k h (first-self _ _ _ _ _);
     parent = λ k i h u. into k i h (first-child _ _ _ _ _ i u);
     rooted = λ k i h u l. into k i h (first-root _ _ _ _ _ i u l);
-    chained = λ k i z h l p q. g .chained k i z (omega arith) (omega arith) (firsts-up k .kept i p) (firsts-up i .kept z q);
+    chained = λ k i z h l. g .chained k i z (omega arith) (omega arith) (omega arith);
   }
+
+-- ---- groups
+
+pub record Grouping (same : List ℕ) (x a : ℕ) : Type 0 where
+  pub has : (k y : ℕ) → k < x → y < 16 → y ≢ k → Yes (bit (row same k) y) → Yes (bit a y)
+
+pub grouping-none : (same : List ℕ) (a : ℕ) → Grouping same 0 a
+grouping-none same a = record { has = λ k y h. absurd (not-suc-le-zero h) }
+
+pub grouping-more : (same : List ℕ) (x a one r : ℕ) → one ≡ 2 ^ x → r ≡ without (row same x) one → Grouping same x a → Grouping same (x + 1) (bitOr a r)
+grouping-more same x a one r eo er g = record {
+  has = λ k y h hy ne u. ⊎-elim
+      (λ e. or-r a r y (subst (λ (i : ℕ). Yes (bit i y)) (sym er) (without-in (row same x) one y hy
+      (subst (λ (i : ℕ). Yes (bit (row same i) y)) e u) (λ o. ne (one-is x y (subst (λ (i : ℕ). Yes (bit i y)) eo o) ∙ sym e)))))
+      (λ l. or-l a r y (g .has k y l hy ne u)) (below-cases h);
+}

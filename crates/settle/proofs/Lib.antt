@@ -1,8 +1,5 @@
 mod Helpers
 mod Chain
-mod Above
-mod Masks
-mod Visit
+mod Taking
 mod Passing
-mod Row
 mod Final

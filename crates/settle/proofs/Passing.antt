@@ -1,166 +1,123 @@
--- What the loop over x knows: each rule for a row that was passed, and which rows are as they were. At the start the rows of below are
--- chained; at the end the pass is done.
+-- The loop over x: what each row that was passed holds, and which rows are as they were.
 use mathlib.Core.Path.{_≡_, refl, sym, _∙_, subst}
-use mathlib.Core.Logic.{_≢_}
-use mathlib.Core.Bool.{Bool, true, false, false≢true}
+use mathlib.Core.Logic.{_≢_, _⊎_, inl, inr, ⊎-elim}
 use mathlib.Core.List.{List}
-use Prim.Native.Nat.{ℕ, _+_, _<_, _≤_}
-use native.Mathlib.Nat.{le-trans, not-suc-le-zero}
+use Prim.Native.Nat.{ℕ, _+_, _^_, _<_, _≤_}
+use native.Mathlib.Nat.{le-refl, not-suc-le-zero}
 use native.Mathlib.Decide.{ℕ-discrete}
 use native.Mathlib.Omega.{arith}
-use lib.Bits.{bitXor, xor-self}
-use Rattle.meaning.specs.Constraint.{Fact, child, below, differ, root, leaf, label}
-use Rattle.meaning.specs.Settled.{Clash}
+use lib.ListN.{set, length, length-set}
+use lib.Seq.{getD-set-same, getD-set-other}
+use lib.Bits.{bitOr, bitAnd, bitXor, xor-self}
 use Rattle.meaning.specs.Finite.{Yes}
-use Rattle.meaning.proofs.Tests.{clash}
-use Rattle.meaning.proofs.Facts.{Within}
 use Rattle.rowbits.specs.Bit.{bit}
-use Rattle.tables.specs.Tables.{row, has, Sound}
-use Rattle.tables.specs.Rows.{Up}
-use Rattle.tables.specs.declared.Facts.{Facts}
-use Rattle.tables.proofs.Bits.{up-self, xor-zero}
-use Rattle.tables.proofs.Shape.{Rows, Shape, label-has, label-is}
-use Rattle.settle.specs.Rows.{Chained, grouped}
-use Rattle.settle.specs.Pass.{Steps, total, Gone, PassOf}
-use Rattle.settle.proofs.Above.{Above, lup-self, keeps, total-up, total-most}
+use Rattle.tables.specs.Tables.{row}
+use Rattle.tables.specs.Rows.{Up, Union}
+use Rattle.tables.proofs.Bits.{or-case, or-l, or-r, in-both, both-in, up-or, up-trans, or-zero, xor-zero}
+use Rattle.tables.proofs.Loops.{below-cases}
+use Rattle.tables.proofs.Members.{Passed, passed-all}
+use Rattle.settle.proofs.Taking.{Taking, Taken}
 
--- what the rules for itself, child, root and chain give is in the rows of below from the start
-pub record Base (n : ℕ) (f : Facts) (x : ℕ) (g : Facts) : Type 0 where
-  pub itself : Yes (has g (below x x))
-  pub parent : (y : ℕ) → Yes (has f (child x y)) → Yes (has g (below x y))
-  pub rooted : (y : ℕ) → Yes (has f (root x)) → y < n → Yes (has g (below x y))
-  pub chained : (y z : ℕ) → y < n → Yes (has f (below x y)) → Yes (has f (below y z)) → Yes (has g (below x z))
+module _ (childs parents differs labels B U E : List ℕ) (groups leaf : ℕ) where
+  -- row k after its turn
+  pub record RowOf (k c p b d l : ℕ) : Type 0 where
+    pub taking : Taking E childs parents differs labels (row E k) c p d l
+    pub taken : (i : ℕ) → Yes (bit (row E k) i) → Taken E childs parents differs labels k (bitOr groups (2 ^ k)) c p d l i
+    pub up : Up (row B k) b
+    pub from : (j : ℕ) → Yes (bit b j) → Yes (bit (row B k) j) ⊎ ((Yes (bit (row U k) j) × Yes (bit leaf j)) ⊎ ((z : ℕ) × Yes (bit c z) × Yes (bit (row parents z) j)))
+    pub leaves : (j : ℕ) → Yes (bit (row U k) j) → Yes (bit leaf j) → Yes (bit b j)
+    pub joined : (z j : ℕ) → Yes (bit c z) → Yes (bit (row parents z) j) → Yes (bit b j)
 
-pub record Equal (f g : Facts) (x : ℕ) : Type 0 where
-  pub child : row (g .child) x ≡ row (f .child) x
-  pub differ : row (g .differ) x ≡ row (f .differ) x
-  pub label : row (g .label) x ≡ row (f .label) x
-
-pub record Quiet (m : ℕ) (f : Facts) (x : ℕ) (g : Facts) (groups : ℕ) : Type 0 where
-  pub groups-is : groups ≡ m
-  pub root-is : g .root ≡ f .root
-  pub leaf-is : g .leaf ≡ f .leaf
-  pub rows : (k : ℕ) → k < x → Equal f g k
-  pub belows : (k : ℕ) → k < x → row (g .below) k ≡ row (f .below) k
-
-pub record Passing (n m : ℕ) (f : Facts) (x : ℕ) (g : Facts) (groups diff : ℕ) : Type 0 where
-  pub shape : Shape g
-  pub groups-small : groups < 65536
-  pub above : Above f g
-  pub groups-up : Up m groups
-  pub sound : (S : List Fact) → Sound n S f → Sound n S g
-  pub base : (k : ℕ) → k < n → Base n f k g
-  pub steps : (k : ℕ) → k < x → Steps n m f k g groups
-  pub rest : (k : ℕ) → x ≤ k → Equal f g k
-  pub still : diff ≡ 0 → Quiet m f x g groups
-  pub more : diff ≢ 0 → total f + m < total g + groups
-
-pub base-up : {n x : ℕ} {f g h : Facts} → Above g h → Base n f x g → Base n f x h
-base-up {g = g} {h = h} a b = record {
-  itself = keeps g h a _ (b .itself);
-  parent = λ y u. keeps g h a _ (b .parent y u);
-  rooted = λ y u l. keeps g h a _ (b .rooted y u l);
-  chained = λ y z l u v. keeps g h a _ (b .chained y z l u v);
-}
-
-pub steps-up : {n m x i j : ℕ} {f g h : Facts} → Above g h → Up i j → Steps n m f x g i → Steps n m f x h j
-steps-up {g = g} {h = h} a e s = record {
-  itself = keeps g h a _ (s .itself);
-  apart = s .apart;
-  child-is = λ y u. let q = s .child-is y u in (keeps g h a _ (q .0), keeps g h a _ (q .1));
-  chained = λ y z l u v. keeps g h a _ (s .chained y z l u v);
-  rooted = λ y u l. keeps g h a _ (s .rooted y u l);
-  leaved = λ y l u v. keeps g h a _ (s .leaved y l u v);
-  parented = λ y z l u v. keeps g h a _ (s .parented y z l u v);
-  turned = λ y l u. keeps g h a _ (s .turned y l u);
-  shared-child = λ y z l u v. keeps g h a _ (s .shared-child y z l u v);
-  shared-root = λ y l u v. keeps g h a _ (s .shared-root y l u v);
-  shared-leaf = λ y l u v. keeps g h a _ (s .shared-leaf y l u v);
-  shared-label = λ y k l u v. keeps g h a _ (s .shared-label y k l u v);
-  column-child = λ y z l k b u v. keeps g h a _ (s .column-child y z l k b u v);
-  column-differ = λ y z l k b u v. keeps g h a _ (s .column-differ y z l k b u v);
-  grouped = λ y l u d. e .kept _ (s .grouped y l u d);
-}
-
--- the tables that the pass began with
-abbrev pub began : Facts → List ℕ → Facts
-began g start = record { child = g .child; parent = g .parent; below = start; above = g .above; differ = g .differ; root = g .root; leaf = g .leaf; label = g .label }
-
--- ---- before the loop over x, and after it
-
-module _ (n m : ℕ) (f : Facts) (closed : List ℕ) (w : Shape f) (wc : Rows closed) (ch : Chained n (f .below) (f .child) (f .root) closed) where
-  abbrev pub chained-facts : Facts
-  chained-facts = record { child = f .child; parent = f .parent; below = closed; above = f .above; differ = f .differ; root = f .root; leaf = f .leaf; label = f .label }
-
-  first-sound : (S : List Fact) → Sound n S f → Sound n S chained-facts
-  unfolding has
-  first-sound S s (child x y) u = s (child x y) u
-  first-sound S s (below x y) u = ch .sound S (λ i j. s (below i j)) (λ i j. s (child i j)) (λ i. s (root i)) x y u
-  first-sound S s (differ x y) u = s (differ x y) u
-  first-sound S s (root x) u = s (root x) u
-  first-sound S s (leaf x) u = s (leaf x) u
-  first-sound S s (label x l) u = s (label x l) u
-
-  first-above : Above f chained-facts
-  first-above = record {
-    child = λ x. up-self _;
-    below = ch .up;
-    differ = λ x. up-self _;
-    label = λ x. lup-self _;
-    root = up-self _;
-    leaf = up-self _;
+  pub row-of : (k c p d l ys more v : ℕ) → ys ≡ 0 → Taking E childs parents differs labels (row E k) c p d l
+      → v ≡ bitOr groups (2 ^ k) → Passed (Taken E childs parents differs labels k v c p d l) (row E k) ys → Union parents c more
+      → RowOf k c p (bitOr (bitOr (row B k) (bitAnd (row U k) leaf)) more) d l
+  row-of k c p d l ys more v none t e w u = record {
+    taking = t;
+    taken = subst (λ (i : ℕ). (j : ℕ) → Yes (bit (row E k) j) → Taken E childs parents differs labels k i c p d l j) e (passed-all _ _ ys w none);
+    up = up-trans (up-or _ _) (up-or _ _);
+    from = λ j h. ⊎-elim
+        (λ a. ⊎-elim inl (λ b. inr (inl (in-both (row U k) leaf j b))) (or-case (row B k) (bitAnd (row U k) leaf) j a))
+        (λ a. inr (inr (u .from j a))) (or-case (bitOr (row B k) (bitAnd (row U k) leaf)) more j h);
+    leaves = λ j a b. or-l (bitOr (row B k) (bitAnd (row U k) leaf)) more j (or-r (row B k) (bitAnd (row U k) leaf) j (both-in (row U k) leaf j a b));
+    joined = λ z j a b. or-r (bitOr (row B k) (bitAnd (row U k) leaf)) more j (u .to z j a b);
   }
 
-  first-base : (k : ℕ) → k < n → Base n f k chained-facts
-  unfolding has
-  first-base k h = record {
-    itself = ch .itself k h;
-    parent = λ y u. ch .parent k y h u;
-    rooted = λ y u l. ch .rooted k y h u l;
-    chained = λ y z l u v. ch .chained k y z h l u v;
+  pub record Unpassed (child parent below differ label : List ℕ) (k : ℕ) : Type 0 where
+    pub child-is : row child k ≡ row childs k
+    pub parent-is : row parent k ≡ row parents k
+    pub below-is : row below k ≡ row B k
+    pub differ-is : row differ k ≡ row differs k
+    pub label-is : row label k ≡ row labels k
+
+  pub record Long (tc tp tb td tl : List ℕ) : Type 0 where
+    pub child : length tc ≡ 16
+    pub parent : length tp ≡ 16
+    pub below : length tb ≡ 16
+    pub differ : length td ≡ 16
+    pub label : length tl ≡ 16
+
+  pub record Passing (x : ℕ) (child parent below differ label : List ℕ) (more : ℕ) : Type 0 where
+    pub long : Long child parent below differ label
+    pub done : (k : ℕ) → k < x → RowOf k (row child k) (row parent k) (row below k) (row differ k) (row label k)
+    pub rest : (k : ℕ) → x ≤ k → Unpassed child parent below differ label k
+    pub still : more ≡ 0 → (k : ℕ) → k < x → row below k ≡ row B k
+    pub moved : more ≢ 0 → (k : ℕ) × (k < x) × (row B k < row below k)
+
+  pub passing-none : Long childs parents B differs labels → Passing 0 childs parents B differs labels 0
+  passing-none w = record {
+    long = w;
+    done = λ k h. absurd (not-suc-le-zero h);
+    rest = λ k h. record { child-is = refl; parent-is = refl; below-is = refl; differ-is = refl; label-is = refl };
+    still = λ e k h. absurd (not-suc-le-zero h);
+    moved = λ e. absurd (e refl);
   }
 
-  -- groups found at the start are a change
-  pub passing-none : (groups : ℕ) → groups < 65536 → Up m groups → Passing n m f 0 chained-facts groups (bitXor m groups)
-  passing-none groups hg u = record {
-    shape = record { child = w .child; below = wc; differ = w .differ; label = w .label; root = w .root; leaf = w .leaf };
-    groups-small = hg;
-    above = first-above;
-    groups-up = u;
-    sound = first-sound;
-    base = first-base;
-    steps = λ k h. absurd (not-suc-le-zero h);
-    rest = λ k h. record { child = refl; differ = refl; label = refl };
-    still = λ e. record { groups-is = sym (xor-zero m groups e); root-is = refl; leaf-is = refl; rows = λ k h. absurd (not-suc-le-zero h); belows = λ k h. absurd (not-suc-le-zero h) };
-    more = λ e. let t = total-up f chained-facts first-above in let k = u .most in grown e t k (ℕ-discrete m groups);
-  }
-    where
-      grown : bitXor m groups ≢ 0 → total f ≤ total chained-facts → m ≤ groups → Dec (m ≡ groups) → total f + m < total chained-facts + groups
-      grown e t k (yes i) = absurd (e (rw i (xor-self groups)))
-      grown e t k (no i) = omega arith
+  module _ (x : ℕ) (child parent below differ label : List ℕ) (more : ℕ) (h : x < 16) (w : Passing x child parent below differ label more) (c p b d l : ℕ) (r : RowOf x c p b d l) where
+    same : (t : List ℕ) (v : ℕ) → length t ≡ 16 → row (set t x v) x ≡ v
+    same t v e = getD-set-same t x v 0 (rw e h)
 
-module _ (n m : ℕ) (f : Facts) (x : ℕ) (g : Facts) (groups diff : ℕ) (hx : n ≤ x) (p : Passing n m f x g groups diff) where
-  back : Quiet m f x g groups → (φ : Fact) → Within n φ → Yes (has g φ) → Yes (has f φ)
-  unfolding has
-  back q (child k y) w u = subst (λ (j : ℕ). Yes (bit j y)) (q .rows k (le-trans (w .0) hx) .child) u
-  back q (below k y) w u = subst (λ (j : ℕ). Yes (bit j y)) (q .belows k (le-trans (w .0) hx)) u
-  back q (differ k y) w u = subst (λ (j : ℕ). Yes (bit j y)) (q .rows k (le-trans (w .0) hx) .differ) u
-  back q (root k) w u = subst (λ (j : ℕ). Yes (bit j k)) (q .root-is) u
-  back q (leaf k) w u = subst (λ (j : ℕ). Yes (bit j k)) (q .leaf-is) u
-  back q (label k l) w u = let o = label-is g k l u in label-has f k l (sym (q .rows k (le-trans w hx) .label) ∙ o .0) (o .1)
+    other : (t : List ℕ) (v k : ℕ) → k ≢ x → row (set t x v) k ≡ row t k
+    other t v k n = getD-set-other t x k v 0 n
 
-  pub gone : Gone n m f diff groups g
-  gone = record {
-    keeps = keeps f g (p .above);
-    sound = p .sound;
-    steps = λ k h. p .steps k (le-trans h hx);
-    still = λ e. let q = p .still e in (q .groups-is, back q);
-    more = p .more;
-    most = total-most g groups (p .shape) (p .groups-small);
-  }
+    here : RowOf x (row (set child x c) x) (row (set parent x p) x) (row (set below x b) x) (row (set differ x d) x) (row (set label x l) x)
+    here = rw (same child c (w .long .child), same parent p (w .long .parent), same below b (w .long .below), same differ d (w .long .differ), same label l (w .long .label)) r
 
-pub ended-well : (n m : ℕ) (f g : Facts) (groups diff : ℕ) (c : Bool) → c ≡ false → Gone n m f diff groups g → PassOf n m f (record { clash = c; diff = diff; groups = groups; facts = g })
-ended-well n m f g groups diff c e h = record { stopped = λ d. absurd (false≢true (sym e ∙ d)); gone = λ d. h }
+    before : (k : ℕ) → k < x → RowOf k (row (set child x c) k) (row (set parent x p) k) (row (set below x b) k) (row (set differ x d) k) (row (set label x l) k)
+    before k i =
+        let n : k ≢ x = λ e. omega arith in
+        rw (other child c k n, other parent p k n, other below b k n, other differ d k n, other label l k n) (w .done k i)
 
-pub ended-clash : (n m : ℕ) (f g : Facts) (groups diff : ℕ) → ((S : List Fact) → Sound n S f → Clash n S) → PassOf n m f (record { clash = true; diff = diff; groups = groups; facts = g })
-ended-clash n m f g groups diff h = record { stopped = λ d. h; gone = λ d. absurd (false≢true (sym d)) }
+    pub passing-more : Passing (x + 1) (set child x c) (set parent x p) (set below x b) (set differ x d) (set label x l) (bitOr more (bitXor (row B x) b))
+    passing-more = record {
+      long = record {
+        child = length-set child x c ∙ w .long .child;
+        parent = length-set parent x p ∙ w .long .parent;
+        below = length-set below x b ∙ w .long .below;
+        differ = length-set differ x d ∙ w .long .differ;
+        label = length-set label x l ∙ w .long .label;
+      };
+      done = λ k i. ⊎-elim
+          (λ e. subst (λ (j : ℕ). RowOf j (row (set child x c) j) (row (set parent x p) j) (row (set below x b) j) (row (set differ x d) j) (row (set label x l) j)) (sym e) here)
+          (before k) (below-cases i);
+      rest = λ k i. let n : k ≢ x = λ e. omega arith in let q = w .rest k (omega arith) in record {
+        child-is = other child c k n ∙ q .child-is;
+        parent-is = other parent p k n ∙ q .parent-is;
+        below-is = other below b k n ∙ q .below-is;
+        differ-is = other differ d k n ∙ q .differ-is;
+        label-is = other label l k n ∙ q .label-is;
+      };
+      still = λ e k i. let q = or-zero more (bitXor (row B x) b) e in ⊎-elim
+          (λ j. subst (λ (m : ℕ). row (set below x b) m ≡ row B m) (sym j) (same below b (w .long .below) ∙ sym (xor-zero (row B x) b (q .1))))
+          (λ j. other below b k (λ m. omega arith) ∙ w .still (q .0) k j) (below-cases i);
+      moved = λ e. went e (ℕ-discrete more 0) (ℕ-discrete (row B x) b);
+    }
+      where
+        xor-same : (a : ℕ) → bitOr 0 (bitXor a a) ≡ 0
+        xor-same a = rw (xor-self a) refl
+
+        went : bitOr more (bitXor (row B x) b) ≢ 0 → Dec (more ≡ 0) → Dec (row B x ≡ b) → (k : ℕ) × (k < x + 1) × (row B k < row (set below x b) k)
+        went e (no n) q =
+            let o = w .moved n in
+            (o .0, omega (arith, o .1), subst (λ (m : ℕ). row B (o .0) < m) (sym (other below b (o .0) (λ m. omega (arith, o .1)))) (o .2))
+        went e (yes n) (no q) = (x, omega arith, subst (λ (m : ℕ). row B x < m) (sym (same below b (w .long .below))) (let m = r .up .most in omega arith))
+        went e (yes n) (yes q) = absurd (e (rw (n, q) (xor-same b)))

@@ -87,13 +87,13 @@ one-small y h = pow-lt {i = y} {j = 16} h
 -- ---- some number in a row
 
 -- the digits above the lowest
-bit-half : (a i : ℕ) → bit (a / 2) i ≡ bit a (suc i)
+pub bit-half : (a i : ℕ) → bit (a / 2) i ≡ bit a (suc i)
 unfolding bit
 bit-half a i =
     let e : a / 2 / 2 ^ i ≡ a / 2 ^ suc i = div-div-eq-div-mul a 2 (2 ^ i) ∙ ap (λ (k : ℕ). a / k) (mul-comm 2 (2 ^ i) ∙ sym (pow-suc 2 i)) in
     ap (λ (k : ℕ). eqb (k % 2) 1) e
 
-half : (k a : ℕ) → a < 2 ^ suc k → a / 2 < 2 ^ k
+pub half : (k a : ℕ) → a < 2 ^ suc k → a / 2 < 2 ^ k
 half k a h = let p : 2 ^ suc k ≡ 2 ^ k * 2 = pow-suc 2 k in omega arith
 
 some : (k a : ℕ) → a < 2 ^ k → a ≢ 0 → (i : ℕ) × Yes (bit a i)
@@ -208,11 +208,11 @@ without-less a j h u = go (ℕ-discrete (bitAnd a (bitXor (2 ^ j) 65535)) a)
 
 -- ---- the smallest number in a row
 
-digit-in : (a : ℕ) → a % 2 ≡ 1 → Yes (bit a 0)
+pub digit-in : (a : ℕ) → a % 2 ≡ 1 → Yes (bit a 0)
 unfolding bit
 digit-in a e = eq-yes {x = a / 2 ^ 0 % 2} {y = 1} (omega arith)
 
-in-digit : (a : ℕ) → Yes (bit a 0) → a % 2 ≡ 1
+pub in-digit : (a : ℕ) → Yes (bit a 0) → a % 2 ≡ 1
 unfolding bit
 in-digit a u = let q : a / 2 ^ 0 % 2 ≡ 1 = is-eq u in omega arith
 

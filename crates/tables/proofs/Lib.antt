@@ -3,3 +3,4 @@ pub mod Helpers
 pub mod Tested
 pub mod Loops
 pub mod Shape
+pub mod Members

@@ -52,3 +52,13 @@ pub record Lowest (r k : ℕ) : Type 0 where
   pub most : k ≤ 16
   pub none : (i : ℕ) → i < k → ¬ Yes (bit r i)
   pub this : k < 16 → Yes (bit r k)
+
+-- a row without its smallest number
+abbrev pub Rest : ℕ → ℕ → Type 0
+Rest r s = (k : ℕ) → Lowest r k → s ≡ without r (2 ^ k)
+
+-- what the rows named hold together
+pub record Union (t : List ℕ) (rows r : ℕ) : Type 0 where
+  pub small : r < 65536
+  pub from : (j : ℕ) → Yes (bit r j) → (i : ℕ) × Yes (bit rows i) × Yes (bit (row t i) j)
+  pub to : (i j : ℕ) → Yes (bit rows i) → Yes (bit (row t i) j) → Yes (bit r j)

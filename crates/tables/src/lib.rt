@@ -1,9 +1,10 @@
 // The facts of a settled set as tables of rows, one row for each variable. A row is a set of variables: bit y of row x of `below` says
 // below(x, y). They go into an alternative by value.
 ghost use mathlib.Core.Path.{_≡_};
+ghost use mathlib.Core.Logic.{_≢_};
 ghost use Prim.Native.Nat.{_<_, _≤_, _^_, _-_};
 ghost use Rattle.meaning.specs.Finite.{pick};
-ghost use Rattle.tables.specs.Rows.{gained, meets, both, marked, without, Gathers, Transposed, Raised, Lowest};
+ghost use Rattle.tables.specs.Rows.{gained, meets, both, marked, without, Gathers, Transposed, Raised, Lowest, Rest, Union};
 ghost use Rattle.tables.specs.Tables.{row};
 
 // `parent` and `above` are the columns of `child` and `below`, kept as rows: bit x of row y. A label of 0 is no label fact.
@@ -87,6 +88,29 @@ pub fn lowest(row: u16) -> usize
     ensures { λ r. ⌜ Lowest row r ⌝ }
 {
     u16::trailing_zeros(row) as usize
+}
+
+// A row without its smallest number.
+pub fn rest(row: u16) -> u16
+    requires { ⌜ row ≢ 0 ⌝ }
+    ensures { λ r. ⌜ Rest row r ⌝ }
+{
+    row & (row - 1)
+}
+
+// What the rows named hold together.
+pub fn union_rows(t: [u16; 16], rows: u16) -> u16
+    ensures { λ r. ⌜ Union t rows r ⌝ }
+{
+    let mut a: u16 = 0;
+    let mut left = rows;
+    while left != 0 {
+        let x = lowest(left);
+        let v = t[x];
+        a = a | v;
+        left = rest(left);
+    }
+    a
 }
 
 // The numbers of the rows that meet c.

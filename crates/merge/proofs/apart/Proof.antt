@@ -2,7 +2,8 @@
 use mathlib.Core.Path.{sym, _∙_}
 use Prim.Native.Nat.{_<_}
 use native.Mathlib.Omega.{arith}
-use Rattle.merge.proofs.Loops.{Passed, Whole, passed-none, passed-more, passed-less, next-in, next-named, is-whole, is-apart, not-apart}
+use Rattle.tables.proofs.Members.{Passed, passed-none, passed-more, passed-less, next-in, next-named}
+use Rattle.merge.proofs.Loops.{Whole, is-whole, is-apart, not-apart}
 use borrow.Author.Needs.{needs}
 use Rattle.merge.proofs.apart.Statement.{statement}
 use Rattle.merge.proofs.apart.Tie as tie
@@ -38,24 +39,21 @@ returns c =
     let l = w .before .before in
     is-apart _ _ _ (l .before .fits .rows .fits) (next-named _ _ _ _ (l .loop .inv) (w .before .loop-test .taken) (w .lowest .ensures)) (rw (← e .except .ensures) (c .if1 .taken))
 
-one-requires : tie.Need-one-requires Inv-loop μ-loop
-one-requires c κs = variable-in (c .before .before)
-
-except-requires-2 : tie.Need-except-requires-2 Inv-loop μ-loop
-except-requires-2 c κs = search needs
+rest-requires : tie.Need-rest-requires Inv-loop μ-loop
+rest-requires c κs = c .before .before .before .loop-test .taken
 
 loop-less : tie.Need-loop-less Inv-loop μ-loop
 loop-less c =
-    let w = c .before .before .before .before in
+    let w = c .before .before .before in
     let l = w .before .before in
-    rw (c .except2 .ensures, c .before .one .ensures) (passed-less _ _ _ _ (l .loop .inv) (w .before .loop-test .taken) (w .lowest .ensures))
+    rw (c .rest .ensures _ (w .lowest .ensures)) (passed-less _ _ _ _ (l .loop .inv) (w .before .loop-test .taken) (w .lowest .ensures))
 
 loop-again : tie.Need-loop-again Inv-loop μ-loop
 loop-again c =
-    let t = c .before .before in
+    let t = c .before in
     let w = t .before .before in
     let l = w .before .before in
-    rw (c .except2 .ensures, c .before .one .ensures) (passed-more _ _ _ _ (l .loop .inv) (w .before .loop-test .taken) (w .lowest .ensures) _ (λ i p. p)
+    rw (c .rest .ensures _ (w .lowest .ensures)) (passed-more _ _ _ _ (l .loop .inv) (w .before .loop-test .taken) (w .lowest .ensures) _ (λ i p. p)
     (is-whole (l .before .args .t1) (l .before .args .rows) (w .lowest .result) (l .before .fits .rows .fits) (sym (t .before .except .ensures) ∙ t .if1 .left)))
 
 returns-2 : tie.Need-returns-2 Inv-loop μ-loop
@@ -73,8 +71,7 @@ apart-spec =
     array-read-v
     except-requires
     returns
-    one-requires
-    except-requires-2
+    rest-requires
     loop-less
     loop-again
     returns-2)

@@ -5,7 +5,8 @@ use mathlib.Core.Logic.{_≢_}
 use mathlib.Core.List.{List}
 use Prim.Native.Nat.{ℕ}
 use Rattle.meaning.specs.Constraint.{Fact}
-use Rattle.merge.specs.Rows.{Gap, Union}
+use Rattle.tables.specs.Rows.{Union}
+use Rattle.merge.specs.Rows.{Gap}
 use Rattle.merge.specs.Merging.{Pending, lacking}
 use Rattle.merge.proofs.Entered.{merged-clash, merged-well}
 use borrow.Author.Needs.{needs}

@@ -1,6 +1,7 @@
 -- `merge::label_of` meets its contract: the rows named have no label but for those that are left, and the first label is the answer.
 use Prim.Native.Nat.{_<_}
-use Rattle.merge.proofs.Loops.{Passed, Unlabelled, passed-none, passed-more, passed-less, next-in, next-named, is-label, no-label}
+use Rattle.tables.proofs.Members.{Passed, passed-none, passed-more, passed-less, next-in, next-named}
+use Rattle.merge.proofs.Loops.{Unlabelled, is-label, no-label}
 use borrow.Author.Needs.{needs}
 use Rattle.merge.proofs.label_of.Statement.{statement}
 use Rattle.merge.proofs.label_of.Tie as tie
@@ -29,24 +30,21 @@ returns c =
     let l = w .before .before in
     is-label _ _ _ (next-named _ _ _ _ (l .loop .inv) (w .before .loop-test .taken) (w .lowest .ensures)) (c .if1 .taken)
 
-one-requires : tie.Need-one-requires Inv-loop μ-loop
-one-requires c κs = variable-in (c .before)
-
-except-requires : tie.Need-except-requires Inv-loop μ-loop
-except-requires c κs = search needs
+rest-requires : tie.Need-rest-requires Inv-loop μ-loop
+rest-requires c κs = c .before .before .loop-test .taken
 
 loop-less : tie.Need-loop-less Inv-loop μ-loop
 loop-less c =
-    let w = c .before .before .before in
+    let w = c .before .before in
     let l = w .before .before in
-    rw (c .except .ensures, c .before .one .ensures) (passed-less _ _ _ _ (l .loop .inv) (w .before .loop-test .taken) (w .lowest .ensures))
+    rw (c .rest .ensures _ (w .lowest .ensures)) (passed-less _ _ _ _ (l .loop .inv) (w .before .loop-test .taken) (w .lowest .ensures))
 
 loop-again : tie.Need-loop-again Inv-loop μ-loop
 loop-again c =
-    let t = c .before .before in
+    let t = c .before in
     let w = t .before in
     let l = w .before .before in
-    rw (c .except .ensures, c .before .one .ensures) (passed-more _ _ _ _ (l .loop .inv) (w .before .loop-test .taken) (w .lowest .ensures) _ (λ i p. p) (t .if1 .left))
+    rw (c .rest .ensures _ (w .lowest .ensures)) (passed-more _ _ _ _ (l .loop .inv) (w .before .loop-test .taken) (w .lowest .ensures) _ (λ i p. p) (t .if1 .left))
 
 returns-2 : tie.Need-returns-2 Inv-loop μ-loop
 returns-2 c = no-label _ _ _ (c .before .loop .inv) (c .loop-test .left)
@@ -61,8 +59,7 @@ label-of-spec =
     lowest-requires
     array-read-v
     returns
-    one-requires
-    except-requires
+    rest-requires
     loop-less
     loop-again
     returns-2)

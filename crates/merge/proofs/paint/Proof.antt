@@ -1,6 +1,7 @@
 -- `merge::paint` meets its contract: with no label nothing changes; else the rows named are painted but for those that are left.
 use Prim.Native.Nat.{_<_}
-use Rattle.merge.proofs.Loops.{Painting, painting-none, painting-more, was-painted, none-painted, passed-less, next-in}
+use Rattle.tables.proofs.Members.{passed-less, next-in}
+use Rattle.merge.proofs.Loops.{Painting, painting-none, painting-more, was-painted, none-painted}
 use borrow.Author.Needs.{needs}
 use Rattle.merge.proofs.paint.Statement.{statement}
 use Rattle.merge.proofs.paint.Tie as tie
@@ -26,23 +27,20 @@ lowest-requires c κs = search needs
 array-write-a : tie.Need-array-write-a Inv-loop μ-loop
 array-write-a c = variable-in c
 
-one-requires : tie.Need-one-requires Inv-loop μ-loop
-one-requires c κs = variable-in c
-
-except-requires : tie.Need-except-requires Inv-loop μ-loop
-except-requires c κs = search needs
+rest-requires : tie.Need-rest-requires Inv-loop μ-loop
+rest-requires c κs = c .before .loop-test .taken
 
 loop-less : tie.Need-loop-less Inv-loop μ-loop
 loop-less c =
-    let w = c .before .before in
+    let w = c .before in
     let l = w .before .before in
-    rw (c .except .ensures, c .before .one .ensures) (passed-less _ _ _ _ (l .loop .inv .passed) (w .before .loop-test .taken) (w .lowest .ensures))
+    rw (c .rest .ensures _ (w .lowest .ensures)) (passed-less _ _ _ _ (l .loop .inv .passed) (w .before .loop-test .taken) (w .lowest .ensures))
 
 loop-again : tie.Need-loop-again Inv-loop μ-loop
 loop-again c =
-    let w = c .before .before in
+    let w = c .before in
     let l = w .before .before in
-    rw (c .except .ensures, c .before .one .ensures) (painting-more _ _ _ _ _ _ (l .loop .inv) (w .before .loop-test .taken) (w .lowest .ensures))
+    rw (c .rest .ensures _ (w .lowest .ensures)) (painting-more _ _ _ _ _ _ (l .loop .inv) (w .before .loop-test .taken) (w .lowest .ensures))
 
 returns-2 : tie.Need-returns-2 Inv-loop μ-loop
 returns-2 c = was-painted _ _ _ _ _ (c .before .loop .inv) (c .loop-test .left)
@@ -57,8 +55,7 @@ paint-spec =
     loop-holds
     lowest-requires
     array-write-a
-    one-requires
-    except-requires
+    rest-requires
     loop-less
     loop-again
     returns-2)

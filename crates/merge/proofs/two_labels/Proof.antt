@@ -1,6 +1,7 @@
 -- `merge::two_labels` meets its contract: the rows named have no other label but for those that are left.
 use Prim.Native.Nat.{_<_}
-use Rattle.merge.proofs.Loops.{Passed, Only, passed-none, passed-more, passed-less, next-in, next-named, only-one, is-two, is-one, none-two}
+use Rattle.tables.proofs.Members.{Passed, passed-none, passed-more, passed-less, next-in, next-named}
+use Rattle.merge.proofs.Loops.{Only, only-one, is-two, is-one, none-two}
 use borrow.Author.Needs.{needs}
 use Rattle.merge.proofs.two_labels.Statement.{statement}
 use Rattle.merge.proofs.two_labels.Tie as tie
@@ -32,24 +33,21 @@ returns-2 c =
     let l = w .before .before in
     is-two _ _ _ _ (next-named _ _ _ _ (l .loop .inv) (w .before .loop-test .taken) (w .lowest .ensures)) (c .if2 .taken)
 
-one-requires : tie.Need-one-requires Inv-loop μ-loop
-one-requires c κs = variable-in (c .before)
-
-except-requires : tie.Need-except-requires Inv-loop μ-loop
-except-requires c κs = search needs
+rest-requires : tie.Need-rest-requires Inv-loop μ-loop
+rest-requires c κs = c .before .before .loop-test .taken
 
 loop-less : tie.Need-loop-less Inv-loop μ-loop
 loop-less c =
-    let w = c .before .before .before in
+    let w = c .before .before in
     let l = w .before .before in
-    rw (c .except .ensures, c .before .one .ensures) (passed-less _ _ _ _ (l .loop .inv) (w .before .loop-test .taken) (w .lowest .ensures))
+    rw (c .rest .ensures _ (w .lowest .ensures)) (passed-less _ _ _ _ (l .loop .inv) (w .before .loop-test .taken) (w .lowest .ensures))
 
 loop-again : tie.Need-loop-again Inv-loop μ-loop
 loop-again c =
-    let t = c .before .before in
+    let t = c .before in
     let w = t .before in
     let l = w .before .before in
-    rw (c .except .ensures, c .before .one .ensures) (passed-more _ _ _ _ (l .loop .inv) (w .before .loop-test .taken) (w .lowest .ensures) _ (λ i p. p)
+    rw (c .rest .ensures _ (w .lowest .ensures)) (passed-more _ _ _ _ (l .loop .inv) (w .before .loop-test .taken) (w .lowest .ensures) _ (λ i p. p)
     (only-one (l .before .before .args .t1) (l .before .before .args .l) (w .lowest .result) (t .if2 .left)))
 
 returns-3 : tie.Need-returns-3 Inv-loop μ-loop
@@ -66,8 +64,7 @@ two-labels-spec =
     lowest-requires
     array-read-v
     returns-2
-    one-requires
-    except-requires
+    rest-requires
     loop-less
     loop-again
     returns-3)

@@ -110,7 +110,7 @@ loop2-less : tie.Need-loop2-less Inv-loop μ-loop Inv-loop3 μ-loop3 Inv-loop2 �
 loop2-less c = search needs
 
 loop2-again : tie.Need-loop2-again Inv-loop μ-loop Inv-loop3 μ-loop3 Inv-loop2 μ-loop2
-loop2-again c = (search needs, c .before .loop3 .inv .1 .long, lifting-more _ _ _ _ _ (lifted _ _ _ _ (search needs) (c .before .loop3 .inv .0) (c .before .loop3 .inv .1)) (c .before .before .before .loop2 .inv .2))
+loop2-again c = (search needs, c .before .loop3 .inv .1 .long, lifting-more _ _ _ _ _ (search needs) (lifted _ _ _ _ (search needs) (c .before .loop3 .inv .0) (c .before .loop3 .inv .1)) (c .before .before .before .loop2 .inv .2))
 
 returns : tie.Need-returns Inv-loop μ-loop Inv-loop3 μ-loop3 Inv-loop2 μ-loop2
 returns c = chained-rows _ (search needs) _ _ _ _ _ _ _ (search needs) (c .before .before .before .loop .inv .0) (search needs) (c .before .before .before .loop .inv .1) (c .before .loop2 .inv .2)

@@ -1,19 +1,19 @@
--- `settle::unite` meets its contract: the loop has changed the rows below x.
+-- `settle::common` meets its contract: the loop has changed the rows below x.
 use mathlib.Core.Path.{refl}
 use Prim.Native.Nat.{_≤_, _-_}
-use lib.Bits.{bitOr}
+use lib.Bits.{bitAnd}
 use borrow.Author.Needs.{needs}
 use Rattle.tables.specs.Tables.{row}
 use Rattle.tables.proofs.Loops.{Rowing, rowing-none, rowing-more}
-use Rattle.settle.proofs.Chain.{united}
-use Rattle.settle.proofs.unite.Statement.{statement}
-use Rattle.settle.proofs.unite.Tie as tie
+use Rattle.settle.proofs.Chain.{commons}
+use Rattle.settle.proofs.common.Statement.{statement}
+use Rattle.settle.proofs.common.Tie as tie
 
 abbrev Inv-loop : tie.InvT-loop
-Inv-loop more a₀ x₀ a x = (x ≤ 16) × Rowing (λ k v. bitOr v (row more k)) 16 a₀ x a
+Inv-loop u a₀ x₀ a x = (x ≤ 16) × Rowing (λ k v. bitAnd v (row u k)) 16 a₀ x a
 
 abbrev μ-loop : tie.MeasureT-loop
-μ-loop more a₀ x₀ a x = 16 - x
+μ-loop u a₀ x₀ a x = 16 - x
 
 loop-holds : tie.Need-loop-holds Inv-loop μ-loop
 loop-holds c = (search needs, rowing-none _ _ _ (search needs))
@@ -46,10 +46,10 @@ loop-again : tie.Need-loop-again Inv-loop μ-loop
 loop-again c = (search needs, rowing-more _ _ _ _ _ _ (search needs) refl (c .before .loop .inv .1))
 
 returns : tie.Need-returns Inv-loop μ-loop
-returns c = united _ _ _ _ (search needs) (c .before .loop .inv .1)
+returns c = commons _ _ _ _ (search needs) (c .before .loop .inv .1)
 
-pub unite-spec : {M : Type 1} → statement M
-unite-spec =
+pub common-spec : {M : Type 1} → statement M
+common-spec =
     tie.close
     (tie.spec
     Inv-loop
