@@ -37,12 +37,15 @@ pub record Mirrored (f : Facts) : Type 0 where
 abbrev pub Sound : ℕ → List Fact → Facts → Type 0
 Sound n S f = (φ : Fact) → Yes (has f φ) → Settled n S φ
 
--- the tables to settle S from: they hold S, and nothing that is not settled. Two labels of S on one variable have no such tables.
--- `parent` and `above` may hold anything.
+-- the tables to settle S from: they hold S and nothing that is not settled, child in both tables, and differ closed under its own rules.
+-- Two labels of S on one variable have no such tables. `above` may hold anything.
 pub record Seeded (n : ℕ) (S : List Fact) (f : Facts) : Type 0 where
   pub inside : Inside n S
   pub held : (φ : Fact) → List·Memᴰ φ S → Yes (has f φ)
   pub sound : Sound n S f
+  pub apart : (x y : ℕ) → Yes (has f (child x y)) → Yes (has f (differ x y))
+  pub turned : (x y : ℕ) → Yes (has f (differ x y)) → Yes (has f (differ y x))
+  pub parents : Columns (f .child) (f .parent)
 
 -- tables that decide the settled set of S, which has no clash
 pub record Ready (n : ℕ) (S : List Fact) (f : Facts) : Type 0 where
