@@ -1,4 +1,7 @@
 pub mod Tests
+pub mod Codes
 pub mod Bytes
-pub mod Step
+pub mod Parts
+pub mod Gathering
 pub mod Seeding
+pub mod Together

@@ -1,12 +1,7 @@
--- Laws of tests that the code writes in another order.
+-- A law of tests that the code writes in another order.
 use mathlib.Core.Path.{_≡_, refl}
 use mathlib.Core.Bool.{Bool, true, false}
-use Rattle.meaning.specs.Finite.{_and_, _or_}
-
-pub or-assoc : (a b c : Bool) → ((a or b) or c) ≡ (a or b or c)
-unfolding _or_
-or-assoc true b c = refl
-or-assoc false b c = refl
+use Rattle.meaning.specs.Finite.{_and_}
 
 pub and-assoc : (a b c : Bool) → ((a and b) and c) ≡ (a and b and c)
 unfolding _and_

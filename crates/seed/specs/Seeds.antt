@@ -1,25 +1,20 @@
--- What the tables of the given facts are: they hold the facts of the file's constraints, and no other, unless two labels clash.
+-- What the tables of the given facts are, unless two labels clash: they hold the facts of the file's constraints, and differ as its own
+-- rules close it.
 use mathlib.Core.Path.{_≡_}
 use mathlib.Core.Bool.{Bool, true, false}
-use mathlib.Core.Logic.{_↔_}
+use mathlib.Core.Logic.{_↔_, _⊎_}
 use mathlib.Core.List.{List, List·Memᴰ}
-use Prim.Native.Nat.{ℕ}
+use Prim.Native.Nat.{ℕ, _+_, _*_, _<_, _≤_}
 use lib.Dec.{eqb}
+use lib.Bits.{bitOr}
 use lib.ListN.{replicate}
-use Rattle.meaning.specs.Constraint.{Fact, vars, factsOf}
+use Rattle.meaning.specs.Constraint.{Fact, child, below, differ, root, leaf, label, vars, factsOf}
 use Rattle.meaning.specs.Settled.{Clash}
-use Rattle.meaning.specs.Finite.{Yes, _and_, _or_, neg, pick}
+use Rattle.meaning.specs.Finite.{Yes, _and_, neg, pick}
 use Rattle.constraints.specs.Judgement.{constraintsIn}
-use Rattle.tables.specs.Tables.{has, Seeded}
+use Rattle.tables.specs.Tables.{row, has, Seeded}
 use Rattle.tables.specs.declared.Facts.{Facts}
 use Rattle.seed.specs.declared.Seeds.{Seeds}
-
--- kinds 2, 3 and 4 give below; 3 and 5 give differ
-unfoldable pub givesBelow : ℕ → Bool
-givesBelow k = eqb k 2 or eqb k 3 or eqb k 4
-
-unfoldable pub givesDiffer : ℕ → Bool
-givesDiffer k = eqb k 3 or eqb k 5
 
 unfoldable pub labelled : Bool → ℕ → ℕ → ℕ
 labelled given old new = pick given new old
@@ -39,10 +34,32 @@ noFacts = record {
   leaf = 0;
 }
 
+-- the rows 16·kind to 16·kind + 15
+pub record RowsOf (rows : List ℕ) (kind : ℕ) (r : List ℕ) : Type 0 where
+  pub within : (x : ℕ) → x < 16 → row r x ≡ row rows (kind * 16 + x)
+  pub beyond : (x : ℕ) → 16 ≤ x → row r x ≡ 0
+
+-- each row with the other table's
+pub record United (t more r : List ℕ) : Type 0 where
+  pub rows : (x : ℕ) → row r x ≡ bitOr (row t x) (row more x)
+
+-- S says that x and y differ, one way round
+abbrev pub Apart : List Fact → ℕ → ℕ → Type 0
+Apart S x y = List·Memᴰ (differ x y) S ⊎ List·Memᴰ (child x y) S
+
+-- what the tables hold: the given facts, and differ both ways and for child
+abbrev pub Holds : List Fact → Fact → Type 0
+Holds S (child x y) = List·Memᴰ (child x y) S
+Holds S (below x y) = List·Memᴰ (below x y) S
+Holds S (differ x y) = Apart S x y ⊎ Apart S y x
+Holds S (root x) = List·Memᴰ (root x) S
+Holds S (leaf x) = List·Memᴰ (leaf x) S
+Holds S (label x l) = List·Memᴰ (label x l) S
+
 pub record SeedsOf (file : List ℕ) (r : Seeds) : Type 0 where
   pub clashes : r .clash ≡ true → Clash (vars (constraintsIn file)) (factsOf (constraintsIn file))
   pub cleared : r .clash ≡ true → r .facts ≡ noFacts
-  -- else the tables hold the given facts and no other, and no mirror yet
-  pub exact : r .clash ≡ false → (φ : Fact) → Yes (has (r .facts) φ) ↔ List·Memᴰ φ (factsOf (constraintsIn file))
-  pub unmirrored : r .clash ≡ false → (r .facts .parent ≡ replicate 16 0) × (r .facts .above ≡ replicate 16 0)
+  -- else the tables hold that and no other fact; that `parent` is the columns of `child` is in seeded
+  pub exact : r .clash ≡ false → (φ : Fact) → Yes (has (r .facts) φ) ↔ Holds (factsOf (constraintsIn file)) φ
+  pub unmirrored : r .clash ≡ false → r .facts .above ≡ replicate 16 0
   pub seeded : r .clash ≡ false → Seeded (vars (constraintsIn file)) (factsOf (constraintsIn file)) (r .facts)

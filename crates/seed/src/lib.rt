@@ -1,28 +1,15 @@
 // The given facts of an accepted constraint file, as tables to settle from.
 ghost use mathlib.Core.Path.{_≡_};
-ghost use Prim.Native.Nat.{ℕ, _%_};
+ghost use Prim.Native.Nat.{ℕ, _%_, _<_};
 ghost use Rattle.constraints.specs.Judgement.{judgement};
 ghost use Rattle.constraints.specs.declared.Judgement.the-variants.{Accepted};
-ghost use Rattle.seed.specs.Seeds.{givesBelow, givesDiffer, labelled, clashing, noFacts, SeedsOf};
+ghost use Rattle.seed.specs.Seeds.{labelled, clashing, noFacts, RowsOf, United, SeedsOf};
 use tables::Facts;
-use tables::mark;
 
 // The tables, or a clash: two labels on one variable, which no tables hold.
 pub struct Seeds {
     pub clash: bool,
     pub facts: Facts,
-}
-
-fn gives_below(kind: u8) -> bool
-    ensures { λ r. ⌜ r ≡ givesBelow kind ⌝ }
-{
-    (kind == 2) | (kind == 3) | (kind == 4)
-}
-
-fn gives_differ(kind: u8) -> bool
-    ensures { λ r. ⌜ r ≡ givesDiffer kind ⌝ }
-{
-    (kind == 3) | (kind == 5)
 }
 
 // A label, or the one that is given.
@@ -41,11 +28,11 @@ fn labels_clash(given: bool, old: u8, new: u8) -> bool
     given & (old != 0) & (old != new)
 }
 
-// A variable's number as an index. An accepted file names no variable above 15.
-fn index(variable: u8) -> usize
-    ensures { λ r. ⌜ r ≡ variable % 16 ⌝ }
+// A kind or a variable as an index. Those of an accepted file are below 16.
+fn index(byte: u8) -> usize
+    ensures { λ r. ⌜ r ≡ byte % 16 ⌝ }
 {
-    variable as usize % 16
+    byte as usize % 16
 }
 
 fn blank() -> Facts
@@ -63,35 +50,53 @@ fn blank() -> Facts
     }
 }
 
-// The tables that hold the given facts and no other; blank tables where two labels clash.
+// The rows of one kind.
+fn table(rows: [u16; 256], kind: usize) -> [u16; 16]
+    requires { ⌜ kind < 16 ⌝ }
+    ensures { λ r. ⌜ RowsOf rows kind r ⌝ }
+{
+    let mut a = [0u16; 16];
+    for x in 0usize..16 {
+        let v = rows[kind * 16 + x];
+        a[x] = v;
+    }
+    a
+}
+
+fn either(t: [u16; 16], more: [u16; 16]) -> [u16; 16]
+    ensures { λ r. ⌜ United t more r ⌝ }
+{
+    let mut a = t;
+    for x in 0usize..16 {
+        let v = a[x];
+        let w = more[x];
+        a[x] = v | w;
+    }
+    a
+}
+
+// The tables of the given facts, ready to be settled; blank tables where two labels clash. The records are gathered by kind, without
+// a branch, then put together.
 pub fn seed(file: &[u8]) -> Seeds
     requires { ⌜ ((n : ℕ) × (judgement (now file) ≡ Accepted n)) ⌝ }
     ensures { λ r. ⌜ SeedsOf (now (file .entry)) r ⌝ }
 {
-    let mut child = [0u16; 16];
-    let mut below = [0u16; 16];
-    let mut differ = [0u16; 16];
+    // bit y of row 16·kind + x and bit x of column 16·kind + y: there is a record of that kind with x and y
+    let mut rows = [0u16; 256];
+    let mut columns = [0u16; 256];
     let mut label = [0u8; 16];
-    let mut root: u16 = 0;
-    let mut leaf: u16 = 0;
     let mut clash = false;
     let mut position: usize = 0;
     while position < file.len() / 4 {
         let at = position * 4;
-        let kind = file[at];
+        let kind = index(file[at]);
         let x = index(file[at + 1]);
         let y = index(file[at + 2]);
         let name = file[at + 3];
-        let c = child[x];
-        child[x] = mark(kind == 1, c, y);
-        let b = below[x];
-        below[x] = mark(gives_below(kind), b, y);
-        let a = below[y];
-        below[y] = mark(kind == 4, a, x);
-        let d = differ[x];
-        differ[x] = mark(gives_differ(kind), d, y);
-        root = mark(kind == 6, root, x);
-        leaf = mark(kind == 7, leaf, x);
+        let r = rows[kind * 16 + x];
+        rows[kind * 16 + x] = r | tables::one(y);
+        let c = columns[kind * 16 + y];
+        columns[kind * 16 + y] = c | tables::one(x);
         let l = label[x];
         clash = clash | labels_clash(kind == 8, l, name);
         label[x] = label_with(kind == 8, l, name);
@@ -103,9 +108,25 @@ pub fn seed(file: &[u8]) -> Seeds
             facts: blank(),
         };
     }
+    // kinds 6 and 7 have 0 for y
+    let root = columns[96];
+    let leaf = columns[112];
+    let child = table(rows, 1);
+    let parent = table(columns, 1);
+    let below = either(
+        table(rows, 2),
+        either(table(rows, 3), either(table(rows, 4), table(columns, 4))),
+    );
+    let differ = either(
+        either(child, parent),
+        either(
+            either(table(rows, 3), table(columns, 3)),
+            either(table(rows, 5), table(columns, 5)),
+        ),
+    );
     let facts = Facts {
         child,
-        parent: [0; 16],
+        parent,
         below,
         above: [0; 16],
         differ,

@@ -1,0 +1,116 @@
+-- A constraint as the numbers of its record, and which constraints give a fact.
+use mathlib.Core.Path.{_≡_, refl, sym}
+use mathlib.Core.Logic.{_⊎_, inl, inr, ⊎-elim}
+use mathlib.Core.List.{List, _∷_, List·Memᴰ, List·Memᴰ·head, List·Memᴰ·tail}
+use Prim.Native.Nat.{ℕ, _<_}
+use native.Mathlib.Omega.{arith}
+use Rattle.meaning.specs.Constraint.{Constraint, is-child, is-below, is-strictly-below, is-same, is-differ, is-root, is-leaf, is-label, named, Fact, child, below, differ, root, leaf, label, facts, factsOf}
+use Rattle.meaning.specs.Finite.{pick}
+use Rattle.meaning.proofs.Constraints.{fact-in, fact-from}
+use Rattle.meaning.proofs.Facts.{in-one, in-two}
+use Rattle.constraints.specs.Record.{kindOf, constraintAs}
+
+-- document 01's number of its kind
+abbrev pub number : Constraint → ℕ
+number (is-child x y) = 1
+number (is-below x y) = 2
+number (is-strictly-below x y) = 3
+number (is-same x y) = 4
+number (is-differ x y) = 5
+number (is-root x) = 6
+number (is-leaf x) = 7
+number (is-label x l) = 8
+
+abbrev pub left : Constraint → ℕ
+left (is-child x y) = x
+left (is-below x y) = x
+left (is-strictly-below x y) = x
+left (is-same x y) = x
+left (is-differ x y) = x
+left (is-root x) = x
+left (is-leaf x) = x
+left (is-label x l) = x
+
+-- 0 where it names one variable
+abbrev pub right : Constraint → ℕ
+right (is-child x y) = y
+right (is-below x y) = y
+right (is-strictly-below x y) = y
+right (is-same x y) = y
+right (is-differ x y) = y
+right (is-root x) = 0
+right (is-leaf x) = 0
+right (is-label x l) = 0
+
+abbrev pub name : Constraint → ℕ
+name (is-child x y) = 0
+name (is-below x y) = 0
+name (is-strictly-below x y) = 0
+name (is-same x y) = 0
+name (is-differ x y) = 0
+name (is-root x) = 0
+name (is-leaf x) = 0
+name (is-label x l) = l
+
+spelt : (c : Constraint) → c ≡ constraintAs (kindOf (number c)) (left c) (right c) (name c)
+unfolding constraintAs kindOf pick
+spelt (is-child x y) = refl
+spelt (is-below x y) = refl
+spelt (is-strictly-below x y) = refl
+spelt (is-same x y) = refl
+spelt (is-differ x y) = refl
+spelt (is-root x) = refl
+spelt (is-leaf x) = refl
+spelt (is-label x l) = refl
+
+pub spelt-as : (c : Constraint) {k x y : ℕ} → number c ≡ k → left c ≡ x → right c ≡ y → c ≡ constraintAs (kindOf k) x y (name c)
+spelt-as c a b d = rw (sym a, sym b, sym d) (spelt c)
+
+pub variables-named : (c : Constraint) → (left c < named c) × (right c < named c)
+unfolding named
+variables-named (is-child x y) = (omega arith, omega arith)
+variables-named (is-below x y) = (omega arith, omega arith)
+variables-named (is-strictly-below x y) = (omega arith, omega arith)
+variables-named (is-same x y) = (omega arith, omega arith)
+variables-named (is-differ x y) = (omega arith, omega arith)
+variables-named (is-root x) = (omega arith, omega arith)
+variables-named (is-leaf x) = (omega arith, omega arith)
+variables-named (is-label x l) = (omega arith, omega arith)
+
+-- ---- a fact's constraints
+
+module _ (cs : List Constraint) where
+  abbrev pub Source : Fact → Type 0
+  Source (child x y) = List·Memᴰ (is-child x y) cs
+  Source (below x y) = List·Memᴰ (is-below x y) cs ⊎ (List·Memᴰ (is-strictly-below x y) cs ⊎ (List·Memᴰ (is-same x y) cs ⊎ List·Memᴰ (is-same y x) cs))
+  Source (differ x y) = List·Memᴰ (is-strictly-below x y) cs ⊎ List·Memᴰ (is-differ x y) cs
+  Source (root x) = List·Memᴰ (is-root x) cs
+  Source (leaf x) = List·Memᴰ (is-leaf x) cs
+  Source (label x l) = List·Memᴰ (is-label x l) cs
+
+  one-source : (c : Constraint) → List·Memᴰ c cs → (φ : Fact) → List·Memᴰ φ (facts c) → Source φ
+  one-source (is-child x y) k φ m = in-one Source k m
+  one-source (is-below x y) k φ m = in-one Source (inl k) m
+  one-source (is-strictly-below x y) k φ m = in-two Source (inr (inl k)) (inl k) m
+  one-source (is-same x y) k φ m = in-two Source (inr (inr (inl k))) (inr (inr (inr k))) m
+  one-source (is-differ x y) k φ m = in-one Source (inr k) m
+  one-source (is-root x) k φ m = in-one Source k m
+  one-source (is-leaf x) k φ m = in-one Source k m
+  one-source (is-label x l) k φ m = in-one Source k m
+
+  pub source : (φ : Fact) → List·Memᴰ φ (factsOf cs) → Source φ
+  source φ m = let w = fact-from cs φ m in one-source (w .0) (w .1) φ (w .2)
+
+  first : {c : Constraint} {φ : Fact} {φs : List Fact} → facts c ≡ φ ∷ φs → List·Memᴰ c cs → List·Memᴰ φ (factsOf cs)
+  first e m = fact-in m (rw e (List·Memᴰ·head refl))
+
+  second : {c : Constraint} {φ ψ : Fact} {φs : List Fact} → facts c ≡ ψ ∷ φ ∷ φs → List·Memᴰ c cs → List·Memᴰ φ (factsOf cs)
+  second e m = fact-in m (rw e (List·Memᴰ·tail (List·Memᴰ·head refl)))
+
+  pub sourced : (φ : Fact) → Source φ → List·Memᴰ φ (factsOf cs)
+  sourced (child x y) m = first refl m
+  sourced (below x y) m = ⊎-elim (first refl) (⊎-elim (first refl) (⊎-elim (first refl) (second refl))) m
+  sourced (differ x y) m = ⊎-elim (second refl) (first refl) m
+  sourced (root x) m = first refl m
+  sourced (leaf x) m = first refl m
+  sourced (label x l) m = first refl m

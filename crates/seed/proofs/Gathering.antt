@@ -1,0 +1,168 @@
+-- The records so far, gathered by kind as rows and as columns, and their labels: a bit or a label stands for a constraint of the file, and
+-- each constraint is still to come or stands there, unless two labels have clashed.
+use mathlib.Core.Path.{_≡_, refl, sym, ap, _∙_, subst}
+use mathlib.Core.Logic.{_≢_, _⊎_, inl, inr, ⊎-elim}
+use mathlib.Core.Bool.{Bool, true, false, _||_}
+use mathlib.Core.List.{List, _∷_, List·Memᴰ, List·Memᴰ·head, List·Memᴰ·cases-cons, Memᴰ·append-right}
+use Prim.Native.Nat.{ℕ, _+_, _*_, _^_, _<_}
+use native.Mathlib.Decide.{ℕ-discrete}
+use native.Mathlib.Omega.{arith}
+use lib.Dec.{eqb}
+use lib.Bits.{bitOr}
+use lib.ListN.{length, set, drop, replicate, length-set, length-replicate, take-append-drop, take}
+use lib.Seq.{getD-set-same, getD-set-other}
+use Rattle.rowbits.specs.Bit.{bit}
+use Rattle.meaning.specs.Constraint.{Constraint, is-label, vars, label, factsOf}
+use Rattle.meaning.specs.Settled.{Clash, labels, given}
+use Rattle.meaning.specs.Finite.{Yes, _and_, neg}
+use Rattle.meaning.proofs.Tests.{clash, and-left, and-right, and-both, no-neg, is-eq, eq-yes, yes-case, pick-yes, pick-no}
+use Rattle.tables.specs.Tables.{row}
+use Rattle.tables.proofs.Bits.{or-case, or-l, or-r, one-is, one-has, none-in}
+use Rattle.tables.proofs.Tested.{or-yes, or-no, not-yes}
+use Rattle.tables.proofs.Loops.{zeros}
+use Rattle.seed.specs.Seeds.{labelled, clashing}
+use Rattle.seed.proofs.Bytes.{GoodBytes}
+use Rattle.seed.proofs.Codes.{number, left, name, sourced}
+
+-- ---- a bit more
+
+module _ (t : List ℕ) (j y : ℕ) (long : length t ≡ 256) (h : j < 256) where
+  abbrev more : List ℕ
+  more = set t j (bitOr (row t j) (2 ^ y))
+
+  here : row more j ≡ bitOr (row t j) (2 ^ y)
+  here = getD-set-same t j _ 0 (rw long h)
+
+  more-has : Yes (bit (row more j) y)
+  more-has = rw here (or-r (row t j) (2 ^ y) y (one-has y))
+
+  more-kept : (u v : ℕ) → Yes (bit (row t u) v) → Yes (bit (row more u) v)
+  more-kept u v b = go (ℕ-discrete u j)
+    where
+      go : Dec (u ≡ j) → Yes (bit (row more u) v)
+      go (yes e) =
+          subst (λ (i : ℕ). Yes (bit (row more i) v)) (sym e)
+          (rw here (or-l (row t j) (2 ^ y) v (subst (λ (i : ℕ). Yes (bit (row t i) v)) e b)))
+      go (no e) = subst (λ (i : ℕ). Yes (bit i v)) (sym (getD-set-other t j u _ 0 e)) b
+
+  more-from : (u v : ℕ) → Yes (bit (row more u) v) → Yes (bit (row t u) v) ⊎ ((j ≡ u) × (y ≡ v))
+  more-from u v b = go (ℕ-discrete u j)
+    where
+      go : Dec (u ≡ j) → Yes (bit (row t u) v) ⊎ ((j ≡ u) × (y ≡ v))
+      go (yes e) =
+          ⊎-elim (λ w. inl (subst (λ (i : ℕ). Yes (bit (row t i) v)) (sym e) w)) (λ w. inr (sym e, sym (one-is y v w)))
+          (or-case (row t j) (2 ^ y) v (subst (λ (i : ℕ). Yes (bit i v)) (ap (row more) e ∙ here) b))
+      go (no e) = inl (subst (λ (i : ℕ). Yes (bit i v)) (getD-set-other t j u _ 0 e) b)
+
+-- ---- the records so far: constraint c is bit q c of row 16 times its kind and p c
+
+pub record Gathered (cs : List Constraint) (i : ℕ) (p q : Constraint → ℕ) (t : List ℕ) : Type 0 where
+  pub long : length t ≡ 256
+  pub from : (u v : ℕ) → Yes (bit (row t u) v) → (c : Constraint) × List·Memᴰ c cs × (number c * 16 + p c ≡ u) × (q c ≡ v)
+  pub to : (c : Constraint) → List·Memᴰ c cs → List·Memᴰ c (drop i cs) ⊎ Yes (bit (row t (number c * 16 + p c)) (q c))
+
+pub record Labels (cs : List Constraint) (i : ℕ) (c : Bool) (t : List ℕ) : Type 0 where
+  pub long : length t ≡ 16
+  pub from : (u m : ℕ) → row t u ≡ m → m ≢ 0 → List·Memᴰ (is-label u m) cs
+  pub to : c ≡ false → (u m : ℕ) → List·Memᴰ (is-label u m) cs → List·Memᴰ (is-label u m) (drop i cs) ⊎ ((row t u ≡ m) × (m ≢ 0))
+  pub clashed : c ≡ true → Clash (vars cs) (factsOf cs)
+
+pub gathered-none : (cs : List Constraint) (p q : Constraint → ℕ) → Gathered cs 0 p q (replicate 256 0)
+gathered-none cs p q = record { long = length-replicate {A = ℕ} 256 0; from = λ u v b. none-in v (rw (zeros 256 u) at b); to = λ c m. inl m }
+
+pub labels-none : (cs : List Constraint) → Labels cs 0 false (replicate 16 0)
+labels-none cs = record {
+  long = length-replicate {A = ℕ} 16 0;
+  from = λ u m e z. absurd (z (sym e ∙ zeros 16 u));
+  to = λ e u m k. inl k;
+  clashed = λ e. let z : _≡_ {A = ℕ} 0 1 = cc in absurd (omega arith);
+}
+
+clashing-is : {b : Bool} {m l : ℕ} → clashing b m l ≡ true → Yes b × (m ≢ 0) × (m ≢ l)
+unfolding clashing
+clashing-is q = (and-left _ q, λ z. clash (eq-yes z) (and-left _ (and-right _ q)), λ z. clash (eq-yes z) (and-right _ (and-right _ q)))
+
+is-clashing : {b : Bool} {m l : ℕ} → Yes b → m ≢ 0 → m ≢ l → Yes (clashing b m l)
+unfolding clashing
+is-clashing q z d = and-both q (and-both (no-neg (λ v. z (is-eq v))) (no-neg (λ v. d (is-eq v))))
+
+-- ---- one record more
+
+module _ (cs : List Constraint) (i : ℕ) (d : Constraint) (at : drop i cs ≡ d ∷ drop (i + 1) cs) where
+  pub here-in : List·Memᴰ d cs
+  here-in =
+      subst (λ (q : List Constraint). List·Memᴰ d q) (take-append-drop i cs)
+      (Memᴰ·append-right (take i cs) (rw at (List·Memᴰ·head refl)))
+
+  next : (c : Constraint) → List·Memᴰ c (drop i cs) → (c ≡ d) ⊎ List·Memᴰ c (drop (i + 1) cs)
+  next c m = List·Memᴰ·cases-cons (rw at at m)
+
+  pub gathered-more : (p q : Constraint → ℕ) (t : List ℕ) (j v : ℕ) → number d * 16 + p d ≡ j → q d ≡ v → j < 256 → Gathered cs i p q t
+      → Gathered cs (i + 1) p q (set t j (bitOr (row t j) (2 ^ v)))
+  gathered-more p q t j v a b h g = record {
+    long = length-set t _ _ ∙ g .long;
+    from = λ u v b'. ⊎-elim (g .from u v) (λ w. (d, here-in, a ∙ w .0, b ∙ w .1)) (more-from t _ _ (g .long) h u v b');
+    to = λ c m. ⊎-elim (λ k. ⊎-elim (λ e. inr (subst Stands (sym e) (rw (a, b) (more-has t j v (g .long) h)))) inl (next c k))
+        (λ b'. inr (more-kept t _ _ (g .long) h _ _ b')) (g .to c m);
+  }
+    where
+      Stands : Constraint → Type 0
+      Stands c = Yes (bit (row (set t j (bitOr (row t j) (2 ^ v))) (number c * 16 + p c)) (q c))
+
+  module _ (k x y l : ℕ) (w : GoodBytes k x y l d) (h : x < 16) (c : Bool) (t : List ℕ) (s : Labels cs i c t) where
+    abbrev now : List ℕ
+    now = set t x (labelled (eqb k 8) (row t x) l)
+
+    stored : row now x ≡ labelled (eqb k 8) (row t x) l
+    stored = getD-set-same t x _ 0 (rw (s .long) h)
+
+    label-here : Yes (eqb k 8) → List·Memᴰ (is-label x l) cs
+    label-here q = subst (λ (b : Constraint). List·Memᴰ b cs) (w .named-label (is-eq q) .0) here-in
+
+    stored-new : Yes (eqb k 8) → row now x ≡ l
+    unfolding labelled
+    stored-new q = stored ∙ pick-yes _ _ q
+
+    stored-old : Yes (neg (eqb k 8)) → row now x ≡ row t x
+    unfolding labelled
+    stored-old z = stored ∙ pick-no _ _ (λ q. clash q z)
+
+    from-more : (u m : ℕ) → row now u ≡ m → m ≢ 0 → List·Memᴰ (is-label u m) cs
+    from-more u m e z = go (ℕ-discrete u x) (yes-case (eqb k 8))
+      where
+        go : Dec (u ≡ x) → Yes (eqb k 8) ⊎ Yes (neg (eqb k 8)) → List·Memᴰ (is-label u m) cs
+        go (no n) b = s .from u m (sym (getD-set-other t x u _ 0 n) ∙ e) z
+        go (yes a) (inl q) = rw (a, sym (sym (stored-new q) ∙ ap (row now) (sym a) ∙ e)) (label-here q)
+        go (yes a) (inr v) = s .from u m (ap (row t) a ∙ sym (stored-old v) ∙ ap (row now) (sym a) ∙ e) z
+
+    module _ (free : clashing (eqb k 8) (row t x) l ≡ false) where
+      kept : (u m : ℕ) → row t u ≡ m → m ≢ 0 → row now u ≡ m
+      kept u m e z = go (ℕ-discrete u x) (yes-case (eqb k 8)) (ℕ-discrete (row t x) l)
+        where
+          go : Dec (u ≡ x) → Yes (eqb k 8) ⊎ Yes (neg (eqb k 8)) → Dec (row t x ≡ l) → row now u ≡ m
+          go (no n) b f = getD-set-other t x u _ 0 n ∙ e
+          go (yes a) (inl q) (yes f) = ap (row now) a ∙ stored-new q ∙ sym f ∙ ap (row t) (sym a) ∙ e
+          go (yes a) (inl q) (no f) = absurd (not-yes free (is-clashing q (λ v. z (sym e ∙ ap (row t) a ∙ v)) f))
+          go (yes a) (inr v) f = ap (row now) a ∙ stored-old v ∙ ap (row t) (sym a) ∙ e
+
+      this : (u m : ℕ) → is-label u m ≡ d → (row now u ≡ m) × (m ≢ 0)
+      this u m e =
+          let eight : k ≡ 8 = sym (w .is-number) ∙ ap number (sym e) in
+          let g = w .named-label eight in
+          let a : u ≡ x = ap left (e ∙ g .0) in
+          let b : m ≡ l = ap name (e ∙ g .0) in
+          (ap (row now) a ∙ stored-new (eq-yes eight) ∙ sym b, λ z. g .1 (sym b ∙ z))
+
+    two-labels : clashing (eqb k 8) (row t x) l ≡ true → Clash (vars cs) (factsOf cs)
+    two-labels q =
+        let v = clashing-is q in
+        labels (given (sourced cs (label x _) (s .from x _ refl (v .1)))) (given (sourced cs (label x l) (label-here (v .0)))) (v .2)
+
+    pub labels-more : Labels cs (i + 1) (c || clashing (eqb k 8) (row t x) l) now
+    labels-more = record {
+      long = length-set t _ _ ∙ s .long;
+      from = from-more;
+      to = λ q u m n. let v = or-no c _ q in
+          ⊎-elim (λ b. ⊎-elim (λ e. inr (this (v .1) u m e)) inl (next _ b)) (λ b. inr (kept (v .1) u m (b .0) (b .1), b .1)) (s .to (v .0) u m n);
+      clashed = λ q. ⊎-elim (s .clashed) two-labels (or-yes c _ q);
+    }
