@@ -1,5 +1,5 @@
 -- The three runs of bytes that are written, the blank node, the groups and the places, are the answer file.
-use mathlib.Core.Path.{_≡_, refl, sym, ap, _∙_}
+use mathlib.Core.Path.{_≡_, refl, sym, ap, subst, _∙_}
 use mathlib.Core.List.{List, [], _∷_, _++_, map}
 use Prim.Native.Nat.{ℕ, zero, suc, _+_, _*_, _≤_, _<_}
 use native.Mathlib.Nat.{zero-add}
@@ -7,20 +7,22 @@ use native.Mathlib.Omega.{arith}
 use lib.Count.{ones}
 use lib.Dec.{eqb}
 use lib.ListN.{length, drop, length-append, length-map}
+use Rattle.meaning.specs.Constraint.{Fact}
 use Rattle.meaning.specs.Finite.{pick, one, neg, tab}
 use Rattle.meaning.specs.ReadOff.{FactSet, order, blank, parentOf, labelOf, NodeRecord, blankRecord, nodes, place, places, nodeBytes, placeBytes, answerFile}
 use Rattle.meaning.proofs.Finite.{length-tab}
 use Rattle.meaning.proofs.Nodes.{blank-most}
 use Rattle.theory.proofs.AnswerFile.{length-nodeBytes, length-placeBytes}
 use Rattle.tables.specs.declared.Facts.{Facts}
-use Rattle.tables.specs.Tables.{row, has, Columns}
+use Rattle.tables.specs.Tables.{row, has, Columns, Ready}
 use Rattle.readoff.specs.declared.Order.{Order}
 use Rattle.readoff.specs.Rows.{Gathered, isLow}
-use Rattle.readoff.specs.Listing.{groups, listed, Listed, placeIn, nodeIn}
+use Rattle.readoff.specs.Listing.{groups, listed, Listed, Led, placeIn, nodeIn}
 use Rattle.readoff.specs.Written.{Wrote, Answered}
 use Rattle.readoff.proofs.Layered.{Layered}
 use Rattle.readoff.proofs.Listing.{length-groups}
 use Rattle.readoff.proofs.Meaning.{order-most, order-is, blank-is, places-are, nodes-are}
+use Rattle.readoff.proofs.Leading.{led}
 use Rattle.readoff.proofs.Written.{wrote-more, nodeBytes-join}
 
 abbrev front : ℕ → List NodeRecord
@@ -106,6 +108,9 @@ module _ (f : Facts) (n lows : ℕ) (rows : List ℕ) (o : Order) (s : Ordered f
 
   len-is : o .len ≡ length (order n (has f))
   len-is = let a = s .these .small .few in let b = s .long in sym (length-groups o (omega arith)) ∙ ap length groups-are
+
+  pub groups-led : (S : List Fact) → Ready n S f → Led (f .below) (f .above) n (groups o)
+  groups-led S r = subst (Led (f .below) (f .above) n) (sym groups-are) (led f n (s .few) S r)
 
   pub len-most : o .len ≤ n
   len-most = omega (arith, len-is, order-most n (has f))

@@ -3,4 +3,5 @@ pub mod Layered
 pub mod Listing
 pub mod Written
 pub mod Meaning
+pub mod Leading
 pub mod Answer

@@ -2,16 +2,18 @@
 use mathlib.Core.Path.{_≡_, refl, sym, ap, _∙_, subst}
 use mathlib.Core.Logic.{_≢_, ⊎-elim}
 use mathlib.Core.Bool.{Bool, true, false}
-use mathlib.Core.List.{List, [], _∷_, _++_, map, map-append, append-assoc, append-nil, List·Memᴰ, List·Memᴰ·head, List·Memᴰ·tail, List·Memᴰ·append-cases, List·Memᴰ·not-nil}
+use mathlib.Core.List.{List, [], _∷_, _++_, map, map-append, append-assoc, append-nil, List·Memᴰ, List·Memᴰ·head, List·Memᴰ·tail, List·Memᴰ·append-cases, List·Memᴰ·cases-cons, List·Memᴰ·not-nil}
 use Prim.Native.Nat.{ℕ, zero, suc, _+_, _^_, _≤_, _<_, zero-le, suc-le-suc}
-use native.Mathlib.Nat.{le-refl, le-step, le-trans, not-suc-le-zero, le-of-suc-le-suc}
+use native.Mathlib.Nat.{le-refl, le-step, le-trans, zero-add, not-suc-le-zero, le-of-suc-le-suc}
 use native.Mathlib.Decide.{decLt, ℕ-discrete}
 use native.Mathlib.Numerals.{add-one}
 use native.Mathlib.Omega.{arith}
-use lib.ListN.{length, getD, take, drop, set, length-append, length-map, length-set}
-use lib.Seq.{drop-cons, drop-nil, take-suc-set, length-take-le, getD-take}
+use lib.Bits.{bitAnd}
+use lib.Dec.{eqb}
+use lib.ListN.{length, getD, take, drop, set, length-append, length-map, length-set, drop-of-length-le}
+use lib.Seq.{drop-cons, drop-nil, take-suc-set, length-take-le, getD-take, getD-set-same, getD-set-other}
 use Rattle.meaning.specs.Finite.{Yes, _and_, neg, pick, picked, position}
-use Rattle.meaning.proofs.Tests.{pick-yes, pick-no, is-eq}
+use Rattle.meaning.proofs.Tests.{pick-yes, pick-no, is-eq, eq-yes}
 use Rattle.meaning.proofs.Lists.{picked-out, picked-none, getD-mem}
 use Rattle.rowbits.specs.Bit.{bit}
 use Rattle.rowbits.proofs.Laws.{bit-one, bit-none}
@@ -20,7 +22,7 @@ use Rattle.ids.specs.declared.Var.{Var}
 use Rattle.readoff.specs.declared.Order.{Order}
 use Rattle.tables.specs.Rows.{without, Lowest}
 use Rattle.tables.proofs.Bits.{one-has, some-in, in-row, without-less}
-use Rattle.readoff.specs.Listing.{groups, Small, listed, Listed}
+use Rattle.readoff.specs.Listing.{groups, Small, listed, Listed, Placed, Led}
 use Rattle.readoff.proofs.Bits.{not-yes, yes-not, and-true, bit-without, picked-eq}
 
 -- ---- the place of the first that passes a test
@@ -103,6 +105,40 @@ module _ (p : ℕ → Bool) (o : Order) (long : length (o .group) ≡ 16) (s : S
 
   pub scan-end : (i : ℕ) → i ≤ o .len → o .len ≤ i → i + position p (drop i (groups o)) ≡ position p (groups o) → o .len ≡ position p (groups o)
   scan-end i l m h = let z = position-end p (groups o) i (rw (count-is o long s) m) in omega arith
+
+-- ---- the place of each group, from the last group on
+
+-- the places of the groups from i on
+unfoldable pub Placing : List ℕ → ℕ → List ℕ → Type 0
+Placing gs i t = (g : ℕ) → List·Memᴰ g (drop i gs) → row t g ≡ i + position (λ y. eqb y g) (drop i gs)
+
+pub placing-none : (gs : List ℕ) (i : ℕ) (t : List ℕ) → length gs ≤ i → Placing gs i t
+unfolding Placing
+placing-none gs i t l g m = absurd (List·Memᴰ·not-nil (subst (List·Memᴰ g) (drop-of-length-le gs l) m))
+
+pub placing-more : (gs : List ℕ) (i : ℕ) (t : List ℕ) (v : ℕ) → i < length gs → getD gs i 0 ≡ v → v < length t → Placing gs (i + 1) t → Placing gs i (set t v i)
+unfolding Placing
+placing-more gs i t v l e h w g m = go (ℕ-discrete g v)
+  where
+    go : Dec (g ≡ v) → row (set t v i) g ≡ i + position (λ y. eqb y g) (drop i gs)
+    go (yes q) =
+        let a : row (set t v i) g ≡ i = ap (row (set t v i)) q ∙ getD-set-same t v i 0 h in
+        let b = position-here (λ y. eqb y g) gs i l (eq-yes (e ∙ sym q)) in
+        omega arith
+    go (no q) =
+        let a : row (set t v i) g ≡ row t g = getD-set-other t v g i 0 q in
+        let b = position-next (λ y. eqb y g) gs i l (yes-not (λ y. q (sym (is-eq y) ∙ e))) in
+        let c = w g (⊎-elim (λ z. absurd (q (z ∙ e))) (λ k. rw add-one k) (List·Memᴰ·cases-cons (subst (List·Memᴰ g) (drop-cons gs i 0 l) m))) in
+        omega arith
+
+pub placing-all : (gs t : List ℕ) → Placing gs 0 t → Placed gs t
+unfolding Placing
+placing-all gs t w g m = w g m ∙ zero-add _
+
+-- the place of the lowest of a group is that of the first that is in the group
+pub place-led : (t u : List ℕ) (n : ℕ) (gs ps : List ℕ) → Led t u n gs → Placed gs ps → (x k : ℕ) → x < n → Lowest (bitAnd (row u x) (row t x)) k
+    → row ps k ≡ position (bit (bitAnd (row u x) (row t x))) gs
+place-led t u n gs ps w p x k l low = let c = w x k l low in p k (c .0) ∙ position-eq (λ y. eqb y k) (bit (bitAnd (row u x) (row t x))) gs (λ g m. sym (c .1 g m))
 
 -- ---- the members of a row, put behind the groups
 

@@ -53,14 +53,14 @@ order-most n h =
     let b : sum n (λ x. one (ltb (depth n h x) n)) ≤ n * 1 = sum-bound n 1 _ (λ x l. one-most _) in
     omega arith
 
-layers-inside : (n : ℕ) (h : FactSet) (d g : ℕ) → List·Memᴰ g (layers n h d) → g < n
+layers-out : (n : ℕ) (h : FactSet) (d g : ℕ) → List·Memᴰ g (layers n h d) → (g < n) × Yes (lowest n h g)
 unfolding layers layer
-layers-inside n h zero g k = absurd (List·Memᴰ·not-nil k)
-layers-inside n h (suc d) g k = ⊎-elim (layers-inside n h d g) (λ q. picked-out n _ g q .0) (List·Memᴰ·append-cases (layers n h d) k)
+layers-out n h zero g k = absurd (List·Memᴰ·not-nil k)
+layers-out n h (suc d) g k = ⊎-elim (layers-out n h d g) (λ q. let w = picked-out n _ g q in (w .0, and-left _ (w .1))) (List·Memᴰ·append-cases (layers n h d) k)
 
-order-inside : (n : ℕ) (h : FactSet) (g : ℕ) → List·Memᴰ g (order n h) → g < n
+pub order-out : (n : ℕ) (h : FactSet) (g : ℕ) → List·Memᴰ g (order n h) → (g < n) × Yes (lowest n h g)
 unfolding order
-order-inside n h g k = layers-inside n h n g k
+order-out n h g k = layers-out n h n g k
 
 -- ---- of the tables
 
@@ -94,7 +94,7 @@ module _ (f : Facts) (n : ℕ) (few : n ≤ 16) (m : Columns (f .below) (f .abov
   unfolding over has
   under-is w k h l = bit-without (row (f .below) w) (row (f .above) w) k l ∙ ap (λ (b : Bool). bit (row (f .below) w) k and neg b) (m k w l h)
 
-  same-is : (x y : ℕ) → x < 16 → y < 16 → bit (bitAnd (row (f .above) x) (row (f .below) x)) y ≡ same (has f) y x
+  pub same-is : (x y : ℕ) → x < 16 → y < 16 → bit (bitAnd (row (f .above) x) (row (f .below) x)) y ≡ same (has f) y x
   unfolding same has
   same-is x y h k = bit-meet (row (f .above) x) (row (f .below) x) y ∙ ap (λ (b : Bool). b and bit (row (f .below) x) y) (m y x k h)
 
@@ -177,7 +177,7 @@ module _ (f : Facts) (n : ℕ) (few : n ≤ 16) (m : Columns (f .below) (f .abov
     parent-is x h =
         rw (
           top-is x (omega arith),
-          position-eq (near (f .below) (f .above) (rowOf x)) (λ w. nearest n (has f) w x) (order n (has f)) (λ w k. near-is x w h (order-inside n (has f) w k)),
+          position-eq (near (f .below) (f .above) (rowOf x)) (λ w. nearest n (has f) w x) (order n (has f)) (λ w k. near-is x w h (order-out n (has f) w k .0)),
         )
 
   place-is : (x : ℕ) → x < n → placeIn (f .below) (f .above) (blank n (has f)) (order n (has f)) x ≡ place n (has f) x
@@ -185,7 +185,7 @@ module _ (f : Facts) (n : ℕ) (few : n ≤ 16) (m : Columns (f .below) (f .abov
   place-is x h =
       ap (λ (k : ℕ). blank n (has f) + k)
       (position-eq (bit (bitAnd (row (f .above) x) (row (f .below) x))) (λ g. same (has f) g x) (order n (has f))
-      (λ g k. same-is x g (omega arith) (let l = order-inside n (has f) g k in omega arith)))
+      (λ g k. same-is x g (omega arith) (let l = order-out n (has f) g k .0 in omega arith)))
 
   pub places-are : tab n (placeIn (f .below) (f .above) (blank n (has f)) (order n (has f))) ≡ places n (has f)
   unfolding places
@@ -197,4 +197,4 @@ module _ (f : Facts) (n : ℕ) (few : n ≤ 16) (m : Columns (f .below) (f .abov
   unfolding nodeIn
   nodes-are lows g bytes =
       map-eq (nodeIn (f .below) (f .above) (f .label) n lows (blank n (has f)) (order n (has f))) (λ (x : ℕ). record { up = parentOf n (has f) x; mark = labelOf n (has f) x }) (order n (has f))
-      (λ x k. rw (parent-is lows g x (order-inside n (has f) x k), label-is f n x (bytes x)))
+      (λ x k. rw (parent-is lows g x (order-out n (has f) x k .0), label-is f n x (bytes x)))

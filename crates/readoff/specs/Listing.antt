@@ -9,6 +9,7 @@ use Rattle.meaning.specs.Finite.{pick, picked, position}
 use Rattle.meaning.specs.ReadOff.{NodeRecord}
 use Rattle.rowbits.specs.Bit.{bit}
 use Rattle.tables.specs.Tables.{row}
+use Rattle.tables.specs.Rows.{Lowest}
 use Rattle.ids.specs.declared.Var.{Var}
 use Rattle.ids.specs.declared.Node.{Node}
 use Rattle.readoff.specs.declared.Order.{Order}
@@ -30,6 +31,14 @@ listed t (suc d) = listed t d ++ picked 16 (bit (row t d))
 pub record Listed (gs : List ℕ) (o : Order) : Type 0 where
   pub small : Small o
   pub these : groups o ≡ gs
+
+-- a table of the place of each group in a list
+abbrev pub Placed : List ℕ → List ℕ → Type 0
+Placed gs t = (g : ℕ) → List·Memᴰ g gs → row t g ≡ position (λ y. eqb y g) gs
+
+-- of the group of each variable below n its lowest one is in a list, and no other
+abbrev pub Led : (t u : List ℕ) (n : ℕ) (gs : List ℕ) → Type 0
+Led t u n gs = (x k : ℕ) → x < n → Lowest (bitAnd (row u x) (row t x)) k → List·Memᴰ k gs × ((g : ℕ) → List·Memᴰ g gs → bit (bitAnd (row u x) (row t x)) g ≡ eqb g k)
 
 -- the numbers of the first n nodes
 unfoldable pub nodeNumbers : ℕ → List Node → List ℕ

@@ -1,19 +1,20 @@
 // The answer file of settled tables: a node for each group of same variables, by depth and then by lowest variable, and the node of each
 // variable.
 ghost use mathlib.Core.Path.{_≡_};
-ghost use mathlib.Core.List.{[], _∷_, _++_, map};
+ghost use mathlib.Core.List.{List, [], _∷_, _++_, map};
 ghost use Prim.Native.Nat.{ℕ, _+_, _-_, _*_, _^_, _<_, _≤_};
 ghost use lib.Bits.{bitAnd};
 ghost use lib.Count.{ones};
 ghost use lib.Dec.{eqb};
 ghost use lib.ListN.{length};
+ghost use Rattle.meaning.specs.Constraint.{Fact};
 ghost use Rattle.meaning.specs.Finite.{pick, _and_, neg, one, picked, position, tab};
 ghost use Rattle.meaning.specs.ReadOff.{nodeBytes, placeBytes, blankRecord};
 ghost use Rattle.rowbits.specs.Bit.{bit};
 ghost use Rattle.tables.specs.Rows.{without};
-ghost use Rattle.tables.specs.Tables.{row, has, Mirrored};
+ghost use Rattle.tables.specs.Tables.{row, has, Ready};
 ghost use Rattle.readoff.specs.Rows.{Gathered, overRow, isLow, inLayer, near};
-ghost use Rattle.readoff.specs.Listing.{groups, Small, listed, Listed, nodeNumbers, placeIn, parentIn, nodeIn};
+ghost use Rattle.readoff.specs.Listing.{groups, Small, listed, Listed, Placed, Led, nodeNumbers, placeIn, parentIn, nodeIn};
 ghost use Rattle.readoff.specs.Written.{Wrote, Answered};
 use ids::Node;
 use ids::Var;
@@ -109,19 +110,19 @@ fn in_order(layer: [u16; 17], n: usize) -> Order
     o
 }
 
-// The place of the first group that is in a row.
-fn find(order: Order, row: u16) -> usize
+// The place of each group, by its lowest variable: the first place of each, as the last are stored first.
+fn places(order: Order) -> [u8; 16]
     requires { ⌜ Small order ⌝ }
-    ensures { λ r. ⌜ r ≡ position (bit row) (groups order) ⌝ }
+    ensures { λ r. ⌜ Placed (groups order) r ⌝ }
 {
-    let len = order.len;
-    for i in 0..len {
+    let mut a = [0u8; 16];
+    let mut i = order.len;
+    while i > 0 {
+        i -= 1;
         let g = order.group[i];
-        if rowbits::has(row, g.0 as usize) {
-            return i;
-        }
+        a[g.0 as usize] = i as u8;
     }
-    len
+    a
 }
 
 // Whether w is over, and over nothing else that is.
@@ -179,18 +180,20 @@ fn parent_of(
     Node((blank + place) as u8)
 }
 
-// The node of each variable.
+// The node of each variable: that of the lowest of its group.
 fn assign(order: Order, below: [u16; 16], above: [u16; 16], blank: usize, n: usize) -> [Node; 16]
-    requires { ⌜ Small order × (blank ≤ 1) × (n ≤ 16) ⌝ }
+    requires { ⌜ Small order × (blank ≤ 1) × (n ≤ 16) × Led below above n (groups order) ⌝ }
     ensures { λ r. ⌜ nodeNumbers n r ≡ tab n (placeIn below above blank (groups order)) ⌝ }
 {
     let first = Node(0);
     let mut nodes = [first; 16];
+    let at = places(order);
     for x in 0..n {
         let up = above[x];
         let down = below[x];
-        let place = find(order, up & down);
-        nodes[x] = Node((blank + place) as u8);
+        let low = tables::lowest(up & down);
+        let place = at[low];
+        nodes[x] = Node((blank + place as usize) as u8);
     }
     nodes
 }
@@ -268,7 +271,7 @@ fn put_places(answer: &mut [u8], at: usize, nodes: [Node; 16], n: usize)
 
 // The answer file of the tables at the front of the buffer, and how many bytes it has.
 pub fn read_off(f: Facts, n: usize, answer: &mut [u8]) -> usize
-    requires { ⌜ (n ≤ 16) × (132 ≤ length (now answer)) × Mirrored f ⌝ }
+    requires { ⌜ (n ≤ 16) × (132 ≤ length (now answer)) × ((S : List Fact) × Ready n S f) ⌝ }
     ensures { λ r. ⌜ Answered n (has f) (now (answer .entry)) r (now (answer .exit)) ⌝ }
 {
     let below = f.below;

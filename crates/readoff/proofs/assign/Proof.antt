@@ -1,35 +1,46 @@
 -- `readoff::assign` meets its contract: at x the variables below x have their nodes.
 use mathlib.Core.Path.{_≡_, ap}
+use mathlib.Core.List.{List}
 use Prim.Native.Nat.{ℕ, _<_, _≤_, _+_, _-_}
 use native.Mathlib.Omega.{arith}
 use lib.Bits.{bitAnd}
 use lib.ListN.{length}
-use Rattle.meaning.specs.Finite.{tab}
+use Rattle.meaning.specs.Finite.{tab, position}
 use Rattle.rowbits.specs.Bit.{bit}
 use Rattle.tables.specs.Tables.{row}
-use Rattle.readoff.specs.Listing.{groups, nodeNumbers, placeIn}
-use Rattle.readoff.proofs.Listing.{length-mapped, place-most}
+use Rattle.readoff.specs.Listing.{groups, Placed, Led, nodeNumbers, placeIn}
+use Rattle.readoff.proofs.Listing.{length-mapped, place-most, place-led}
 use Rattle.readoff.proofs.Written.{assigned-none, assigned-more}
 use borrow.Author.Needs.{needs}
 use Rattle.readoff.proofs.assign.Statement.{statement}
 use Rattle.readoff.proofs.assign.Tie as tie
 
+-- the order has gone into `places`, so this is of every order that has these places
 abbrev Inv-loop : tie.InvT-loop
-Inv-loop order blank n below above nodes₀ x₀ nodes x = (x ≤ n) × (length nodes ≡ 16) × (nodeNumbers x nodes ≡ tab x (placeIn below above blank (groups order)))
+Inv-loop blank n below above nodes₀ at x₀ nodes x = (x ≤ n) × (length nodes ≡ 16)
+    × ((gs : List ℕ) → Placed gs at → Led below above n gs → nodeNumbers x nodes ≡ tab x (placeIn below above blank gs))
 
 abbrev μ-loop : tie.MeasureT-loop
-μ-loop order blank n below above nodes₀ x₀ nodes x = n - x
+μ-loop blank n below above nodes₀ at x₀ nodes x = n - x
+
+-- the place that is read is that of the variable's group
+place-read : (c : tie.After-lowest Inv-loop μ-loop) → let i = c .before .before in let s = i .before .before in (gs : List ℕ) → Placed gs (i .before .places .result) → Led (s .args .t2) (s .args .t3) (s .args .n) gs
+    → row (i .before .places .result) (c .lowest .result) ≡ position (bit (bitAnd (row (s .args .t3) (i .loop .x)) (row (s .args .t2) (i .loop .x)))) gs
+place-read c gs p w = let i = c .before .before in let s = i .before .before in place-led (s .args .t2) (s .args .t3) _ gs (i .before .places .result) w p (i .loop .x) _ (search needs) (c .lowest .ensures)
 
 -- the node's number is a byte
-number-fits : (c : tie.After-find Inv-loop μ-loop) → c .before .before .before .args .blank + c .find .result < 256
+number-fits : (c : tie.After-lowest Inv-loop μ-loop) → let p = c .before .before .before in p .before .args .blank + row (p .places .result) (c .lowest .result) < 256
 number-fits c =
     let i = c .before .before in
-    let s = i .before in
+    let s = i .before .before in
     let m = place-most (bit (bitAnd (row (s .args .t3) (i .loop .x)) (row (s .args .t2) (i .loop .x)))) (s .args .order) (search (needs, length-mapped)) (s .pre .0) in
-    omega (arith, c .find .ensures, s .pre .1)
+    omega (arith, place-read c (groups (s .args .order)) (i .before .places .ensures) (s .pre .3), s .pre .1)
+
+places-requires : tie.Need-places-requires Inv-loop μ-loop
+places-requires c κs = c .pre .0
 
 loop-holds : tie.Need-loop-holds Inv-loop μ-loop
-loop-holds c = (search needs, search needs, assigned-none _ _)
+loop-holds c = (search needs, search needs, λ gs p w. assigned-none _ _)
 
 mul-up : tie.Need-mul-up Inv-loop μ-loop
 mul-up c = search needs
@@ -43,14 +54,23 @@ mul-down c = search needs
 array-read-down : tie.Need-array-read-down Inv-loop μ-loop
 array-read-down c = search needs
 
-find-requires : tie.Need-find-requires Inv-loop μ-loop
-find-requires c κs = c .before .before .pre .0
+lowest-requires : tie.Need-lowest-requires Inv-loop μ-loop
+lowest-requires c κs = search needs
 
-add-t15 : tie.Need-add-t15 Inv-loop μ-loop
-add-t15 c = omega (arith, number-fits c)
+array-read-place : tie.Need-array-read-place Inv-loop μ-loop
+array-read-place c =
+    let i = c .before .before in
+    let s = i .before .before in
+    s .pre .0 .inside _ (s .pre .3 (i .loop .x) _ (search needs) (c .lowest .ensures) .0)
 
-cast-t21 : tie.Need-cast-t21 Inv-loop μ-loop
-cast-t21 c = omega (arith, number-fits c)
+cast-t18 : tie.Need-cast-t18 Inv-loop μ-loop
+cast-t18 c = search needs
+
+add-t27 : tie.Need-add-t27 Inv-loop μ-loop
+add-t27 c = omega (arith, number-fits c)
+
+cast-t26 : tie.Need-cast-t26 Inv-loop μ-loop
+cast-t26 c = omega (arith, number-fits c)
 
 array-set-from-nodes : tie.Need-array-set-from-nodes Inv-loop μ-loop
 array-set-from-nodes c = search needs
@@ -65,14 +85,17 @@ loop-again : tie.Need-loop-again Inv-loop μ-loop
 unfolding placeIn
 loop-again c =
     let i = c .before .before in
-    let s = i .before in (
+    let s = i .before .before in (
       search needs,
       search needs,
-      assigned-more (i .loop .nodes) (i .loop .x) _ (placeIn (s .args .t2) (s .args .t3) (s .args .blank) (groups (s .args .order))) (search needs) (ap (λ (k : ℕ). s .args .blank + k) (c .find .ensures)) (i .loop .inv .2),
+      λ gs p w. assigned-more (i .loop .nodes) (i .loop .x) _ (placeIn (s .args .t2) (s .args .t3) (s .args .blank) gs) (search needs) (ap (λ (k : ℕ). s .args .blank + k) (place-read c gs p w)) (i .loop .inv .2 gs p w),
     )
 
 returns : tie.Need-returns Inv-loop μ-loop
-returns c = let e : c .before .loop .x ≡ c .before .before .args .n = search needs in rw (← e) (c .before .loop .inv .2)
+returns c =
+    let p = c .before .before in
+    let e : c .before .loop .x ≡ p .before .args .n = search needs in
+    rw (← e) (c .before .loop .inv .2 (groups (p .before .args .order)) (p .places .ensures) (p .before .pre .3))
 
 pub assign-spec : {M : Type 1} → statement M
 assign-spec =
@@ -80,14 +103,17 @@ assign-spec =
     (tie.spec
     Inv-loop
     μ-loop
+    places-requires
     loop-holds
     mul-up
     array-read-up
     mul-down
     array-read-down
-    find-requires
-    add-t15
-    cast-t21
+    lowest-requires
+    array-read-place
+    cast-t18
+    add-t27
+    cast-t26
     array-set-from-nodes
     add-x
     loop-less

@@ -8,7 +8,7 @@ use borrow.Author.Needs.{needs}
 use Rattle.tables.specs.Tables.{row}
 use Rattle.readoff.proofs.Layered.{Layered}
 use Rattle.readoff.proofs.Listing.{length-mapped}
-use Rattle.readoff.proofs.Answer.{Ordered, room-for, len-most, first-most, file-written}
+use Rattle.readoff.proofs.Answer.{Ordered, room-for, groups-led, len-most, first-most, file-written}
 use Rattle.readoff.proofs.read_off.Statement.{statement}
 use Rattle.readoff.proofs.read_off.Tie as tie
 
@@ -24,7 +24,7 @@ ordered c =
     let s = c .before .before .before .before .before .before .before in
     record {
       few = s .pre .0;
-      columns = s .pre .2 .ancestors;
+      columns = s .pre .2 .1 .mirrored .ancestors;
       low = c .before .before .lows .ensures;
       layered = layered (c .before);
       these = c .in-order .ensures;
@@ -51,7 +51,7 @@ layers-requires c κs = search needs
 in-order-requires : tie.Need-in-order-requires
 in-order-requires c κs =
     let s = c .before .before .before .before .before .before in
-    (s .pre .0, room-for (s .args .f) (s .args .n) (c .before .lows .result) (c .layers .result) (s .pre .0) (s .pre .2 .ancestors) (c .before .lows .ensures) (layered c))
+    (s .pre .0, room-for (s .args .f) (s .args .n) (c .before .lows .result) (c .layers .result) (s .pre .0) (s .pre .2 .1 .mirrored .ancestors) (c .before .lows .ensures) (layered c))
 
 array-read-top : tie.Need-array-read-top
 array-read-top c = search needs
@@ -75,7 +75,13 @@ mul-at : tie.Need-mul-at
 mul-at c = let b = c .before .before .before .before .before .before .before .before .before in omega (arith, few-nodes b, s b .pre .0)
 
 assign-requires : tie.Need-assign-requires
-assign-requires c κs = let b = c .before .before .before .before .before .before .before .before .before in (b .before .in-order .ensures .small, few-nodes b .0, s b .pre .0)
+assign-requires c κs =
+    let b = c .before .before .before .before .before .before .before .before .before in (
+      b .before .in-order .ensures .small,
+      few-nodes b .0,
+      s b .pre .0,
+      groups-led (s b .args .f) (s b .args .n) (b .before .before .before .lows .result) (b .before .before .layers .result) (b .before .in-order .result) (ordered (b .before)) (s b .pre .2 .0) (s b .pre .2 .1),
+    )
 
 put-places-requires : tie.Need-put-places-requires
 put-places-requires c κs =

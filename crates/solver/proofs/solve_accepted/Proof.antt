@@ -44,7 +44,7 @@ read-off-requires c κs =
     let within = vars-within (start .args .constraints .now) small _ (start .pre .0) in (
       variables-few (start .args .constraints .now) small _ (start .pre .0),
       start .pre .1,
-      tree-ready _ _ _ within _ (searched .search .ensures .reports _ (searched .before .first-line .ensures)) (c .before .enum-told3 .given .1) .1 .mirrored,
+      tree-ready _ _ _ within _ (searched .search .ensures .reports _ (searched .before .first-line .ensures)) (c .before .enum-told3 .given .1),
     )
 
 -- src/lib.rt:37:1
