@@ -48,6 +48,9 @@ StepOf n f (Split p q) = Named n p × Named n q × ((S : List Fact) → Ready n 
 
 -- ---- a line
 
+abbrev pub tablesOf : (child parent below above differ label : List ℕ) (root leaf : ℕ) → Facts
+tablesOf c p b a d l r f = record { child = c; parent = p; below = b; above = a; differ = d; root = r; label = l; leaf = f }
+
 -- tables that were settled for S: they decide its settled set, or S has a clash
 pub record Line (n : ℕ) (S : List Fact) (s : Settled) : Type 0 where
   pub inside : Inside n S

@@ -4,7 +4,7 @@ ghost use mathlib.Core.List.{List};
 ghost use Prim.Native.Nat.{_≤_};
 ghost use Rattle.meaning.specs.Constraint.{Fact};
 ghost use Rattle.tables.specs.Tables.{Ready};
-ghost use Rattle.search.specs.Searching.{StepOf, Line, LineOf, SearchedOf};
+ghost use Rattle.search.specs.Searching.{StepOf, Line, tablesOf, LineOf, SearchedOf};
 use ids::Var;
 use joins::Found;
 use tables::Facts;
@@ -56,34 +56,72 @@ fn next_step(f: Facts, n: usize) -> Step
     }
 }
 
-// One line of the search, from settled tables without a clash, with so many alternatives entered before. One `searched` and one `entered`
-// serve both alternatives: every level that is open keeps them on the stack.
-fn line(f: Facts, n: usize, allowance: u32, count: u32) -> Searched
+// One line of the search, from settled tables without a clash, with so many alternatives entered before. The tables go in one by one: a
+// copy of all of them at once right after they were stored waits for the stores, a copy of a single one is done in registers.
+fn line(
+    child: [u16; 16],
+    parent: [u16; 16],
+    below: [u16; 16],
+    above: [u16; 16],
+    differ: [u16; 16],
+    label: [u8; 16],
+    root: u16,
+    leaf: u16,
+    n: usize,
+    allowance: u32,
+    count: u32,
+) -> Searched
     requires { ⌜ (n ≤ 16) × (count ≤ allowance) ⌝ }
-    requires { ⌜ ((S : List Fact) × Ready n S f) ⌝ }
-    ensures { λ r. ⌜ LineOf allowance n f count r ⌝ }
+    requires { ⌜ ((S : List Fact) × Ready n S (tablesOf child parent below above differ label root leaf)) ⌝ }
+    ensures { λ r. ⌜ LineOf allowance n (tablesOf child parent below above differ label root leaf) count r ⌝ }
 {
-    let mut searched = Searched {
-        end: End::Tree,
-        count,
-        facts: f,
+    let f = Facts {
+        child,
+        parent,
+        below,
+        above,
+        differ,
+        root,
+        label,
+        leaf,
     };
     let next = next_step(f, n);
     let Step::Split(first, second) = next else {
-        return searched;
+        return Searched {
+            end: End::Tree,
+            count,
+            facts: f,
+        };
     };
     if count == allowance {
-        searched = Searched {
+        return Searched {
             end: End::Spent,
             count,
             facts: f,
         };
-        return searched;
     }
     let mut used = count + 1;
     let mut entered = enter::enter_below(f, n, first.upper, first.lower);
     if !entered.clash {
-        searched = line(entered.facts, n, allowance, used);
+        let child = entered.facts.child;
+        let parent = entered.facts.parent;
+        let below = entered.facts.below;
+        let above = entered.facts.above;
+        let differ = entered.facts.differ;
+        let label = entered.facts.label;
+        let searched = line(
+            child,
+            parent,
+            below,
+            above,
+            differ,
+            label,
+            entered.facts.root,
+            entered.facts.leaf,
+            n,
+            allowance,
+            used,
+        );
         let end = searched.end;
         match end {
             End::Tree => {
@@ -98,24 +136,39 @@ fn line(f: Facts, n: usize, allowance: u32, count: u32) -> Searched
         }
     }
     if used == allowance {
-        searched = Searched {
+        return Searched {
             end: End::Spent,
             count: used,
             facts: f,
         };
-        return searched;
     }
     entered = enter::enter_below(f, n, second.upper, second.lower);
     if entered.clash {
-        searched = Searched {
+        return Searched {
             end: End::None,
             count: used + 1,
             facts: f,
         };
-        return searched;
     }
-    searched = line(entered.facts, n, allowance, used + 1);
-    searched
+    let child = entered.facts.child;
+    let parent = entered.facts.parent;
+    let below = entered.facts.below;
+    let above = entered.facts.above;
+    let differ = entered.facts.differ;
+    let label = entered.facts.label;
+    line(
+        child,
+        parent,
+        below,
+        above,
+        differ,
+        label,
+        entered.facts.root,
+        entered.facts.leaf,
+        n,
+        allowance,
+        used + 1,
+    )
 }
 
 // The search from the settled tables of the given facts.
@@ -132,7 +185,25 @@ pub fn search(s: Settled, n: usize, allowance: u32) -> Searched
             facts,
         };
     }
-    let r = line(facts, n, allowance, 0);
+    let child = facts.child;
+    let parent = facts.parent;
+    let below = facts.below;
+    let above = facts.above;
+    let differ = facts.differ;
+    let label = facts.label;
+    let r = line(
+        child,
+        parent,
+        below,
+        above,
+        differ,
+        label,
+        facts.root,
+        facts.leaf,
+        n,
+        allowance,
+        0,
+    );
     let end = r.end;
     match end {
         End::Tree => r,
