@@ -20,7 +20,7 @@ use Rattle.rowbits.specs.Bit.{bit}
 use Rattle.tables.specs.Tables.{row, has, Ready}
 use Rattle.tables.specs.Rows.{meets}
 use Rattle.tables.specs.declared.Facts.{Facts}
-use Rattle.tables.proofs.Shape.{label-is}
+use Rattle.tables.proofs.Labels.{label-is}
 use Rattle.merge.specs.Rows.{Apart}
 use Rattle.merge.specs.Merging.{Sharing, Awaits, held, waits, In, Held, Pending, MergedOf}
 use Rattle.tables.proofs.Bits.{or-case, or-l, or-r, one-is, one-has, meets-out, in-row}

@@ -1,5 +1,4 @@
 // Entering below(a, b) where it makes variables the same: their group is merged by rows, then that of its parents, and so on upwards.
-ghost use mathlib.Core.Path.{_≡_};
 ghost use Prim.Native.Nat.{_<_, _≤_, _^_};
 ghost use lib.Bits.{bitOr};
 ghost use Rattle.tables.specs.Rows.{Union};

@@ -1,13 +1,13 @@
 -- A fact that is settled already changes nothing when it is given, so entering one below fact enters either alternative of a join.
 use mathlib.Core.Path.{_≡_, sym, ap, subst, _∙_}
 use mathlib.Core.Logic.{⊎-elim}
-use mathlib.Core.List.{List, [], _∷_, _++_, List·Memᴰ, List·Memᴰ·tail, List·Memᴰ·cases-cons}
-use mathlib.Core.Option.{none, some}
+use mathlib.Core.List.{List, [], _∷_, List·Memᴰ·tail, List·Memᴰ·cases-cons}
+use mathlib.Core.Option.{some}
 use Prim.Native.Nat.{ℕ}
 use Rattle.meaning.specs.Constraint.{Fact, below}
 use Rattle.meaning.specs.Settled.{Settled, given, Clash, differs, labels}
 use Rattle.meaning.specs.FixedSearch.{Join, parent-join, chain-join, IsJoin}
-use Rattle.meaning.proofs.Facts.{Within, Inside}
+use Rattle.meaning.proofs.Facts.{Within}
 use Rattle.meaning.proofs.Least.{settled-least, settled-rules, settled-mono, settled-within, clash-mono}
 use Rattle.theory.specs.Search.{firstJoin}
 use Rattle.theory.proofs.Search.{first-join-found}

@@ -2,17 +2,16 @@
 use mathlib.Core.Path.{_≡_, refl, sym, ap, subst, _∙_}
 use mathlib.Core.Logic.{_≢_}
 use mathlib.Core.Bool.{true, false}
-use mathlib.Core.List.{List, _∷_, _++_}
-use mathlib.Core.Option.{none, some}
+use mathlib.Core.List.{List, _++_}
+use mathlib.Core.Option.{none}
 use Prim.Native.Nat.{ℕ, _+_, _≤_, _<_}
 use native.Mathlib.Nat.{zero-add}
 use native.Mathlib.Omega.{arith}
 use Rattle.meaning.specs.Constraint.{Fact, below}
-use Rattle.meaning.specs.FixedSearch.{Join, first-alternative, second-alternative, Outcome, in-none, in-tree}
+use Rattle.meaning.specs.FixedSearch.{first-alternative, second-alternative, Outcome, in-none, in-tree}
 use Rattle.meaning.specs.Finite.{neg, sum, one}
 use Rattle.meaning.specs.ReadOff.{FactSet}
 use Rattle.meaning.proofs.Facts.{Inside}
-use Rattle.theory.specs.Closure.{holds}
 use Rattle.theory.specs.Search.{firstJoin, search}
 use Rattle.theory.proofs.Closure.{holds-decides, decides-same}
 use Rattle.theory.proofs.Absent.{absent, Adds}

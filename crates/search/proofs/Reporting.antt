@@ -11,7 +11,6 @@ use Rattle.theory.specs.Search.{search}
 use Rattle.theory.proofs.Steps.{EndsAs}
 use Rattle.tables.specs.Tables.{Ready}
 use Rattle.search.specs.Searching.{Reports}
-use Rattle.search.specs.declared.End.{End}
 use Rattle.search.specs.declared.End.the-variants.{Tree, None, Spent}
 use Rattle.search.specs.declared.Searched.{Searched}
 

@@ -17,7 +17,6 @@ use Rattle.tables.specs.declared.Settled.{Settled}
 use Rattle.search.specs.declared.Below.{Below}
 use Rattle.search.specs.declared.Step.{Step}
 use Rattle.search.specs.declared.Step.the-variants.{Solved, Split}
-use Rattle.search.specs.declared.End.{End}
 use Rattle.search.specs.declared.End.the-variants.{Tree, None, Spent}
 use Rattle.search.specs.declared.Searched.{Searched}
 

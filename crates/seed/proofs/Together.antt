@@ -19,7 +19,7 @@ use Rattle.constraints.specs.Record.{kindOf, constraintAs}
 use Rattle.tables.specs.Tables.{row, has, Seeded}
 use Rattle.tables.specs.declared.Facts.{Facts}
 use Rattle.tables.proofs.Bits.{or-case, or-l, or-r, none-in}
-use Rattle.tables.proofs.Shape.{label-is, label-has}
+use Rattle.tables.proofs.Labels.{label-is, label-has}
 use Rattle.seed.specs.Seeds.{RowsOf, United, Holds}
 use Rattle.seed.proofs.Codes.{number, left, right, name, spelt-as, Source, source, sourced}
 use Rattle.seed.proofs.Gathering.{Gathered}

@@ -15,7 +15,7 @@ use Rattle.tables.specs.Tables.{row}
 use Rattle.tables.specs.Rows.{Up, gained, without}
 use Rattle.tables.proofs.Loops.{below-cases, Rowing}
 use Rattle.tables.proofs.Bits.{or-l, or-r, or-case, up-or, up-self, up-trans, all-is, all-has, gained-up, gained-has, gained-case, one-is, one-has, without-in}
-use Rattle.settle.specs.Rows.{Lifted, Chained, Common, Grouped, firstRow}
+use Rattle.settle.specs.Rows.{Lifted, Chained, Common, firstRow}
 
 pub lifted : (t : List ℕ) (y x : ℕ) (r : List ℕ) → 16 ≤ x → x ≤ 16 → Rowing (λ k v. gained (bit v y) v (row t y)) 16 t x r → Lifted t y r
 lifted t y x r h h2 w = record { within = λ k l. w .done k (le-trans l h); beyond = λ k l. w .rest k (le-trans h2 l) }

@@ -3,7 +3,7 @@
 use mathlib.Core.Path.{_≡_, refl, sym, _∙_, subst}
 use mathlib.Core.Logic.{_≢_, _⊎_, inl, inr, ⊎-elim}
 use mathlib.Core.Bool.{Bool, true, false, false≢true}
-use mathlib.Core.List.{List, List·Memᴰ}
+use mathlib.Core.List.{List}
 use Prim.Native.Nat.{ℕ, _^_, _<_, _≤_}
 use native.Mathlib.Nat.{le-trans}
 use native.Mathlib.Decide.{decLt, ℕ-discrete}
@@ -25,7 +25,7 @@ use Rattle.tables.specs.Tables.{row, has, Columns, Sound, Seeded, Ready}
 use Rattle.tables.specs.declared.Facts.{Facts}
 use Rattle.tables.proofs.Bits.{or-case, or-l, or-r, in-both, both-in, in-row, one-has, meets-in, meets-out}
 use Rattle.tables.proofs.Loops.{transposed-columns}
-use Rattle.tables.proofs.Shape.{label-has, label-is}
+use Rattle.tables.proofs.Labels.{label-has, label-is}
 use Rattle.settle.specs.Rows.{Chained, Common, Grouped}
 use Rattle.settle.specs.Pass.{weight, PassOf}
 use Rattle.settle.proofs.Taking.{Source, Taking, Taken}

@@ -1,9 +1,7 @@
 // Settling: the tables of rows, closed under the rules of document 01 by passes over x, y and z.
 ghost use mathlib.Core.Path.{_≡_};
-ghost use mathlib.Core.Logic.{_≢_};
-ghost use Prim.Native.Nat.{ℕ, _<_, _≤_};
-ghost use Rattle.meaning.specs.Finite.{Yes, pick};
-ghost use Rattle.rowbits.specs.Bit.{bit};
+ghost use Prim.Native.Nat.{_<_, _≤_};
+ghost use Rattle.meaning.specs.Finite.{pick};
 ghost use Rattle.tables.specs.Tables.{row};
 ghost use lib.Dec.{eqb};
 ghost use Rattle.settle.specs.Rows.{firstRow, clashing, Common, Grouped, Chained};

@@ -3,11 +3,9 @@ use mathlib.Core.Path.{_≡_, refl, sym, ap, subst, _∙_}
 use mathlib.Core.List.{List}
 use mathlib.Core.Bool.{true, false}
 use Prim.Native.Nat.{ℕ, _≤_, _<_}
-use native.Mathlib.Nat.{le-refl}
 use native.Mathlib.Omega.{arith}
 use lib.ListN.{length, getD}
 use Rattle.meaning.specs.Constraint.{Constraint, vars, Fact, factsOf}
-use Rattle.meaning.specs.FixedSearch.{in-none, in-tree}
 use Rattle.meaning.specs.Settled.{Clash}
 use Rattle.meaning.specs.ReadOff.{FactSet, answerFile}
 use Rattle.meaning.specs.Files.{Judged, accepted, judge}

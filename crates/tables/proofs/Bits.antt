@@ -7,7 +7,7 @@ use native.Mathlib.Nat.{le-of-suc-le-suc, not-suc-le-zero, le-refl, le-trans, mo
 use native.Mathlib.Decide.{decLt, ℕ-discrete}
 use native.Mathlib.Omega.{arith}
 use lib.Dec.{eqb}
-use lib.Bits.{bitOr, bitAnd, bitXor, or-add-and, and-le-l, and-le-r, or-lt, and-mask, xor-add-and, xor-shr, xor-step, differ as bitDiffer}
+use lib.Bits.{bitOr, bitAnd, bitXor, or-add-and, and-le-l, and-le-r, and-mask, xor-add-and, xor-shr, xor-step, differ as bitDiffer}
 use lib.Count.{trailingZeros, under, trailing-le}
 use lib.Pow.{pow-mono, pow-pos, pow-lt}
 use Rattle.meaning.specs.Finite.{Yes, pick}
@@ -75,11 +75,6 @@ pub gained-case : (t : Bool) (a b i : ℕ) → Yes (bit (gained t a b) i) → Ye
 unfolding gained pick
 gained-case true a b i u = ⊎-elim inl (λ v. inr (refl, v)) (or-case a b i u)
 gained-case false a b i u = ⊎-elim inl (λ v. none-in i v) (or-case a 0 i u)
-
-pub gained-small : (t : Bool) (a b : ℕ) → a < 65536 → b < 65536 → gained t a b < 65536
-unfolding gained pick
-gained-small true a b h k = or-lt 16 a b h k
-gained-small false a b h k = or-lt 16 a 0 h (omega arith)
 
 pub one-small : (y : ℕ) → y < 16 → 2 ^ y < 65536
 one-small y h = pow-lt {i = y} {j = 16} h

@@ -2,5 +2,5 @@ pub mod Bits
 pub mod Helpers
 pub mod Tested
 pub mod Loops
-pub mod Shape
+pub mod Labels
 pub mod Members

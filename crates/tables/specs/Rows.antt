@@ -26,9 +26,6 @@ marked t row y = gained t row (2 ^ y)
 unfoldable pub meets : ℕ → ℕ → Bool
 meets a b = neg (eqb (bitAnd a b) 0)
 
-unfoldable pub both : ℕ → ℕ → ℕ → ℕ → Bool
-both a i b j = bit a i and bit b j
-
 -- what is in the first row and not in the second
 unfoldable pub without : ℕ → ℕ → ℕ
 without a b = bitAnd a (bitXor b 65535)

@@ -4,7 +4,7 @@ ghost use mathlib.Core.Path.{_≡_};
 ghost use mathlib.Core.Logic.{_≢_};
 ghost use Prim.Native.Nat.{_<_, _≤_, _^_, _-_};
 ghost use Rattle.meaning.specs.Finite.{pick};
-ghost use Rattle.tables.specs.Rows.{gained, meets, both, marked, without, Gathers, Transposed, Raised, Lowest, Rest, Union};
+ghost use Rattle.tables.specs.Rows.{gained, meets, marked, without, Gathers, Transposed, Raised, Lowest, Rest, Union};
 ghost use Rattle.tables.specs.Tables.{row};
 
 // `parent` and `above` are the columns of `child` and `below`, kept as rows: bit x of row y. A label of 0 is no label fact.
@@ -68,13 +68,6 @@ pub fn meet(a: u16, b: u16) -> bool
     ensures { λ r. ⌜ r ≡ meets a b ⌝ }
 {
     a & b != 0
-}
-
-pub fn has_both(a: u16, i: usize, b: u16, j: usize) -> bool
-    requires { ⌜ (i < 16) × (j < 16) ⌝ }
-    ensures { λ r. ⌜ r ≡ both a i b j ⌝ }
-{
-    rowbits::has(a, i) & rowbits::has(b, j)
 }
 
 pub fn except(a: u16, b: u16) -> u16

@@ -1,6 +1,5 @@
 -- `cudreth_solve` tells the number of the solver's verdict.
 use mathlib.Core.Path.{refl}
-use Prim.Native.Nat.{_≤_}
 use native.Mathlib.Omega.{arith}
 use Rattle.solver.proofs.Short.{bytes-few}
 use Rattle.capi.proofs.Solved.{number, solves}

@@ -1,6 +1,5 @@
 use mathlib.Core.Path.{refl}
 use Rattle.seed.specs.Seeds.{noFacts}
-use borrow.Author.Needs.{needs}
 use Rattle.seed.proofs.blank.Statement.{statement}
 use Rattle.seed.proofs.blank.Tie as tie
 use Rattle.seed.proofs.blank.Reads as reads

@@ -1,6 +1,5 @@
 use Rattle.tables.proofs.Helpers.{pick-on, pick-off}
 use Rattle.seed.specs.Seeds.{labelled}
-use borrow.Author.Needs.{needs}
 use Rattle.seed.proofs.label_with.Statement.{statement}
 use Rattle.seed.proofs.label_with.Tie as tie
 use Rattle.seed.proofs.label_with.Reads as reads

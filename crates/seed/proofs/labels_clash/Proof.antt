@@ -5,7 +5,6 @@ use Rattle.meaning.specs.Finite.{_and_, neg}
 use Rattle.tables.proofs.Helpers.{and-is, not-is}
 use Rattle.seed.proofs.Tests.{and-assoc}
 use Rattle.seed.specs.Seeds.{clashing}
-use borrow.Author.Needs.{needs}
 use Rattle.seed.proofs.labels_clash.Statement.{statement}
 use Rattle.seed.proofs.labels_clash.Tie as tie
 use Rattle.seed.proofs.labels_clash.Reads as reads

@@ -1,5 +1,4 @@
 -- `settle::grouped` meets its contract: at x it has what the rows before x have of others.
-use mathlib.Core.Path.{_≡_}
 use Prim.Native.Nat.{_≤_, _-_}
 use borrow.Author.Needs.{needs}
 use Rattle.settle.proofs.Chain.{Grouping, grouping-none, grouping-more}

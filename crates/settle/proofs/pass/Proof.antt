@@ -11,14 +11,12 @@ use lib.ListN.{getD, length}
 use mir.Val.{Fits}
 use mir.Syntax.{w16}
 use borrow.Author.Needs.{needs}
-use Rattle.meaning.specs.Finite.{Yes}
-use Rattle.rowbits.specs.Bit.{bit}
 use Rattle.tables.specs.Tables.{row}
 use Rattle.tables.proofs.Bits.{in-both}
 use Rattle.tables.proofs.Helpers.{doubled}
 use Rattle.tables.proofs.Members.{Passed, passed-none, passed-less, next-in, next-named}
 use Rattle.settle.proofs.Taking.{Taking, Twin, Taken, Grown, grown-none, grown-trans, taking-none, added, z-grown, z-taking, z-passed, y-passed, clashing-out}
-use Rattle.settle.proofs.Passing.{Passing, Long, passing-none, passing-more, row-of}
+use Rattle.settle.proofs.Passing.{Passing, passing-none, passing-more, row-of}
 use Rattle.settle.proofs.Final.{Start, label-clash, differ-clash, ended-well, ended-clash}
 use Rattle.settle.proofs.pass.Statement.{statement}
 use Rattle.settle.proofs.pass.Tie as tie

@@ -1,5 +1,5 @@
 -- `settle::settle` meets its contract. The passes end because below grows with each that joins something; the last one leaves tables that are settled.
-use mathlib.Core.Path.{_≡_, refl, sym}
+use mathlib.Core.Path.{refl, sym}
 use mathlib.Core.Bool.{false≢true}
 use mathlib.Core.List.{List}
 use Prim.Native.Nat.{ℕ, _-_, _<_}

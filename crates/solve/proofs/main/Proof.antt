@@ -1,8 +1,8 @@
 -- `main` prints what was read and written: the reader counts bytes of its buffer, and a tree's bytes are within the answer.
-use mathlib.Core.Path.{_≡_, sym, subst}
+use mathlib.Core.Path.{sym, subst}
 use Prim.Native.Nat.{_≤_}
 use native.Mathlib.Omega.{arith}
-use lib.ListN.{length, take}
+use lib.ListN.{length}
 use lib.Seq.{length-take-le}
 use Rattle.io.specs.Counts.{Counts}
 use Rattle.reading.specs.Filling.{Fills}
