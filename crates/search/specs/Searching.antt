@@ -19,6 +19,7 @@ use Rattle.search.specs.declared.Step.{Step}
 use Rattle.search.specs.declared.Step.the-variants.{Solved, Split}
 use Rattle.search.specs.declared.End.the-variants.{Tree, None, Spent}
 use Rattle.search.specs.declared.Searched.{Searched}
+use Rattle.search.specs.declared.Ended.{Ended}
 
 -- ---- one step
 
@@ -65,6 +66,10 @@ pub record Reports (A n : ℕ) (o : Outcome) (c : ℕ) (r : Searched) : Type 0 w
   pub spent : A < c → (r .end ≡ Spent) × (r .count ≡ A)
   pub none : c ≤ A → o ≡ in-none → (r .end ≡ None) × (r .count ≡ c)
   pub tree : c ≤ A → {R : List Fact} → o ≡ in-tree R → (r .end ≡ Tree) × (r .count ≡ c) × Ready n R (r .facts)
+
+-- what a line reports by its result and by the tables that it was lent
+abbrev pub reported : Ended → Facts → Searched
+reported r g = record { end = r .end; count = r .count; facts = g }
 
 -- with c alternatives entered before
 abbrev pub LineOf : ℕ → ℕ → Facts → ℕ → Searched → Type 0

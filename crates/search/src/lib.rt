@@ -4,7 +4,7 @@ ghost use mathlib.Core.List.{List};
 ghost use Prim.Native.Nat.{_≤_};
 ghost use Rattle.meaning.specs.Constraint.{Fact};
 ghost use Rattle.tables.specs.Tables.{Ready};
-ghost use Rattle.search.specs.Searching.{StepOf, Line, tablesOf, LineOf, SearchedOf};
+ghost use Rattle.search.specs.Searching.{StepOf, Line, tablesOf, reported, LineOf, SearchedOf};
 use ids::Var;
 use joins::Found;
 use tables::Facts;
@@ -56,8 +56,15 @@ fn next_step(f: Facts, n: usize) -> Step
     }
 }
 
+// How a line of the search ended, and after how many choices in all.
+struct Ended {
+    end: End,
+    count: u32,
+}
+
 // One line of the search, from settled tables without a clash, with so many alternatives entered before. The tables go in one by one: a
-// copy of all of them at once right after they were stored waits for the stores, a copy of a single one is done in registers.
+// copy of all of them at once right after they were stored waits for the stores, a copy of a single one is done in registers. The tables
+// of a tree go out by those that the caller lent, `children` for `child` and so on: they are written once, where the tree is found.
 fn line(
     child: [u16; 16],
     parent: [u16; 16],
@@ -70,10 +77,20 @@ fn line(
     n: usize,
     allowance: u32,
     count: u32,
-) -> Searched
+    children: &mut [u16; 16],
+    parents: &mut [u16; 16],
+    belows: &mut [u16; 16],
+    aboves: &mut [u16; 16],
+    differs: &mut [u16; 16],
+    labels: &mut [u8; 16],
+    roots: &mut u16,
+    leaves: &mut u16,
+) -> Ended
     requires { ⌜ (n ≤ 16) × (count ≤ allowance) ⌝ }
     requires { ⌜ ((S : List Fact) × Ready n S (tablesOf child parent below above differ label root leaf)) ⌝ }
-    ensures { λ r. ⌜ LineOf allowance n (tablesOf child parent below above differ label root leaf) count r ⌝ }
+    ensures { λ r. ⌜ LineOf allowance n (tablesOf child parent below above differ label root leaf) count
+        (reported r (tablesOf (now (children .exit)) (now (parents .exit)) (now (belows .exit)) (now (aboves .exit))
+        (now (differs .exit)) (now (labels .exit)) (now (roots .exit)) (now (leaves .exit)))) ⌝ }
 {
     let f = Facts {
         child,
@@ -87,17 +104,30 @@ fn line(
     };
     let next = next_step(f, n);
     let Step::Split(first, second) = next else {
-        return Searched {
+        // Out of f, which no lent table can be: stored out of the parameters, all would be copied at the start of every line.
+        let child = f.child;
+        *children = child;
+        let parent = f.parent;
+        *parents = parent;
+        let below = f.below;
+        *belows = below;
+        let above = f.above;
+        *aboves = above;
+        let differ = f.differ;
+        *differs = differ;
+        let label = f.label;
+        *labels = label;
+        *roots = root;
+        *leaves = leaf;
+        return Ended {
             end: End::Tree,
             count,
-            facts: f,
         };
     };
     if count == allowance {
-        return Searched {
+        return Ended {
             end: End::Spent,
             count,
-            facts: f,
         };
     }
     let mut used = count + 1;
@@ -109,7 +139,7 @@ fn line(
         let above = entered.facts.above;
         let differ = entered.facts.differ;
         let label = entered.facts.label;
-        let searched = line(
+        let ended = line(
             child,
             parent,
             below,
@@ -121,33 +151,40 @@ fn line(
             n,
             allowance,
             used,
+            children,
+            parents,
+            belows,
+            aboves,
+            differs,
+            labels,
+            roots,
+            leaves,
         );
-        let end = searched.end;
+        let end = ended.end;
         match end {
             End::Tree => {
-                return searched;
+                return ended;
             }
             End::Spent => {
-                return searched;
+                return ended;
             }
             End::None => {
-                used = searched.count;
+                used = ended.count;
             }
         }
     }
     if used == allowance {
-        return Searched {
+        return Ended {
             end: End::Spent,
             count: used,
-            facts: f,
         };
     }
+    used = used + 1;
     entered = enter::enter_below(f, n, second.upper, second.lower);
     if entered.clash {
-        return Searched {
+        return Ended {
             end: End::None,
-            count: used + 1,
-            facts: f,
+            count: used,
         };
     }
     let child = entered.facts.child;
@@ -167,7 +204,15 @@ fn line(
         entered.facts.leaf,
         n,
         allowance,
-        used + 1,
+        used,
+        children,
+        parents,
+        belows,
+        aboves,
+        differs,
+        labels,
+        roots,
+        leaves,
     )
 }
 
@@ -191,6 +236,14 @@ pub fn search(s: Settled, n: usize, allowance: u32) -> Searched
     let above = facts.above;
     let differ = facts.differ;
     let label = facts.label;
+    let mut children = child;
+    let mut parents = parent;
+    let mut belows = below;
+    let mut aboves = above;
+    let mut differs = differ;
+    let mut labels = label;
+    let mut roots = facts.root;
+    let mut leaves = facts.leaf;
     let r = line(
         child,
         parent,
@@ -203,10 +256,34 @@ pub fn search(s: Settled, n: usize, allowance: u32) -> Searched
         n,
         allowance,
         0,
+        &mut children,
+        &mut parents,
+        &mut belows,
+        &mut aboves,
+        &mut differs,
+        &mut labels,
+        &mut roots,
+        &mut leaves,
     );
     let end = r.end;
     match end {
-        End::Tree => r,
+        End::Tree => {
+            let tree = Facts {
+                child: children,
+                parent: parents,
+                below: belows,
+                above: aboves,
+                differ: differs,
+                root: roots,
+                label: labels,
+                leaf: leaves,
+            };
+            Searched {
+                end,
+                count: r.count,
+                facts: tree,
+            }
+        }
         End::None => Searched {
             end: End::None,
             count: r.count,

@@ -21,17 +21,17 @@ use Rattle.search.proofs.next_step.Reads as next-step-reads
 use Rattle.search.proofs.+line.{statement}
 use Rattle.search.proofs.+line.Tie.{close}
 
-abbrev μ-line : Measures 0 line-kinds.ps ℕ
+abbrev μ-line : Measures 8 line-kinds.ps ℕ
 μ-line κs a =
     let b = a .1 .1 .1 in
     let c = b .1 .1 .1 in
     missing (c .1 .1 .0) (tablesOf (a .0) (a .1 .0) (a .1 .1 .0) (b .0) (b .1 .0) (b .1 .1 .0) (c .0) (c .1 .0))
 
-abbrev line-at : ℕ → In 0 line-kinds.ps
-line-at t = and 0 line-kinds.ps (is 0 line-kinds.ps μ-line t) line.Pre
+abbrev line-at : ℕ → In 8 line-kinds.ps
+line-at t = and 8 line-kinds.ps (is 8 line-kinds.ps μ-line t) line.Pre
 
-abbrev line-below : ℕ → In 0 line-kinds.ps
-line-below t = and 0 line-kinds.ps (falls 0 line-kinds.ps _<_ μ-line t) line.Pre
+abbrev line-below : ℕ → In 8 line-kinds.ps
+line-below t = and 8 line-kinds.ps (falls 8 line-kinds.ps _<_ μ-line t) line.Pre
 
 abbrev claims : ℕ → line-lts.Claims
 claims t = (
@@ -68,30 +68,26 @@ ended t j S w =
     let left = e .before .if1 .left in
     let most = start .pre .1 .0 .1 in
     ⊎-elim
-    (λ v. subst (EndedNone A _ k _) (sym (v .10)) (none-reported A _ k _ _ (v .7 .ensures _ (l .ready (not-true _ (v .0 .taken)))) (v .9 .given .1)))
-    (λ v. subst (EndedNone A _ k _) (sym (v .1)) (none-clash A _ k _ _ l (not-false _ (v .0 .left)) (omega arith)))
+    (λ v. subst (EndedNone A _ k _) (sym (v .26)) (none-reported A _ k _ _ (v .15 .ensures _ (l .ready (not-true _ (v .0 .taken)))) (v .17 .given .1)))
+    (λ v. subst (EndedNone A _ k _) (sym (v .9)) (none-clash A _ k _ _ l (not-false _ (v .0 .left)) (omega arith)))
     (j .if2 .came)
 
--- src/lib.rt:88:9
 line-next-step-requires : (t : ℕ) → line-lts.Need-next-step-requires (claims t) (line-at t) line.Post
 line-next-step-requires t c κs = c .pre .1 .0 .0
 
--- src/lib.rt:89:21
 line-enum-known-next : (t : ℕ) → line-lts.Need-enum-known-next (claims t) (line-at t) line.Post
 line-enum-known-next t c = search needs
 
--- src/lib.rt:91:18
 line-enum-told : (t : ℕ) → line-lts.Need-enum-told (claims t) (line-at t) line.Post
 line-enum-told t c = search needs
 
--- src/lib.rt:90:9
 line-returns : (t : ℕ) → line-lts.Need-returns (claims t) (line-at t) line.Post
 line-returns t c =
-    let next = c .before .before in
+    let solved = c .before .before .before .before .before .before in
+    let next = solved .before .before in
     let start = next .before in
-    λ S w. line-solved _ _ _ S _ w (step-as (start .args .n) (tables t start) (c .enum-told .given .1) (next .next-step .ensures) S w) (start .pre .1 .0 .1) _ refl refl refl
+    λ S w. line-solved _ _ _ S _ w (step-as (start .args .n) (tables t start) (solved .enum-told .given .1) (next .next-step .ensures) S w) (start .pre .1 .0 .1) _ refl refl refl
 
--- src/lib.rt:97:9
 line-returns-2 : (t : ℕ) → line-lts.Need-returns-2 (claims t) (line-at t) line.Post
 line-returns-2 t c =
     let next = c .before .before .before .before in
@@ -99,11 +95,9 @@ line-returns-2 t c =
     let split = step-as (start .args .n) (tables t start) (c .before .before .next .given .1) (next .next-step .ensures) in
     λ S w. line-spent-first _ _ _ S _ w _ _ (split .2 S w) (c .if1 .taken) _ refl refl
 
--- src/lib.rt:103:20
 line-add-used : (t : ℕ) → line-lts.Need-add-used (claims t) (line-at t) line.Post
 line-add-used t c = search needs
 
--- src/lib.rt:104:9
 line-enter-below-requires : (t : ℕ) → line-lts.Need-enter-below-requires (claims t) (line-at t) line.Post
 line-enter-below-requires t c κs =
     let next = c .before .before .before .before in
@@ -111,10 +105,9 @@ line-enter-below-requires t c κs =
     let split = step-as (start .args .n) (tables t start) (c .before .before .next .given .1) (next .next-step .ensures) in
     (split .0 .upper, split .0 .lower, start .pre .1 .0 .0)
 
--- src/lib.rt:112:13
 line-line-requires : (t : ℕ) → line-lts.Need-line-requires (claims t) (line-at t) line.Post
 line-line-requires t c κs =
-    let entered = c .before .before .before .before .before .before in
+    let entered = c .before .before .before .before .before .before .before .before .before .before .before .before .before .before in
     let e = entered .before .before in
     let next = e .before .before .before .before .before in
     let start = next .before in
@@ -128,15 +121,13 @@ line-line-requires t c κs =
       ((start .pre .1 .0 .0, omega arith), (_, first-line _ _ _ w _ _ alternatives _ (e .enter-below .ensures) .ready free)),
     )
 
--- src/lib.rt:128:17
 line-enum-told-2 : (t : ℕ) → line-lts.Need-enum-told-2 (claims t) (line-at t) line.Post
 line-enum-told-2 t c = search needs
 
--- src/lib.rt:128:17
 line-returns-3 : (t : ℕ) → line-lts.Need-returns-3 (claims t) (line-at t) line.Post
 line-returns-3 t c =
     let searched = c .before .before in
-    let entered = searched .before .before .before .before .before .before .before in
+    let entered = searched .before .before .before .before .before .before .before .before .before .before .before .before .before .before .before in
     let e = entered .before .before in
     let next = e .before .before .before .before .before in
     let start = next .before in
@@ -147,15 +138,13 @@ line-returns-3 t c =
     let report = searched .line .ensures _ (first-line _ S _ w _ _ alternatives _ (e .enter-below .ensures) .ready free) in
     line-found _ _ _ S _ w _ _ alternatives _ report (c .enum-told2 .given .1)
 
--- src/lib.rt:131:17
 line-enum-told-3 : (t : ℕ) → line-lts.Need-enum-told-3 (claims t) (line-at t) line.Post
 line-enum-told-3 t c = search needs
 
--- src/lib.rt:131:17
 line-returns-4 : (t : ℕ) → line-lts.Need-returns-4 (claims t) (line-at t) line.Post
 line-returns-4 t c =
     let searched = c .before .before in
-    let entered = searched .before .before .before .before .before .before .before in
+    let entered = searched .before .before .before .before .before .before .before .before .before .before .before .before .before .before .before in
     let e = entered .before .before in
     let next = e .before .before .before .before .before in
     let start = next .before in
@@ -166,11 +155,9 @@ line-returns-4 t c =
     let report = searched .line .ensures _ (first-line _ S _ w _ _ alternatives _ (e .enter-below .ensures) .ready free) in
     line-spent _ _ _ S _ w _ _ alternatives _ report (c .enum-told3 .given .1)
 
--- src/lib.rt:134:17
 line-enum-told-4 : (t : ℕ) → line-lts.Need-enum-told-4 (claims t) (line-at t) line.Post
 line-enum-told-4 t c = search needs
 
--- src/lib.rt:139:9
 line-returns-5 : (t : ℕ) → line-lts.Need-returns-5 (claims t) (line-at t) line.Post
 line-returns-5 t c =
     let e = c .before .before .before in
@@ -179,81 +166,67 @@ line-returns-5 t c =
     let split = step-as (start .args .n) (tables t start) (e .before .before .before .next .given .1) (next .next-step .ensures) in
     λ S w. line-spent-second _ _ _ S _ w _ _ (split .2 S w) _ (ended t (c .before) S w) (c .if3 .taken) _ refl refl
 
--- src/lib.rt:145:5
+line-add-used-2 : (t : ℕ) → line-lts.Need-add-used-2 (claims t) (line-at t) line.Post
+line-add-used-2 t c =
+    let j = c .before .before in
+    let start = j .before .before .before .before .before .before .before .before in
+    let used = ended t j _ (start .pre .1 .1 .1) .within in
+    let left = c .before .if3 .left in
+    omega (arith, used, left, start .fits .allowance)
+
 line-enter-below-requires-2 : (t : ℕ) → line-lts.Need-enter-below-requires-2 (claims t) (line-at t) line.Post
 line-enter-below-requires-2 t c κs =
-    let e = c .before .before .before in
+    let e = c .before .before .before .before in
     let next = e .before .before .before .before .before in
     let start = next .before in
     let split = step-as (start .args .n) (tables t start) (e .before .before .before .next .given .1) (next .next-step .ensures) in
     (split .1 .upper, split .1 .lower, start .pre .1 .0 .0)
 
--- src/lib.rt:149:20
-line-add-t37 : (t : ℕ) → line-lts.Need-add-t37 (claims t) (line-at t) line.Post
-line-add-t37 t c =
-    let j = c .before .before .before .before in
-    let start = j .before .before .before .before .before .before .before .before in
-    let used = ended t j _ (start .pre .1 .1 .1) .within in
-    let left = c .before .before .before .if3 .left in
-    omega (arith, used, left, start .fits .allowance)
-
--- src/lib.rt:147:9
 line-returns-6 : (t : ℕ) → line-lts.Need-returns-6 (claims t) (line-at t) line.Post
 line-returns-6 t c =
-    let e = c .before .before .before .before .before .before in
+    let entered = c .before in
+    let j = entered .before .before .before in
+    let e = j .before .before in
     let next = e .before .before .before .before .before in
     let start = next .before in
     let split = step-as (start .args .n) (tables t start) (e .before .before .before .next .given .1) (next .next-step .ensures) in
-    let j = c .before .before .before .before in
     let used = ended t j _ (start .pre .1 .1 .1) .within in
-    let left = c .before .before .before .if3 .left in
-    let entered = c .before .before in
+    let left = entered .before .before .if3 .left in
     λ S w.
     let alternatives = split .2 S w in
     let l = second-line _ S _ w _ _ alternatives _ (entered .enter-below2 .ensures) in
-    line-second _ _ _ S _ w _ _ alternatives _ (ended t j S w) _ (line-clash _ _ _ _ _ l (c .before .if4 .taken) (omega (arith, used, left)) _ refl refl)
+    line-second _ _ _ S _ w _ _ alternatives _ (ended t j S w) _ (line-clash _ _ _ _ _ l (c .if4 .taken) (omega (arith, used, left)) _ refl refl)
 
--- src/lib.rt:170:9
-line-add-line : (t : ℕ) → line-lts.Need-add-line (claims t) (line-at t) line.Post
-line-add-line t c =
-    let clear = c .before .before .before .before .before .before .before in
-    let j = clear .before .before .before in
-    let start = j .before .before .before .before .before .before .before .before in
-    let used = ended t j _ (start .pre .1 .1 .1) .within in
-    let left = clear .before .before .if3 .left in
-    omega (arith, used, left, start .fits .allowance)
-
--- src/lib.rt:159:5
 line-line-requires-2 : (t : ℕ) → line-lts.Need-line-requires-2 (claims t) (line-at t) line.Post
 line-line-requires-2 t c κs =
-    let clear = c .before .before .before .before .before .before .before in
-    let e = clear .before .before .before .before .before in
+    let clear = c .before .before .before .before .before .before .before .before .before .before .before .before .before .before in
+    let entered = clear .before in
+    let j = entered .before .before .before in
+    let e = j .before .before in
     let next = e .before .before .before .before .before in
     let start = next .before in
     let split = step-as (start .args .n) (tables t start) (e .before .before .before .next .given .1) (next .next-step .ensures) in
-    let j = clear .before .before .before in
     let w = start .pre .1 .1 .1 in
     let used = ended t j _ w .within in
-    let left = clear .before .before .if3 .left in
-    let entered = clear .before in
+    let left = entered .before .before .if3 .left in
     let alternatives = split .2 _ w in (
       subst (λ (m : ℕ). missing (start .args .n) (entered .enter-below2 .result .facts) < m) (start .pre .0)
           (second-falls _ _ _ w _ _ alternatives _ (entered .enter-below2 .ensures) (clear .if4 .left)),
       ((start .pre .1 .0 .0, omega (arith, used, left)), (_, second-line _ _ _ w _ _ alternatives _ (entered .enter-below2 .ensures) .ready (clear .if4 .left))),
     )
 
--- src/lib.rt:61:1
 line-returns-7 : (t : ℕ) → line-lts.Need-returns-7 (claims t) (line-at t) line.Post
 line-returns-7 t c =
-    let clear = c .before .before .before .before .before .before .before .before in
-    let e = clear .before .before .before .before .before in
+    let clear = c .before .before .before .before .before .before .before .before .before .before .before .before .before .before .before in
+    let entered = clear .before in
+    let j = entered .before .before .before in
+    let e = j .before .before in
     let next = e .before .before .before .before .before in
     let start = next .before in
     let split = step-as (start .args .n) (tables t start) (e .before .before .before .next .given .1) (next .next-step .ensures) in
-    let entered = clear .before in
     λ S w.
     let alternatives = split .2 S w in
-    line-second _ _ _ S _ w _ _ alternatives _ (ended t (entered .before .before) S w) _
+    line-second _ _ _ S _ w _ _ alternatives _ (ended t j S w) _
     (c .line2 .ensures _ (second-line _ S _ w _ _ alternatives _ (entered .enter-below2 .ensures) .ready (clear .if4 .left)))
 
 pub +line-spec : {M : Type 1} → statement M
@@ -274,9 +247,8 @@ pub +line-spec : {M : Type 1} → statement M
     (line-returns-4 t)
     (line-enum-told-4 t)
     (line-returns-5 t)
+    (line-add-used-2 t)
     (line-enter-below-requires-2 t)
-    (line-add-t37 t)
     (line-returns-6 t)
-    (line-add-line t)
     (line-line-requires-2 t)
     (line-returns-7 t)

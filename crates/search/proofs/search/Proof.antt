@@ -11,7 +11,7 @@ returns c = searched-clash _ _ _ (c .if1 .taken)
 
 line-requires : tie.Need-line-requires
 line-requires c κs =
-    let free = c .before .before .before .before .before .before in
+    let free = c .before .before .before .before .before .before .before .before .before .before .before .before .before .before in
     let start = free .before .before in
     ((start .pre .0, omega arith), (_, start .pre .1 .1 .ready (free .if1 .left)))
 
@@ -27,19 +27,19 @@ enum-told-3 c = search needs
 returns-2 : tie.Need-returns-2
 returns-2 c =
     let searched = c .before .before in
-    let free = searched .before .before .before .before .before .before .before in
+    let free = searched .before .before .before .before .before .before .before .before .before .before .before .before .before .before .before in
     searched-tree _ _ (free .before .before .args .s) (free .if1 .left) _ (searched .line .ensures) (c .enum-told .given .1)
 
 returns-3 : tie.Need-returns-3
 returns-3 c =
     let searched = c .before .before in
-    let free = searched .before .before .before .before .before .before .before in
+    let free = searched .before .before .before .before .before .before .before .before .before .before .before .before .before .before .before in
     searched-other _ _ (free .before .before .args .s) (free .if1 .left) _ (searched .line .ensures) _ (c .enum-told2 .given .1) none-not-tree
 
 returns-4 : tie.Need-returns-4
 returns-4 c =
     let searched = c .before .before in
-    let free = searched .before .before .before .before .before .before .before in
+    let free = searched .before .before .before .before .before .before .before .before .before .before .before .before .before .before .before in
     searched-other _ _ (free .before .before .args .s) (free .if1 .left) _ (searched .line .ensures) _ (c .enum-told3 .given .1) spent-not-tree
 
 pub search-spec : {M : Type 1} → statement M
