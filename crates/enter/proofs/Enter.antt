@@ -174,13 +174,14 @@ pub entered-well : (n : ℕ) (f : Facts) (a b : ℕ) (g : Facts) → ((S : List 
 entered-well n f a b g h = record { clashes = λ e. absurd (false≢true e); kept = λ e. absurd (false≢true e); settles = λ e. h }
 
 -- where the test says that b is at or above a, or that a leaf is
-pub entered-same : (n : ℕ) (f : Facts) (a b : ℕ) (r : Result) → n ≤ 16 → a < n → row (f .above) a < 65536
-    → (p q : Bool) → p ≡ bit (row (f .below) b) a → q ≡ meets (row (f .above) a) (f .leaf) → (p || q) ≡ true → MergedOf n f a b r → EnteredOf n f a b r
-entered-same n f a b r few ha small p q d e t m = record {
-  clashes = λ c S w. m .clashes c S w (back S w);
-  kept = m .kept;
-  settles = λ c S w. m .settles c S w (back S w);
-}
-  where
-    back : (S : List Fact) → Ready n S f → Settled n (below a b ∷ S) (below b a)
-    back S w = back-tested n S f a b few ha small w (⊎-elim (λ y. inl (sym d ∙ y)) (λ y. inr (sym e ∙ y)) (or-yes p q t))
+module _ (n : ℕ) (f : Facts) (a b : ℕ) (few : n ≤ 16) (ha : a < n) (small : row (f .above) a < 65536)
+    (p q : Bool) (d : p ≡ bit (row (f .below) b) a) (e : q ≡ meets (row (f .above) a) (f .leaf)) (t : (p || q) ≡ true) where
+  pub follows : (S : List Fact) → Ready n S f → Settled n (below a b ∷ S) (below b a)
+  follows S w = back-tested n S f a b few ha small w (⊎-elim (λ y. inl (sym d ∙ y)) (λ y. inr (sym e ∙ y)) (or-yes p q t))
+
+  pub entered-same : (r : Result) → MergedOf n f a b r → EnteredOf n f a b r
+  entered-same r m = record {
+    clashes = λ c S w. m .clashes c S w (follows S w);
+    kept = m .kept;
+    settles = λ c S w. m .settles c S w (follows S w);
+  }

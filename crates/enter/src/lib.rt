@@ -1,5 +1,8 @@
 // Entering below(a, b) into settled tables.
+ghost use mathlib.Core.List.{List};
 ghost use Prim.Native.Nat.{_<_, _≤_};
+ghost use Rattle.meaning.specs.Constraint.{Fact};
+ghost use Rattle.tables.specs.Tables.{Ready};
 ghost use Rattle.enter.specs.Entered.{EnteredOf};
 use ids::Var;
 use tables::Facts;
@@ -9,6 +12,7 @@ use tables::Settled;
 // below(u, v) with u at or above a and v at or below b. Elsewhere a and b become the same.
 pub fn enter_below(f: Facts, n: usize, a: Var, b: Var) -> Settled
     requires { ⌜ (a .0 < n) × (b .0 < n) × (n ≤ 16) ⌝ }
+    requires { ⌜ ((S : List Fact) × Ready n S f) ⌝ }
     ensures { λ r. ⌜ EnteredOf n f (a .0) (b .0) r ⌝ }
 {
     let i = a.0 as usize;

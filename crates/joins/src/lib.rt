@@ -1,5 +1,8 @@
 // The first join of a settled set, in the fixed order: parent joins, then chain joins; the smallest z, then x, then y.
+ghost use mathlib.Core.List.{List};
 ghost use Prim.Native.Nat.{_≤_};
+ghost use Rattle.meaning.specs.Constraint.{Fact};
+ghost use Rattle.tables.specs.Tables.{Ready};
 ghost use Rattle.joins.specs.Found.{Apart, ChainIn, FoundIn, FoundOf};
 use ids::Var;
 use tables::Facts;
@@ -69,6 +72,7 @@ fn join_in(parent: [u16; 16], below: [u16; 16], above: [u16; 16], n: usize) -> F
 // The rows that decide go on alone: a compiler that takes the body of a callee into its caller copies what the callee was passed.
 pub fn first_join(f: Facts, n: usize) -> Found
     requires { ⌜ n ≤ 16 ⌝ }
+    requires { ⌜ ((S : List Fact) × Ready n S f) ⌝ }
     ensures { λ r. ⌜ FoundOf n f r ⌝ }
 {
     let parent = f.parent;

@@ -66,6 +66,10 @@ pub record RoundOf (f : Facts) (x : ℕ) (r : Round) : Type 0 where
   -- with each group that is merged below lacks less
   pub falls : r .clash ≡ false → Gap (f .below) x → lacking (r .facts .below) < lacking (f .below)
 
+-- settled tables of some S, where below(b,a) follows from below(a,b)
+abbrev pub Joining : ℕ → Facts → Var → Var → Type 0
+Joining n f a b = (S : List Fact) × Ready n S f × Settled n (below a b ∷ S) (below b a)
+
 -- below(a,b) entered, where below(b,a) follows from it: below(b,a) is settled already, or a leaf is at or above a
 pub record MergedOf (n : ℕ) (f : Facts) (a b : Var) (r : Result) : Type 0 where
   pub clashes : r .clash ≡ true → (S : List Fact) → Ready n S f → Settled n (below a b ∷ S) (below b a) → Clash n (below a b ∷ S)

@@ -3,7 +3,7 @@ ghost use Prim.Native.Nat.{_<_, _≤_, _^_};
 ghost use lib.Bits.{bitOr};
 ghost use Rattle.tables.specs.Rows.{Union};
 ghost use Rattle.merge.specs.Rows.{Apart, LabelOf, TwoLabels, Painted};
-ghost use Rattle.merge.specs.Merging.{RoundOf, MergedOf};
+ghost use Rattle.merge.specs.Merging.{RoundOf, Joining, MergedOf};
 use ids::Var;
 use tables::Facts;
 use tables::Settled;
@@ -172,6 +172,7 @@ fn unify(f: Facts, x: u16, lower: u16, upper: u16) -> Round
 // Settled tables with below(a, b), settled again, where below(b, a) follows from it. With a clash they come back as they went in.
 pub fn enter_same(f: Facts, n: usize, a: Var, b: Var) -> Settled
     requires { ⌜ (a .0 < n) × (b .0 < n) × (n ≤ 16) ⌝ }
+    requires { ⌜ Joining n f (a .0) (b .0) ⌝ }
     ensures { λ r. ⌜ MergedOf n f (a .0) (b .0) r ⌝ }
 {
     let i = a.0 as usize;

@@ -40,6 +40,7 @@ enum Step {
 // The second alternative of a parent join is same(x, z), where below(x, z) holds already.
 fn next_step(f: Facts, n: usize) -> Step
     requires { ⌜ n ≤ 16 ⌝ }
+    requires { ⌜ ((S : List Fact) × Ready n S f) ⌝ }
     ensures { λ r. ⌜ StepOf n f r ⌝ }
 {
     let found = joins::first_join(f, n);

@@ -1,8 +1,10 @@
 // Settling: the tables of rows, closed under the rules of document 01 by passes over x, y and z.
 ghost use mathlib.Core.Path.{_≡_};
+ghost use mathlib.Core.List.{List};
+ghost use Rattle.meaning.specs.Constraint.{Fact};
+ghost use Rattle.tables.specs.Tables.{Seeded};
 ghost use Prim.Native.Nat.{_<_, _≤_};
 ghost use Rattle.meaning.specs.Finite.{pick};
-ghost use Rattle.tables.specs.Tables.{row};
 ghost use lib.Dec.{eqb};
 ghost use Rattle.settle.specs.Rows.{firstRow, clashing, Common, Grouped, Chained};
 ghost use Rattle.settle.specs.Pass.{PassOf};
@@ -179,6 +181,7 @@ fn pass(f: Facts, n: usize) -> Passed
 // The tables settled: passes until nothing else becomes the same. With a clash the tables are those that came in.
 pub fn settle(f: Facts, n: usize) -> Settled
     requires { ⌜ n ≤ 16 ⌝ }
+    requires { ⌜ ((S : List Fact) × Seeded n S f) ⌝ }
     ensures { λ r. ⌜ SettledOf n f r ⌝ }
 {
     let mut g = f;

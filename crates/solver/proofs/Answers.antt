@@ -86,11 +86,11 @@ module _ (file : List ℕ) (small : (i : ℕ) → getD file i 0 < 256) (n : ℕ)
       ready = λ q. let z : _≡_ {A = ℕ} 0 1 = cc in absurd (omega arith);
     }
 
+    pub seeds-seeded : r .clash ≡ false → Seeded n (factsOf (constraintsIn file)) (r .facts)
+    seeds-seeded d = subst (λ (m : ℕ). Seeded m (factsOf (constraintsIn file)) (r .facts)) vars-is (w .seeded d)
+
     pub seeds-settled : r .clash ≡ false → (s : Settled) → SettledOf n (r .facts) s → Line n (factsOf (constraintsIn file)) s
-    seeds-settled d s v = record { inside = inside; clashes = λ q. v .clashes q _ seeded; ready = λ q. v .settles q _ seeded }
-      where
-        seeded : Seeded n (factsOf (constraintsIn file)) (r .facts)
-        seeded = subst (λ (m : ℕ). Seeded m (factsOf (constraintsIn file)) (r .facts)) vars-is (w .seeded d)
+    seeds-settled d s v = record { inside = inside; clashes = λ q. v .clashes q _ (seeds-seeded d); ready = λ q. v .settles q _ (seeds-seeded d) }
 
 -- ---- the verdict and the buffer of an answer
 

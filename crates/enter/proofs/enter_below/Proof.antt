@@ -8,7 +8,7 @@ use mathlib.Core.Bool.{false≢true}
 use borrow.Author.Needs.{needs}
 use Rattle.tables.specs.Tables.{has}
 use Rattle.tables.proofs.Bits.{meets-in}
-use Rattle.enter.proofs.Enter.{raised-ready, entered-well, entered-same}
+use Rattle.enter.proofs.Enter.{raised-ready, entered-well, follows, entered-same}
 use Rattle.tables.proofs.Tested.{or-no}
 use Rattle.enter.proofs.enter_below.Statement.{statement}
 use Rattle.enter.proofs.enter_below.Tie as tie
@@ -41,14 +41,17 @@ meet-requires : tie.Need-meet-requires
 meet-requires c κs = search needs
 
 enter-same-requires : tie.Need-enter-same-requires
-enter-same-requires c κs = search needs
+enter-same-requires c κs =
+    let m = c .before in
+    let s = m .before .before .before .before .before .before in
+    (s .pre .0, (_, s .pre .1 .1, follows _ _ _ _ (s .pre .0 .2) (s .pre .0 .0) (above-small s _) _ _ (m .before .has .ensures) (m .meet .ensures) (c .if1 .taken) _ (s .pre .1 .1)))
 
 returns : tie.Need-returns
 returns c =
     let test = c .before in
     let m = test .before in
     let s = m .before .before .before .before .before .before in
-    entered-same _ _ _ _ _ (s .pre .2) (s .pre .0) (above-small s _) _ _ (m .before .has .ensures) (m .meet .ensures) (test .if1 .taken) (c .enter-same .ensures)
+    entered-same _ _ _ _ (s .pre .0 .2) (s .pre .0 .0) (above-small s _) _ _ (m .before .has .ensures) (m .meet .ensures) (test .if1 .taken) _ (c .enter-same .ensures)
 
 raise-requires : tie.Need-raise-requires
 raise-requires c κs = search needs
@@ -62,7 +65,7 @@ returns-2 c =
     let m = c .before .before .before in
     let s = m .before .before .before .before .before .before in
     let o = or-no _ _ (c .before .before .if1 .left) in
-    entered-well _ _ _ _ _ (λ S q. raised-ready _ (s .pre .2) S _ _ _ (s .pre .0) (s .pre .1) q _ _ (c .before .raise .ensures) (c .raise2 .ensures)
+    entered-well _ _ _ _ _ (λ S q. raised-ready _ (s .pre .0 .2) S _ _ _ (s .pre .0 .0) (s .pre .0 .1) q _ _ (c .before .raise .ensures) (c .raise2 .ensures)
     (λ u. false≢true (sym (o .0) ∙ m .before .has .ensures ∙ u))
     (λ k u v. false≢true (sym (o .1) ∙ m .meet .ensures ∙ meets-in _ _ k u v)))
 

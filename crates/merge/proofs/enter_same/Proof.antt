@@ -54,7 +54,7 @@ returns c =
     let l = u .before .before in
     let a = l .before .before .before in
     let s = a .before .before .before .before .before in
-    merged-clash _ _ _ _ (s .pre .2) (s .pre .0) (s .pre .1) _ (a .apart-two .ensures) (λ T p. u .unify .ensures .clashes (c .if1 .taken) _ T (l .loop .inv .0 T p))
+    merged-clash _ _ _ _ (s .pre .0 .2) (s .pre .0 .0) (s .pre .0 .1) _ (a .apart-two .ensures) (λ T p. u .unify .ensures .clashes (c .if1 .taken) _ T (l .loop .inv .0 T p))
 
 union-rows-requires : tie.Need-union-rows-requires Inv-loop μ-loop
 union-rows-requires c κs = search needs
@@ -79,7 +79,7 @@ returns-2 c =
     let l = c .before in
     let a = l .before .before .before in
     let s = a .before .before .before .before .before in
-    merged-well _ _ _ _ (s .pre .2) (s .pre .0) (s .pre .1) _ (a .apart-two .ensures)
+    merged-well _ _ _ _ (s .pre .0 .2) (s .pre .0 .0) (s .pre .0 .1) _ (a .apart-two .ensures)
     _ (λ T p. subst (λ (k : ℕ). Pending (s .args .n) T k (l .loop .g)) (c .loop-test .left) (l .loop .inv .0 T p))
 
 pub enter-same-spec : {M : Type 1} → statement M

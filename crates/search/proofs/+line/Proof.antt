@@ -73,7 +73,7 @@ ended t j S w =
     (j .if2 .came)
 
 line-next-step-requires : (t : ℕ) → line-lts.Need-next-step-requires (claims t) (line-at t) line.Post
-line-next-step-requires t c κs = c .pre .1 .0 .0
+line-next-step-requires t c κs = (c .pre .1 .0 .0, c .pre .1 .1)
 
 line-enum-known-next : (t : ℕ) → line-lts.Need-enum-known-next (claims t) (line-at t) line.Post
 line-enum-known-next t c = search needs
@@ -103,7 +103,7 @@ line-enter-below-requires t c κs =
     let next = c .before .before .before .before in
     let start = next .before in
     let split = step-as (start .args .n) (tables t start) (c .before .before .next .given .1) (next .next-step .ensures) in
-    (split .0 .upper, split .0 .lower, start .pre .1 .0 .0)
+    ((split .0 .upper, split .0 .lower, start .pre .1 .0 .0), start .pre .1 .1)
 
 line-line-requires : (t : ℕ) → line-lts.Need-line-requires (claims t) (line-at t) line.Post
 line-line-requires t c κs =
@@ -180,7 +180,7 @@ line-enter-below-requires-2 t c κs =
     let next = e .before .before .before .before .before in
     let start = next .before in
     let split = step-as (start .args .n) (tables t start) (e .before .before .before .next .given .1) (next .next-step .ensures) in
-    (split .1 .upper, split .1 .lower, start .pre .1 .0 .0)
+    ((split .1 .upper, split .1 .lower, start .pre .1 .0 .0), start .pre .1 .1)
 
 line-returns-6 : (t : ℕ) → line-lts.Need-returns-6 (claims t) (line-at t) line.Post
 line-returns-6 t c =

@@ -2,35 +2,25 @@ use Rattle.search.proofs.Entering.{step-solved, step-parent, step-chain
 use borrow.Author.Needs.{needs}
 use Rattle.search.proofs.next_step.Statement.{statement}
 use Rattle.search.proofs.next_step.Tie as tie
-use Rattle.search.proofs.next_step.Reads as reads
-use Rattle.search.proofs.next_step.Lts as lts
-use Rattle.joins.proofs.first_join.Reads as first-join-reads
 
--- src/lib.rt:44:9
 first-join-requires : tie.Need-first-join-requires
 first-join-requires c κs = search needs
 
--- src/lib.rt:46:27
 enum-told : tie.Need-enum-told
 enum-told c = search needs
 
--- src/lib.rt:47:23
 enum-known-found : tie.Need-enum-known-found
 enum-known-found c = search needs
 
--- src/lib.rt:48:25
 enum-known-found-2 : tie.Need-enum-known-found-2
 enum-known-found-2 c = search needs
 
--- src/lib.rt:40:1
 returns : tie.Need-returns
 returns c = step-solved _ _ _ (c .before .before .first-join .ensures) (c .enum-told .given .1)
 
--- src/lib.rt:40:1
 returns-2 : tie.Need-returns-2
 returns-2 c = step-parent _ _ _ _ _ _ (c .before .before .before .first-join .ensures) (c .before .found .given .1)
 
--- src/lib.rt:40:1
 returns-3 : tie.Need-returns-3
 returns-3 c = step-chain _ _ _ _ _ _ (c .before .before .before .first-join .ensures) (c .before .found2 .given .1)
 

@@ -1,6 +1,8 @@
 -- The first line is the settled set of the given facts, or their clash.
+use Prim.Native.Nat.{ℕ, _<_}
 use native.Mathlib.Omega.{arith}
-use Rattle.solver.proofs.Answers.{variables-few, seeds-clash, seeds-settled}
+use lib.ListN.{getD}
+use Rattle.solver.proofs.Answers.{variables-few, seeds-clash, seeds-seeded, seeds-settled}
 use borrow.Author.Needs.{needs}
 use Rattle.solver.proofs.first_line.Statement.{statement}
 use Rattle.solver.proofs.first_line.Tie as tie
@@ -23,8 +25,13 @@ returns c =
 -- src/lib.rt:34:5
 settle-requires : tie.Need-settle-requires
 settle-requires c κs =
-    let known = c .before .before .before in
-    variables-few (known .before .args .constraints .now) (λ i. omega (arith, known .shared-slice-known .given i)) _ (known .before .pre)
+    let seeded = c .before .before in
+    let known = seeded .before in
+    let start = known .before in
+    let small : (i : ℕ) → getD (start .args .constraints .now) i 0 < 256 = λ i. omega (arith, known .shared-slice-known .given i) in (
+      variables-few (start .args .constraints .now) small _ (start .pre),
+      (_, seeds-seeded (start .args .constraints .now) small _ (start .pre) _ (seeded .seed .ensures) (c .if1 .left)),
+    )
 
 -- src/lib.rt:25:1
 returns-2 : tie.Need-returns-2
