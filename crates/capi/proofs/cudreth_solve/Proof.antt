@@ -6,98 +6,73 @@ use Rattle.capi.proofs.Solved.{number, solves}
 use borrow.Author.Needs.{needs}
 use Rattle.capi.proofs.cudreth_solve.Statement.{statement}
 use Rattle.capi.proofs.cudreth_solve.Tie as tie
-use Rattle.capi.proofs.cudreth_solve.Reads as reads
-use Rattle.capi.proofs.cudreth_solve.Lts as lts
-use Rattle.solver.proofs.solve.Reads as solve-reads
 
--- src/lib.rt:13:9
 solve-requires : tie.Need-solve-requires
 solve-requires c κs = search needs
 
--- src/lib.rt:15:33
 enum-known-verdict : tie.Need-enum-known-verdict
 enum-known-verdict c = search needs
 
--- src/lib.rt:15:51
 mul-result : tie.Need-mul-result
 mul-result c = omega (arith, bytes-few _ _ _ _ _ (c .before .before .before .before .before .solve .ensures) (c .before .verdict .given .1))
 
--- src/lib.rt:15:82
 cast-result : tie.Need-cast-result
 cast-result c = search needs
 
--- src/lib.rt:15:51
 add-result : tie.Need-add-result
 add-result c = omega (arith, bytes-few _ _ _ _ _ (c .before .before .before .before .before .solve .ensures) (c .before .verdict .given .1))
 
--- src/lib.rt:16:33
 enum-known-verdict-2 : tie.Need-enum-known-verdict-2
 enum-known-verdict-2 c = search needs
 
--- src/lib.rt:16:65
 cast-result-2 : tie.Need-cast-result-2
 cast-result-2 c = search needs
 
--- src/lib.rt:16:44
 add-result-2 : tie.Need-add-result-2
 add-result-2 c = search needs
 
--- src/lib.rt:17:34
 enum-known-verdict-3 : tie.Need-enum-known-verdict-3
 enum-known-verdict-3 c = search needs
 
--- src/lib.rt:17:66
 cast-result-3 : tie.Need-cast-result-3
 cast-result-3 c = search needs
 
--- src/lib.rt:17:45
 add-result-3 : tie.Need-add-result-3
 add-result-3 c = search needs
 
--- src/lib.rt:18:34
 enum-known-verdict-4 : tie.Need-enum-known-verdict-4
 enum-known-verdict-4 c = search needs
 
--- src/lib.rt:18:68
 cast-result-4 : tie.Need-cast-result-4
 cast-result-4 c = search needs
 
--- src/lib.rt:18:47
 add-result-4 : tie.Need-add-result-4
 add-result-4 c = search needs
 
--- src/lib.rt:9:1
 same-length : tie.Need-same-length
 same-length c = search needs
 
--- src/lib.rt:9:1
 returns : tie.Need-returns
 unfolding number
 returns c = solves _ _ _ _ _ (c .before .before .before .before .before .solve .ensures) (c .before .verdict .given .1) _ refl
 
--- src/lib.rt:9:1
 same-length-2 : tie.Need-same-length-2
 same-length-2 c = search needs
 
--- src/lib.rt:9:1
 returns-2 : tie.Need-returns-2
 unfolding number
 returns-2 c = solves _ _ _ _ _ (c .before .before .before .before .before .solve .ensures) (c .before .verdict2 .given .1) _ refl
 
--- src/lib.rt:9:1
 same-length-3 : tie.Need-same-length-3
 same-length-3 c = search needs
 
--- src/lib.rt:9:1
 returns-3 : tie.Need-returns-3
 unfolding number
 returns-3 c = solves _ _ _ _ _ (c .before .before .before .before .before .solve .ensures) (c .before .verdict3 .given .1) _ refl
 
--- src/lib.rt:9:1
 same-length-4 : tie.Need-same-length-4
 same-length-4 c = search needs
 
--- src/lib.rt:9:1
 returns-4 : tie.Need-returns-4
 unfolding number
 returns-4 c = solves _ _ _ _ _ (c .before .before .before .before .before .solve .ensures) (c .before .verdict4 .given .1) _ refl

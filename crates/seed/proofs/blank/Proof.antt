@@ -2,10 +2,7 @@ use mathlib.Core.Path.{refl}
 use Rattle.seed.specs.Seeds.{noFacts}
 use Rattle.seed.proofs.blank.Statement.{statement}
 use Rattle.seed.proofs.blank.Tie as tie
-use Rattle.seed.proofs.blank.Reads as reads
-use Rattle.seed.proofs.blank.Lts as lts
 
--- src/lib.rt:51:1
 returns : tie.Need-returns
 unfolding noFacts
 returns c = refl

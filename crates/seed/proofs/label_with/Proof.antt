@@ -2,15 +2,11 @@ use Rattle.tables.proofs.Helpers.{pick-on, pick-off}
 use Rattle.seed.specs.Seeds.{labelled}
 use Rattle.seed.proofs.label_with.Statement.{statement}
 use Rattle.seed.proofs.label_with.Tie as tie
-use Rattle.seed.proofs.label_with.Reads as reads
-use Rattle.seed.proofs.label_with.Lts as lts
 
--- src/lib.rt:33:9
 returns : tie.Need-returns
 unfolding labelled
 returns c = pick-on _ _ _ (c .if1 .taken)
 
--- src/lib.rt:29:1
 returns-2 : tie.Need-returns-2
 unfolding labelled
 returns-2 c = pick-off _ _ _ (c .if1 .left)

@@ -7,10 +7,7 @@ use Rattle.seed.proofs.Tests.{and-assoc}
 use Rattle.seed.specs.Seeds.{clashing}
 use Rattle.seed.proofs.labels_clash.Statement.{statement}
 use Rattle.seed.proofs.labels_clash.Tie as tie
-use Rattle.seed.proofs.labels_clash.Reads as reads
-use Rattle.seed.proofs.labels_clash.Lts as lts
 
--- src/lib.rt:38:1
 returns : tie.Need-returns
 unfolding clashing
 returns c =

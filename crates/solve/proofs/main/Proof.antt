@@ -11,12 +11,6 @@ use Rattle.solver.proofs.Short.{bytes-few}
 use borrow.Author.Needs.{needs}
 use Rattle.solve.proofs.main.Statement.{statement}
 use Rattle.solve.proofs.main.Tie as tie
-use Rattle.solve.proofs.main.Reads as reads
-use Rattle.solve.proofs.main.Lts as lts
-use Rattle.reading.proofs.fill.Reads as fill-reads
-use Rattle.solve.proofs.print_first.Reads as print-first-reads
-use Rattle.solve.proofs.print_records.Reads as print-records-reads
-use Rattle.solver.proofs.solve.Reads as solve-reads
 
 read-counts : (c : tie.After-filled) → Counts (c .filled .given .0 .0) (c .before .before .before .fill .last .1 .1 .0)
 read-counts c = subst (λ (f : Filled). Fills f (c .before .before .before .fill .last .1 .1 .0)) (c .filled .given .1) (c .before .before .before .fill .ensures)
@@ -26,135 +20,102 @@ within c =
     let w = c .before .before .before .solve .ensures in
     omega (arith, bytes-few _ _ _ _ _ w (c .verdict .given .1), w .promise .same-length)
 
--- src/main.rt:44:46
 slice-aggregate-fill : tie.Need-slice-aggregate-fill
 slice-aggregate-fill c = search needs
 
--- src/main.rt:44:65
 slice-aggregate-fill-2 : tie.Need-slice-aggregate-fill-2
 slice-aggregate-fill-2 c = search needs
 
--- src/main.rt:44:9
 fill-requires : tie.Need-fill-requires
 fill-requires c κs = search needs
 
--- src/main.rt:45:23
 enum-known-filled : tie.Need-enum-known-filled
 enum-known-filled c = search needs
 
--- src/main.rt:46:9
 enum-told : tie.Need-enum-told
 enum-told c = search needs
 
--- src/main.rt:46:9
 returns : tie.Need-returns
 returns c = search needs
 
--- src/main.rt:49:33
 array-share-prefix-constraints : tie.Need-array-share-prefix-constraints
 array-share-prefix-constraints c = read-counts (c .before) .0
 
--- src/main.rt:49:33
 slice-aggregate-solve : tie.Need-slice-aggregate-solve
 slice-aggregate-solve c = read-counts (c .before .before) .1
 
--- src/main.rt:49:52
 slice-aggregate-solve-2 : tie.Need-slice-aggregate-solve-2
 slice-aggregate-solve-2 c = search needs
 
--- src/main.rt:49:9
 solve-requires : tie.Need-solve-requires
 solve-requires c κs = search needs
 
--- src/main.rt:51:25
 enum-known-verdict : tie.Need-enum-known-verdict
 enum-known-verdict c = search needs
 
--- src/main.rt:52:25
 slice-aggregate-print-first : tie.Need-slice-aggregate-print-first
 slice-aggregate-print-first c = search needs
 
--- src/main.rt:52:35
 cast-print-first : tie.Need-cast-print-first
 cast-print-first c = search needs
 
--- src/main.rt:52:13
 print-first-requires : tie.Need-print-first-requires
 print-first-requires c κs = search needs
 
--- src/main.rt:53:27
 array-share-prefix-answer : tie.Need-array-share-prefix-answer
 array-share-prefix-answer c = within (c .before .before .before)
 
--- src/main.rt:53:27
 slice-aggregate-print-records : tie.Need-slice-aggregate-print-records
 slice-aggregate-print-records c = sym (length-take-le _ _ (within (c .before .before .before .before)))
 
--- src/main.rt:53:13
 print-records-requires : tie.Need-print-records-requires
 print-records-requires c κs = search needs
 
--- src/main.rt:55:25
 enum-known-verdict-2 : tie.Need-enum-known-verdict-2
 enum-known-verdict-2 c = search needs
 
--- src/main.rt:55:48
 slice-aggregate-print-first-2 : tie.Need-slice-aggregate-print-first-2
 slice-aggregate-print-first-2 c = search needs
 
--- src/main.rt:55:58
 cast-print-first-2 : tie.Need-cast-print-first-2
 cast-print-first-2 c = search needs
 
--- src/main.rt:55:36
 print-first-requires-2 : tie.Need-print-first-requires-2
 print-first-requires-2 c κs = search needs
 
--- src/main.rt:56:26
 enum-known-verdict-3 : tie.Need-enum-known-verdict-3
 enum-known-verdict-3 c = search needs
 
--- src/main.rt:56:49
 slice-aggregate-print-first-3 : tie.Need-slice-aggregate-print-first-3
 slice-aggregate-print-first-3 c = search needs
 
--- src/main.rt:56:60
 cast-print-first-3 : tie.Need-cast-print-first-3
 cast-print-first-3 c = search needs
 
--- src/main.rt:56:37
 print-first-requires-3 : tie.Need-print-first-requires-3
 print-first-requires-3 c κs = search needs
 
--- src/main.rt:57:26
 enum-known-verdict-4 : tie.Need-enum-known-verdict-4
 enum-known-verdict-4 c = search needs
 
--- src/main.rt:57:51
 slice-aggregate-print-first-4 : tie.Need-slice-aggregate-print-first-4
 slice-aggregate-print-first-4 c = search needs
 
--- src/main.rt:57:64
 cast-print-first-4 : tie.Need-cast-print-first-4
 cast-print-first-4 c = search needs
 
--- src/main.rt:57:39
 print-first-requires-4 : tie.Need-print-first-requires-4
 print-first-requires-4 c κs = search needs
 
--- src/main.rt:41:1
 returns-2 : tie.Need-returns-2
 returns-2 c = search needs
 
--- src/main.rt:41:1
 returns-3 : tie.Need-returns-3
 returns-3 c = search needs
 
--- src/main.rt:41:1
 returns-4 : tie.Need-returns-4
 returns-4 c = search needs
 
--- src/main.rt:41:1
 returns-5 : tie.Need-returns-5
 returns-5 c = search needs
 

@@ -4,9 +4,6 @@ use lib.ListN.{length}
 use borrow.Author.Needs.{needs}
 use Rattle.solve.proofs.print_records.Statement.{statement}
 use Rattle.solve.proofs.print_records.Tie as tie
-use Rattle.solve.proofs.print_records.Reads as reads
-use Rattle.solve.proofs.print_records.Lts as lts
-use Rattle.solve.proofs.print_record.Reads as print-record-reads
 
 abbrev Inv-loop : tie.InvT-loop
 Inv-loop answer i₀ i-end i = (i ≤ i-end) × (i-end ≡ length answer / 4)
@@ -14,71 +11,54 @@ Inv-loop answer i₀ i-end i = (i ≤ i-end) × (i-end ≡ length answer / 4)
 abbrev μ-loop : tie.MeasureT-loop
 μ-loop answer i₀ i-end i = i-end - i
 
--- src/main.rt:36:5
 loop-holds : tie.Need-loop-holds Inv-loop μ-loop
 loop-holds c = search needs
 
--- src/main.rt:37:29
 mul-print-record : tie.Need-mul-print-record Inv-loop μ-loop
 mul-print-record c = search needs
 
--- src/main.rt:37:22
 shared-slice-read-print-record : tie.Need-shared-slice-read-print-record Inv-loop μ-loop
 shared-slice-read-print-record c = search needs
 
--- src/main.rt:37:44
 mul-print-record-2 : tie.Need-mul-print-record-2 Inv-loop μ-loop
 mul-print-record-2 c = search needs
 
--- src/main.rt:37:44
 add-print-record : tie.Need-add-print-record Inv-loop μ-loop
 add-print-record c = search needs
 
--- src/main.rt:37:37
 shared-slice-read-print-record-2 : tie.Need-shared-slice-read-print-record-2 Inv-loop μ-loop
 shared-slice-read-print-record-2 c = search needs
 
--- src/main.rt:37:63
 mul-print-record-3 : tie.Need-mul-print-record-3 Inv-loop μ-loop
 mul-print-record-3 c = search needs
 
--- src/main.rt:37:63
 add-print-record-2 : tie.Need-add-print-record-2 Inv-loop μ-loop
 add-print-record-2 c = search needs
 
--- src/main.rt:37:56
 shared-slice-read-print-record-3 : tie.Need-shared-slice-read-print-record-3 Inv-loop μ-loop
 shared-slice-read-print-record-3 c = search needs
 
--- src/main.rt:37:82
 mul-print-record-4 : tie.Need-mul-print-record-4 Inv-loop μ-loop
 mul-print-record-4 c = search needs
 
--- src/main.rt:37:82
 add-print-record-3 : tie.Need-add-print-record-3 Inv-loop μ-loop
 add-print-record-3 c = search needs
 
--- src/main.rt:37:75
 shared-slice-read-print-record-4 : tie.Need-shared-slice-read-print-record-4 Inv-loop μ-loop
 shared-slice-read-print-record-4 c = search needs
 
--- src/main.rt:37:9
 print-record-requires : tie.Need-print-record-requires Inv-loop μ-loop
 print-record-requires c κs = search needs
 
--- src/main.rt:36:9
 add-i : tie.Need-add-i Inv-loop μ-loop
 add-i c = search needs
 
--- src/main.rt:36:5
 loop-less : tie.Need-loop-less Inv-loop μ-loop
 loop-less c = search needs
 
--- src/main.rt:36:5
 loop-again : tie.Need-loop-again Inv-loop μ-loop
 loop-again c = search needs
 
--- src/main.rt:35:1
 returns : tie.Need-returns Inv-loop μ-loop
 returns c = search needs
 

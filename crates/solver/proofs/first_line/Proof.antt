@@ -6,23 +6,16 @@ use Rattle.solver.proofs.Answers.{variables-few, seeds-clash, seeds-see
 use borrow.Author.Needs.{needs}
 use Rattle.solver.proofs.first_line.Statement.{statement}
 use Rattle.solver.proofs.first_line.Tie as tie
-use Rattle.solver.proofs.first_line.Reads as reads
-use Rattle.solver.proofs.first_line.Lts as lts
-use Rattle.seed.proofs.seed.Reads as seed-reads
-use Rattle.settle.proofs.settle.Reads as settle-reads
 
--- src/lib.rt:29:9
 seed-requires : tie.Need-seed-requires
 seed-requires c κs = search needs
 
--- src/lib.rt:32:9
 returns : tie.Need-returns
 returns c =
     let seeded = c .before .before in
     let start = seeded .before .before in
     seeds-clash (start .args .constraints .now) (λ i. omega (arith, seeded .before .shared-slice-known .given i)) _ (start .pre) _ (seeded .seed .ensures) (c .if1 .taken) _
 
--- src/lib.rt:34:5
 settle-requires : tie.Need-settle-requires
 settle-requires c κs =
     let seeded = c .before .before in
@@ -33,7 +26,6 @@ settle-requires c κs =
       (_, seeds-seeded (start .args .constraints .now) small _ (start .pre) _ (seeded .seed .ensures) (c .if1 .left)),
     )
 
--- src/lib.rt:25:1
 returns-2 : tie.Need-returns-2
 returns-2 c =
     let seeded = c .before .before .before in

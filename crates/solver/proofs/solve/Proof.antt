@@ -5,24 +5,16 @@ use Rattle.solver.proofs.Answers.{refuses-file, refuses-buffer, answers
 use borrow.Author.Needs.{needs}
 use Rattle.solver.proofs.solve.Statement.{statement}
 use Rattle.solver.proofs.solve.Tie as tie
-use Rattle.solver.proofs.solve.Reads as reads
-use Rattle.solver.proofs.solve.Lts as lts
-use Rattle.constraints.proofs.judge.Reads as judge-reads
-use Rattle.solver.proofs.solve_accepted.Reads as solve-accepted-reads
 
--- src/lib.rt:58:9
 judge-requires : tie.Need-judge-requires
 judge-requires c κs = search needs
 
--- src/lib.rt:60:28
 enum-known-judged : tie.Need-enum-known-judged
 enum-known-judged c = search needs
 
--- src/lib.rt:61:29
 enum-known-judged-2 : tie.Need-enum-known-judged-2
 enum-known-judged-2 c = search needs
 
--- src/lib.rt:63:17
 returns : tie.Need-returns
 returns c =
     let judged = c .before .before .before .before in
@@ -30,13 +22,11 @@ returns c =
     let start = known .before in
     refuses-buffer _ (start .args .constraints .now) _ (λ i. omega (arith, known .shared-slice-known .given i)) _ (sym (judged .judge .ensures) ∙ c .before .before .judged2 .given .1) (omega arith)
 
--- src/lib.rt:65:13
 solve-accepted-requires : tie.Need-solve-accepted-requires
 solve-accepted-requires c κs =
     let judged = c .before .before .before .before .before in
     (sym (judged .judge .ensures) ∙ c .before .before .before .judged2 .given .1, omega arith)
 
--- src/lib.rt:55:1
 returns-2 : tie.Need-returns-2
 returns-2 c =
     let judged = c .before .before .before in
@@ -44,11 +34,9 @@ returns-2 c =
     let start = known .before in
     refuses-file _ (start .args .constraints .now) _ (λ i. omega (arith, known .shared-slice-known .given i)) _ (sym (judged .judge .ensures) ∙ c .before .judged .given .1)
 
--- src/lib.rt:55:1
 same-length : tie.Need-same-length
 same-length c = search needs
 
--- src/lib.rt:55:1
 returns-3 : tie.Need-returns-3
 returns-3 c =
     let solved = c .before .before in

@@ -6,35 +6,24 @@ use Rattle.solver.proofs.Answers.{variables-few, vars-within, solves-no
 use borrow.Author.Needs.{needs}
 use Rattle.solver.proofs.solve_accepted.Statement.{statement}
 use Rattle.solver.proofs.solve_accepted.Tie as tie
-use Rattle.solver.proofs.solve_accepted.Reads as reads
-use Rattle.solver.proofs.solve_accepted.Lts as lts
-use Rattle.readoff.proofs.read_off.Reads as read-off-reads
-use Rattle.search.proofs.search.Reads as search-reads
-use Rattle.solver.proofs.first_line.Reads as first-line-reads
 
--- src/lib.rt:41:9
 first-line-requires : tie.Need-first-line-requires
 first-line-requires c κs = search needs
 
--- src/lib.rt:42:9
 search-requires : tie.Need-search-requires
 search-requires c κs =
     let known = c .before .before in
     (variables-few (known .before .args .constraints .now) (λ i. omega (arith, known .shared-slice-known .given i)) _ (known .before .pre .0), (_, c .first-line .ensures))
 
--- src/lib.rt:45:22
 enum-told : tie.Need-enum-told
 enum-told c = search needs
 
--- src/lib.rt:46:23
 enum-told-2 : tie.Need-enum-told-2
 enum-told-2 c = search needs
 
--- src/lib.rt:48:59
 enum-told-3 : tie.Need-enum-told-3
 enum-told-3 c = search needs
 
--- src/lib.rt:48:17
 read-off-requires : tie.Need-read-off-requires
 read-off-requires c κs =
     let searched = c .before .before .before in
@@ -47,7 +36,6 @@ read-off-requires c κs =
       tree-ready _ _ _ within _ (searched .search .ensures .reports _ (searched .before .first-line .ensures)) (c .before .enum-told3 .given .1),
     )
 
--- src/lib.rt:37:1
 returns : tie.Need-returns
 returns c =
     let searched = c .before .before in
@@ -56,7 +44,6 @@ returns c =
     let within = vars-within (start .args .constraints .now) (λ i. omega (arith, known .shared-slice-known .given i)) _ (start .pre .0) in
     answer-none _ _ _ (solves-none _ _ _ within _ (searched .search .ensures .reports _ (searched .before .first-line .ensures)) (c .enum-told .given .1))
 
--- src/lib.rt:37:1
 returns-2 : tie.Need-returns-2
 returns-2 c =
     let searched = c .before .before in
@@ -65,11 +52,9 @@ returns-2 c =
     let within = vars-within (start .args .constraints .now) (λ i. omega (arith, known .shared-slice-known .given i)) _ (start .pre .0) in
     answer-spent _ _ _ (solves-spent _ _ _ within _ (searched .search .ensures .reports _ (searched .before .first-line .ensures)) (c .enum-told2 .given .1))
 
--- src/lib.rt:37:1
 same-length : tie.Need-same-length
 same-length c = search needs
 
--- src/lib.rt:37:1
 returns-3 : tie.Need-returns-3
 returns-3 c =
     let written = c .before .before in
