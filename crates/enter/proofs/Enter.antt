@@ -124,21 +124,23 @@ module _ (n : ℕ) (small : n ≤ 16) (S : List Fact) (f : Facts) (a b : ℕ) (h
     closed : Rules n (λ φ. Yes (has raised φ))
     unfolding has
     closed = record {
-      child-below = λ x y u. old x y (rule (below x y) (child-below (fact (child x y) u)));
-      child-differ = λ x y u. rule (differ x y) (child-differ (fact (child x y) u));
-      self-below = λ x l. old x x (rule (below x x) (self-below l));
-      chain = linked;
-      root-below = λ x y u l. old x y (rule (below x y) (root-below (fact (root x) u) l));
-      leaf-below = λ x y u s. ⊎-elim (λ p. old y x (rule (below y x) (leaf-below (fact (leaf x) u) (fact (below x y) p))))
-          (λ p. absurd (no-leaf x (above-a x (le-trans (within (below x a) (p .0) .0) small) ∙ p .0) u)) (either x y s);
+      sharing = record {
+        child-below = λ x y u. old x y (rule (below x y) (child-below (fact (child x y) u)));
+        child-differ = λ x y u. rule (differ x y) (child-differ (fact (child x y) u));
+        self-below = λ x l. old x x (rule (below x x) (self-below l));
+        chain = linked;
+        root-below = λ x y u l. old x y (rule (below x y) (root-below (fact (root x) u) l));
+        leaf-below = λ x y u s. ⊎-elim (λ p. old y x (rule (below y x) (leaf-below (fact (leaf x) u) (fact (below x y) p))))
+            (λ p. absurd (no-leaf x (above-a x (le-trans (within (below x a) (p .0) .0) small) ∙ p .0) u)) (either x y s);
+        differ-back = λ x y u. rule (differ y x) (differ-back (fact (differ x y) u));
+        same-parent = λ x y u p q c. let h = back x u p q in rule (child u y) (same-parent (fact (below x u) (h .0)) (fact (below u x) (h .1)) (fact (child x y) c));
+        same-child = λ x y u p q c. let h = back y u p q in rule (child x u) (same-child (fact (below y u) (h .0)) (fact (below u y) (h .1)) (fact (child x y) c));
+        same-differ = λ x y u p q c. let h = back x u p q in rule (differ u y) (same-differ (fact (below x u) (h .0)) (fact (below u x) (h .1)) (fact (differ x y) c));
+        same-root = λ x u p q c. let h = back x u p q in rule (root u) (same-root (fact (below x u) (h .0)) (fact (below u x) (h .1)) (fact (root x) c));
+        same-leaf = λ x u p q c. let h = back x u p q in rule (leaf u) (same-leaf (fact (below x u) (h .0)) (fact (below u x) (h .1)) (fact (leaf x) c));
+        same-label = λ x u l p q c. let h = back x u p q in rule (label u l) (same-label (fact (below x u) (h .0)) (fact (below u x) (h .1)) (fact (label x l) c));
+      };
       one-parent = λ x y z u s. old x y (rule (below x y) (one-parent (fact (child x z) u) (fact (child y z) s)));
-      differ-back = λ x y u. rule (differ y x) (differ-back (fact (differ x y) u));
-      same-parent = λ x y u p q c. let h = back x u p q in rule (child u y) (same-parent (fact (below x u) (h .0)) (fact (below u x) (h .1)) (fact (child x y) c));
-      same-child = λ x y u p q c. let h = back y u p q in rule (child x u) (same-child (fact (below y u) (h .0)) (fact (below u y) (h .1)) (fact (child x y) c));
-      same-differ = λ x y u p q c. let h = back x u p q in rule (differ u y) (same-differ (fact (below x u) (h .0)) (fact (below u x) (h .1)) (fact (differ x y) c));
-      same-root = λ x u p q c. let h = back x u p q in rule (root u) (same-root (fact (below x u) (h .0)) (fact (below u x) (h .1)) (fact (root x) c));
-      same-leaf = λ x u p q c. let h = back x u p q in rule (leaf u) (same-leaf (fact (below x u) (h .0)) (fact (below u x) (h .1)) (fact (leaf x) c));
-      same-label = λ x u l p q c. let h = back x u p q in rule (label u l) (same-label (fact (below x u) (h .0)) (fact (below u x) (h .1)) (fact (label x l) c));
     }
 
     given' : (φ : Fact) → List·Memᴰ φ S' → Yes (has raised φ)

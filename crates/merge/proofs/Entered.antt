@@ -8,11 +8,10 @@ use Prim.Native.Nat.{ℕ, _^_, _<_, _≤_}
 use native.Mathlib.Nat.{le-trans}
 use lib.Bits.{bitOr}
 use Rattle.meaning.specs.Tree.{Var}
-use Rattle.meaning.specs.Constraint.{Fact, child, below, leaf}
+use Rattle.meaning.specs.Constraint.{Fact, below, leaf}
 use Rattle.meaning.specs.Settled.{Settled, given, chain, leaf-below, self-below, one-parent, Clash, differs, labels}
 use Rattle.meaning.specs.Finite.{Yes}
 use Rattle.meaning.specs.ReadOff.{Decides}
-use Rattle.meaning.proofs.Rules.{Rules}
 use Rattle.meaning.proofs.Least.{settled-mono, settled-rules}
 use Rattle.meaning.proofs.Facts.{Within}
 use Rattle.theory.proofs.Closure.{rules-decide}
@@ -22,44 +21,9 @@ use Rattle.tables.specs.Rows.{meets}
 use Rattle.tables.specs.declared.Facts.{Facts}
 use Rattle.tables.proofs.Labels.{label-is}
 use Rattle.merge.specs.Rows.{Apart}
-use Rattle.merge.specs.Merging.{Sharing, Awaits, held, waits, In, Held, Pending, MergedOf}
+use Rattle.merge.specs.Merging.{Awaits, held, waits, In, Held, Pending, MergedOf}
 use Rattle.tables.proofs.Bits.{or-case, or-l, or-r, one-is, one-has, meets-out, in-row}
 use Rattle.merge.proofs.Rounds.{sharing-same, none-left, narrow}
-
-sharing-of : {n : ℕ} {P : Fact → Type 0} → Rules n P → Sharing n P
-sharing-of r = record {
-  child-below = r .child-below;
-  child-differ = r .child-differ;
-  self-below = r .self-below;
-  chain = r .chain;
-  root-below = r .root-below;
-  leaf-below = r .leaf-below;
-  differ-back = r .differ-back;
-  same-parent = r .same-parent;
-  same-child = r .same-child;
-  same-differ = r .same-differ;
-  same-root = r .same-root;
-  same-leaf = r .same-leaf;
-  same-label = r .same-label;
-}
-
-rules-of : {n : ℕ} {P : Fact → Type 0} → Sharing n P → ((x y z : Var) → P (child x z) → P (child y z) → P (below x y)) → Rules n P
-rules-of s o = record {
-  child-below = s .child-below;
-  child-differ = s .child-differ;
-  self-below = s .self-below;
-  chain = s .chain;
-  root-below = s .root-below;
-  leaf-below = s .leaf-below;
-  one-parent = o;
-  differ-back = s .differ-back;
-  same-parent = s .same-parent;
-  same-child = s .same-child;
-  same-differ = s .same-differ;
-  same-root = s .same-root;
-  same-leaf = s .same-leaf;
-  same-label = s .same-label;
-}
 
 -- ---- below(a,b) entered
 
@@ -107,7 +71,7 @@ module _ (n : ℕ) (S : List Fact) (a b : Var) where
       inside = λ φ m. ⊎-elim (λ e. subst (Within n) (sym e) (ha, hb)) (r .inside φ) (List·Memᴰ·cases-cons m);
       sound = start-sound;
       complete = start-complete;
-      sharing = sharing-same n (Settled n S) (Held f) (λ φ h. r .decides .complete h) (λ φ u. r .decides .sound u) (sharing-of (settled-rules n S));
+      sharing = sharing-same n (Settled n S) (Held f) (λ φ h. r .decides .complete h) (λ φ u. r .decides .sound u) (settled-rules n S .sharing);
       one-parent = λ x y z u v. held (r .decides .complete (one-parent (r .decides .sound u) (r .decides .sound v)));
       apart = λ x u. r .free (differs (r .decides .sound u));
       mirrored = r .mirrored;
@@ -119,7 +83,7 @@ module _ (n : ℕ) (T : List Fact) (f : Facts) (p : Pending n T 0 f) where
   done-decides : Decides n T (has f)
   done-decides =
       rules-decide n T (has f) (λ φ u. p .sound φ (held u)) (λ φ m. none-left f φ (p .complete φ m))
-      (rules-of (p .sharing) (λ x y z u v. none-left f (below x y) (p .one-parent x y z u v)))
+      (record { sharing = p .sharing; one-parent = λ x y z u v. none-left f (below x y) (p .one-parent x y z u v) })
 
   done-free : ¬ Clash n T
   done-free (differs {x} c) = p .apart x (done-decides .complete c)

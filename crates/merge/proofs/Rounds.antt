@@ -23,7 +23,8 @@ use Rattle.tables.specs.declared.Facts.{Facts}
 use Rattle.tables.proofs.Bits.{in-both, both-in, none-in, meets-in, meets-out, in-row, or-l}
 use Rattle.tables.proofs.Labels.{label-has}
 use Rattle.merge.specs.Rows.{Gap, Apart, LabelOf, Painted}
-use Rattle.merge.specs.Merging.{Sharing, Awaits, held, waits, In, Held, Pending, lacking, RoundOf}
+use Rattle.merge.specs.Merging.{Awaits, held, waits, In, Held, Pending, lacking, RoundOf}
+use Rattle.meaning.proofs.Rules.{Sharing}
 use Rattle.merge.proofs.Glue.{Cut, Twin, Glued, Over, glued-sharing, glued-apart, arrived, glued-parent, glued-sound}
 use Rattle.merge.proofs.Reach.{Reach, within, ends, cut, glue}
 use Rattle.merge.proofs.Masks.{reach, union-columns, columns-union}

@@ -5,32 +5,17 @@ use mathlib.Core.Bool.{true, false}
 use mathlib.Core.List.{List, _∷_, List·Memᴰ}
 use Prim.Native.Nat.{ℕ, _<_, _≤_}
 use Rattle.rowbits.specs.Bit.{bit}
-use Rattle.meaning.specs.Tree.{Var, Label}
-use Rattle.meaning.specs.Constraint.{Fact, child, below, differ, root, leaf, label}
+use Rattle.meaning.specs.Tree.{Var}
+use Rattle.meaning.specs.Constraint.{Fact, child, below, differ, leaf}
 use Rattle.meaning.specs.Settled.{Settled, Clash}
 use Rattle.meaning.specs.Finite.{Yes, neg, sum, one}
+use Rattle.meaning.proofs.Rules.{Sharing}
 use Rattle.meaning.proofs.Facts.{Inside}
 use Rattle.tables.specs.Tables.{row, has, Mirrored, Ready}
 use Rattle.tables.specs.declared.Facts.{Facts}
 use Rattle.merge.specs.declared.Round.{Round}
 use Rattle.tables.specs.declared.Settled.{Settled as Result}
 use Rattle.merge.specs.Rows.{Gap}
-
--- every rule of settling but that of one parent
-pub record Sharing (n : ℕ) (P : Fact → Type 0) : Type 0 where
-  pub child-below : (x y : Var) → P (child x y) → P (below x y)
-  pub child-differ : (x y : Var) → P (child x y) → P (differ x y)
-  pub self-below : (x : Var) → x < n → P (below x x)
-  pub chain : (x y z : Var) → P (below x y) → P (below y z) → P (below x z)
-  pub root-below : (x y : Var) → P (root x) → y < n → P (below x y)
-  pub leaf-below : (x y : Var) → P (leaf x) → P (below x y) → P (below y x)
-  pub differ-back : (x y : Var) → P (differ x y) → P (differ y x)
-  pub same-parent : (x y u : Var) → P (below x u) → P (below u x) → P (child x y) → P (child u y)
-  pub same-child : (x y u : Var) → P (below y u) → P (below u y) → P (child x y) → P (child x u)
-  pub same-differ : (x y u : Var) → P (below x u) → P (below u x) → P (differ x y) → P (differ u y)
-  pub same-root : (x u : Var) → P (below x u) → P (below u x) → P (root x) → P (root u)
-  pub same-leaf : (x u : Var) → P (below x u) → P (below u x) → P (leaf x) → P (leaf u)
-  pub same-label : (x u : Var) (l : Label) → P (below x u) → P (below u x) → P (label x l) → P (label u l)
 
 -- a fact that is held, or that two variables of X wait for
 pub data Awaits (X : Var → Type 0) (P : Fact → Type 0) : Fact → Type 0 where

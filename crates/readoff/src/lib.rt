@@ -90,7 +90,7 @@ fn append(order: Order, row: u16) -> Order
         let at = o.len;
         o.group[at] = Var(x as u8);
         o.len = at + 1;
-        rest = tables::except(rest, tables::one(x));
+        rest = tables::rest(rest);
     }
     o
 }

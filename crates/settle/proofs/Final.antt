@@ -472,20 +472,22 @@ module _ {n : ℕ} {f : Facts} {B U E : List ℕ} {groups : ℕ} (o : Start n f 
 
       closed : Rules n (λ φ. Yes (has g φ))
       closed = record {
-        child-below = rule-child-below;
-        child-differ = apart;
-        self-below = λ x l. into x x (o .chained .itself x l);
-        chain = λ x y z u v. into x z (B-chain x y z (out x y u) (out y z v));
-        root-below = rule-root;
-        leaf-below = rule-leaf;
+        sharing = record {
+          child-below = rule-child-below;
+          child-differ = apart;
+          self-below = λ x l. into x x (o .chained .itself x l);
+          chain = λ x y z u v. into x z (B-chain x y z (out x y u) (out y z v));
+          root-below = rule-root;
+          leaf-below = rule-leaf;
+          differ-back = turned;
+          same-parent = rule-same-parent;
+          same-child = rule-same-child;
+          same-differ = rule-same-differ;
+          same-root = rule-same-root;
+          same-leaf = rule-same-leaf;
+          same-label = rule-same-label;
+        };
         one-parent = rule-parent;
-        differ-back = turned;
-        same-parent = rule-same-parent;
-        same-child = rule-same-child;
-        same-differ = rule-same-differ;
-        same-root = rule-same-root;
-        same-leaf = rule-same-leaf;
-        same-label = rule-same-label;
       }
 
       decided : Decides n S (has g)

@@ -44,21 +44,18 @@ element-set-from-o c = room c
 add-o : tie.Need-add-o Inv-loop μ-loop
 add-o c = omega (arith, room c)
 
-one-requires : tie.Need-one-requires Inv-loop μ-loop
-one-requires c κs = variable-in c
-
-except-requires : tie.Need-except-requires Inv-loop μ-loop
-except-requires c κs = search needs
+rest-requires : tie.Need-rest-requires Inv-loop μ-loop
+rest-requires c κs = c .before .loop-test .taken
 
 loop-less : tie.Need-loop-less Inv-loop μ-loop
 loop-less c =
-    let w = c .before .before in
-    rw (c .except .ensures, c .before .one .ensures) (without-less (i w .loop .rest) (w .lowest .result) (variable-in w) (w .lowest .ensures .this (variable-in w)))
+    let w = c .before in
+    rw (c .rest .ensures _ (w .lowest .ensures)) (without-less (i w .loop .rest) (w .lowest .result) (variable-in w) (w .lowest .ensures .this (variable-in w)))
 
 loop-again : tie.Need-loop-again Inv-loop μ-loop
 loop-again c =
-    let w = c .before .before in
-    rw (c .except .ensures, c .before .one .ensures)
+    let w = c .before in
+    rw (c .rest .ensures _ (w .lowest .ensures))
     (appending-more (s w .args .row) (groups (s w .args .order)) (i w .loop .rest) (i w .loop .o) (i w .loop .inv) (s w .pre .1) (w .before .loop-test .taken) (w .lowest .result) (w .lowest .ensures))
 
 returns : tie.Need-returns Inv-loop μ-loop
@@ -78,8 +75,7 @@ append-spec =
     cast-t8
     element-set-from-o
     add-o
-    one-requires
-    except-requires
+    rest-requires
     loop-less
     loop-again
     returns)
