@@ -108,7 +108,7 @@ pub fn seed(file: &[u8]) -> Seeds
             facts: blank(),
         };
     }
-    // kinds 6 and 7 have 0 for y
+    // Kinds: 1 child, 2 below, 3 strictly below, 4 same, 5 differ; 6 root and 7 leaf, which have 0 for y.
     let root = columns[96];
     let leaf = columns[112];
     let child = table(rows, 1);
