@@ -2,6 +2,8 @@
 // then the times: medians of 31 rounds, taken in turn by both. bench/run builds and runs it.
 use std::hint::black_box;
 
+#[path = "../include/cudreth.rs"]
+mod cudreth;
 mod gate;
 #[path = "marker/plain.rs"]
 mod plain;
@@ -10,16 +12,7 @@ mod sets;
 mod sheets;
 mod solver;
 
-extern "C" {
-    fn cudreth_solve(
-        constraints: *const u8,
-        constraints_len: usize,
-        answer: *mut u8,
-        answer_len: usize,
-        allowance: u32,
-    ) -> u64;
-    fn cudreth_mark(constraints: *const u8, constraints_len: usize, answer: *const u8, answer_len: usize) -> u64;
-}
+use cudreth::{cudreth_mark, cudreth_solve};
 
 // A clock of the C library: the time that this thread had a core, which others on the machine do not lengthen by waiting.
 extern "C" {

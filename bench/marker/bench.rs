@@ -4,13 +4,13 @@ use std::hint::black_box;
 use std::time::Instant;
 
 mod cases;
+#[allow(dead_code)]
+#[path = "../../include/cudreth.rs"]
+mod cudreth;
 mod plain;
 
 use cases::{agree, cases, Case};
-
-extern "C" {
-    fn cudreth_mark(constraints: *const u8, constraints_len: usize, answer: *const u8, answer_len: usize) -> u64;
-}
+use cudreth::cudreth_mark;
 
 fn proved(constraints: &[u8], answer: &[u8]) -> u64 {
     unsafe { cudreth_mark(constraints.as_ptr(), constraints.len(), answer.as_ptr(), answer.len()) }

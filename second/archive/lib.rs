@@ -1,19 +1,12 @@
 //! The proved programs behind their C names, held to an expected verdict: the whole 64-bit result, every byte of the lent buffer, the
 //! bytes around it and the bytes of the files.
 
+#[path = "../../include/cudreth.rs"]
+mod cudreth;
+
+use cudreth::{cudreth_mark, cudreth_solve};
 use second::verdict::{hex, MarkerVerdict, SolverVerdict};
 use second::Refusal;
-
-extern "C" {
-    fn cudreth_solve(
-        constraints: *const u8,
-        constraints_len: usize,
-        answer: *mut u8,
-        answer_len: usize,
-        allowance: u32,
-    ) -> u64;
-    fn cudreth_mark(constraints: *const u8, constraints_len: usize, answer: *const u8, answer_len: usize) -> u64;
-}
 
 /// Where and how the archive differs, with the whole input.
 pub struct Disagreement(pub String);

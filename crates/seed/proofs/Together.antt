@@ -20,7 +20,7 @@ use Rattle.tables.specs.Tables.{row, has, Seeded}
 use Rattle.tables.specs.declared.Facts.{Facts}
 use Rattle.tables.proofs.Bits.{or-case, or-l, or-r, none-in}
 use Rattle.tables.proofs.Labels.{label-is, label-has}
-use Rattle.seed.specs.Seeds.{RowsOf, United, Holds}
+use Rattle.seed.specs.Seeds.{RowsOf, United, Sown}
 use Rattle.seed.proofs.Codes.{number, left, right, name, spelt-as, Source, source, sourced}
 use Rattle.seed.proofs.Gathering.{Gathered}
 use Rattle.seed.proofs.Seeding.{Seeding}
@@ -133,19 +133,19 @@ module _ (cs : List Constraint) (i : ℕ) (over : drop i cs ≡ []) (small : (c 
     module _ (f : Facts) (ch : Bits (f .child) (Of is-child)) (pa : Bits (f .parent) (Back is-child)) (be : Bits (f .below) (λ x y. Source cs (below x y)))
         (di : Bits (f .differ) Unlike)
         (ro : f .root ≡ row columns 96) (le : f .leaf ≡ row columns 112) (la : f .label ≡ names) where
-      apart-to : (x y : ℕ) → Unlike x y → Holds (factsOf cs) (differ x y)
+      apart-to : (x y : ℕ) → Unlike x y → Sown (factsOf cs) (differ x y)
       apart-to x y =
           ⊎-elim (⊎-elim (λ m. inl (inr (sourced cs (child x y) m))) (λ m. inr (inr (sourced cs (child y x) m))))
           (⊎-elim (⊎-elim (λ m. inl (inl (sourced cs (differ x y) (inl m)))) (λ m. inr (inl (sourced cs (differ y x) (inl m)))))
           (⊎-elim (λ m. inl (inl (sourced cs (differ x y) (inr m)))) (λ m. inr (inl (sourced cs (differ y x) (inr m))))))
 
-      apart-from : (x y : ℕ) → Holds (factsOf cs) (differ x y) → Unlike x y
+      apart-from : (x y : ℕ) → Sown (factsOf cs) (differ x y) → Unlike x y
       apart-from x y =
           ⊎-elim
           (⊎-elim (λ m. inr (⊎-elim (λ b. inl (inl b)) (λ b. inr (inl b)) (source cs (differ x y) m))) (λ m. inl (inl (source cs (child x y) m))))
           (⊎-elim (λ m. inr (⊎-elim (λ b. inl (inr b)) (λ b. inr (inr b)) (source cs (differ y x) m))) (λ m. inl (inr (source cs (child y x) m))))
 
-      pub exact : (φ : Fact) → Yes (has f φ) ↔ Holds (factsOf cs) φ
+      pub exact : (φ : Fact) → Yes (has f φ) ↔ Sown (factsOf cs) φ
       unfolding has constraintAs kindOf pick
       exact (child x y) = (λ u. sourced cs (child x y) (ch x y .0 u), λ m. ch x y .1 (source cs (child x y) m))
       exact (below x y) = (λ u. sourced cs (below x y) (be x y .0 u), λ m. be x y .1 (source cs (below x y) m))
@@ -161,7 +161,7 @@ module _ (cs : List Constraint) (i : ℕ) (over : drop i cs ≡ []) (small : (c 
         λ m. ⊎-elim (λ n. absurd (List·Memᴰ·not-nil (rw over at n))) (λ w. label-has f x l (ap (λ (t : List ℕ). row t x) la ∙ w .0) (w .1)) (s .labels .to refl x l (source cs (label x l) m)),
       )
 
-      holds : (φ : Fact) → List·Memᴰ φ (factsOf cs) → Holds (factsOf cs) φ
+      holds : (φ : Fact) → List·Memᴰ φ (factsOf cs) → Sown (factsOf cs) φ
       holds (child x y) m = m
       holds (below x y) m = m
       holds (differ x y) m = inl (inl m)
@@ -169,7 +169,7 @@ module _ (cs : List Constraint) (i : ℕ) (over : drop i cs ≡ []) (small : (c 
       holds (leaf x) m = m
       holds (label x l) m = m
 
-      settled : (φ : Fact) → Holds (factsOf cs) φ → Settled (vars cs) (factsOf cs) φ
+      settled : (φ : Fact) → Sown (factsOf cs) φ → Settled (vars cs) (factsOf cs) φ
       settled (child x y) m = given m
       settled (below x y) m = given m
       settled (differ x y) m = ⊎-elim (⊎-elim given (λ k. child-differ (given k))) (⊎-elim (λ k. differ-back (given k)) (λ k. differ-back (child-differ (given k)))) m

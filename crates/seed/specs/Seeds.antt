@@ -43,23 +43,23 @@ pub record RowsOf (rows : List ℕ) (kind : ℕ) (r : List ℕ) : Type 0 where
 pub record United (t more r : List ℕ) : Type 0 where
   pub rows : (x : ℕ) → row r x ≡ bitOr (row t x) (row more x)
 
--- S says that x and y differ, one way round
-abbrev pub Apart : List Fact → ℕ → ℕ → Type 0
-Apart S x y = List·Memᴰ (differ x y) S ⊎ List·Memᴰ (child x y) S
+-- S says that x and y differ, one way round, by differ or by child
+abbrev pub SaidApart : List Fact → ℕ → ℕ → Type 0
+SaidApart S x y = List·Memᴰ (differ x y) S ⊎ List·Memᴰ (child x y) S
 
--- what the tables hold: the given facts, and differ both ways and for child
-abbrev pub Holds : List Fact → Fact → Type 0
-Holds S (child x y) = List·Memᴰ (child x y) S
-Holds S (below x y) = List·Memᴰ (below x y) S
-Holds S (differ x y) = Apart S x y ⊎ Apart S y x
-Holds S (root x) = List·Memᴰ (root x) S
-Holds S (leaf x) = List·Memᴰ (leaf x) S
-Holds S (label x l) = List·Memᴰ (label x l) S
+-- what the seeds of S hold: the facts of S, and differ both ways and for child
+abbrev pub Sown : List Fact → Fact → Type 0
+Sown S (child x y) = List·Memᴰ (child x y) S
+Sown S (below x y) = List·Memᴰ (below x y) S
+Sown S (differ x y) = SaidApart S x y ⊎ SaidApart S y x
+Sown S (root x) = List·Memᴰ (root x) S
+Sown S (leaf x) = List·Memᴰ (leaf x) S
+Sown S (label x l) = List·Memᴰ (label x l) S
 
 pub record SeedsOf (file : List ℕ) (r : Seeds) : Type 0 where
   pub clashes : r .clash ≡ true → Clash (vars (constraintsIn file)) (factsOf (constraintsIn file))
   pub cleared : r .clash ≡ true → r .facts ≡ noFacts
   -- else the tables hold that and no other fact; that `parent` is the columns of `child` is in seeded
-  pub exact : r .clash ≡ false → (φ : Fact) → Yes (has (r .facts) φ) ↔ Holds (factsOf (constraintsIn file)) φ
+  pub exact : r .clash ≡ false → (φ : Fact) → Yes (has (r .facts) φ) ↔ Sown (factsOf (constraintsIn file)) φ
   pub unmirrored : r .clash ≡ false → r .facts .above ≡ replicate 16 0
   pub seeded : r .clash ≡ false → Seeded (vars (constraintsIn file)) (factsOf (constraintsIn file)) (r .facts)
