@@ -2,11 +2,10 @@
 // whole files only: where one cannot be opened or read to its end, standard error says so and nothing is printed.
 ghost use Rattle.reading.specs.Filling.{Fills};
 ghost use Rattle.marking.specs.Pieces.{FillsInPieces};
-use constraints::Kind;
-use libc::STDOUT_FILENO;
-use marker::Verdict;
+use reading::CONSTRAINTS_READ;
 use reading::Filled;
 use reading::fill;
+use text::TEXT_BYTES;
 
 fn open(path: &[u8]) -> i32 {
     let fd = os::open_read(path);
@@ -63,44 +62,9 @@ fn read_answer(path: &[u8], buffer: &mut [u8]) -> Filled
     filled
 }
 
-fn print_kind(kind: Kind) -> bool {
-    match kind {
-        Kind::Child => io::write_all(STDOUT_FILENO, b"child"),
-        Kind::Below => io::write_all(STDOUT_FILENO, b"below"),
-        Kind::StrictlyBelow => io::write_all(STDOUT_FILENO, b"strictly-below"),
-        Kind::Same => io::write_all(STDOUT_FILENO, b"same"),
-        Kind::Differ => io::write_all(STDOUT_FILENO, b"differ"),
-        Kind::Root => io::write_all(STDOUT_FILENO, b"root"),
-        Kind::Leaf => io::write_all(STDOUT_FILENO, b"leaf"),
-        Kind::Label => io::write_all(STDOUT_FILENO, b"label"),
-    }
-}
-
-fn print_verdict(verdict: Verdict) {
-    match verdict {
-        Verdict::Met => {
-            io::write_all(STDOUT_FILENO, b"met");
-        }
-        Verdict::Unmet { position, kind } => {
-            io::write_all(STDOUT_FILENO, b"unmet ");
-            io::print_decimal(STDOUT_FILENO, position as u64);
-            io::write_all(STDOUT_FILENO, b" ");
-            print_kind(kind);
-        }
-        Verdict::Refused(question) => {
-            io::write_all(STDOUT_FILENO, b"refused ");
-            io::print_decimal(STDOUT_FILENO, question as u64);
-        }
-    }
-    if !io::write_all(STDOUT_FILENO, b"\n") {
-        os::fail(b"standard output");
-    }
-}
-
 // Marks the answer file of the second name as an answer to the constraint file of the first, and prints the verdict.
 pub fn mark_files(constraints: &[u8], answer: &[u8]) {
-    // Question 1 refuses more than 1,024 bytes, so no more than one past them is read.
-    let mut records = [0u8; 1025];
+    let mut records = [0u8; CONSTRAINTS_READ];
     let first = read_constraints(constraints, &mut records);
     let Filled::Bytes(n) = first else {
         return;
@@ -110,5 +74,7 @@ pub fn mark_files(constraints: &[u8], answer: &[u8]) {
     let Filled::Bytes(m) = second else {
         return;
     };
-    print_verdict(marker::mark(&records[..n], &buffer[..m]));
+    let mut out = [0u8; TEXT_BYTES];
+    let length = text::mark(&records[..n], &buffer[..m], &mut out);
+    printing::print(&out[..length]);
 }

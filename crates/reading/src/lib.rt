@@ -1,6 +1,9 @@
 // Reading a file that tells a read that fails from the end of the file.
 ghost use Rattle.reading.specs.Filling.{Fills};
 
+// As much of a constraint file as is read: question 1 refuses more than 1,024 bytes, so one past them is enough.
+pub const CONSTRAINTS_READ: usize = 1025;
+
 pub enum Filled {
     // So many bytes at the front of the buffer.
     Bytes(usize),

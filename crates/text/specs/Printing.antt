@@ -1,0 +1,27 @@
+-- What is put at the front of the buffer: the text of what solver and marker promise of any bytes.
+use mathlib.Core.Path.{_≡_}
+use mathlib.Core.List.{List, _++_}
+use Prim.Native.Nat.{ℕ}
+use lib.ListN.{length, drop, replicate}
+use Rattle.meaning.specs.Results.{Solved, Marked, written}
+use Rattle.meaning.specs.Promises.{SolverPromise, MarkerPromise}
+use Rattle.meaning.specs.Text.{solvedText, markedText}
+use Rattle.theory.specs.Programs.{solver, marker}
+
+-- a buffer for the answer file, as short as question 7 lets in
+abbrev pub room : List ℕ
+room = replicate 132 0
+
+-- the text at the front, how long it is, and every other byte as it was
+pub record Fronted (text before : List ℕ) (r : ℕ) (after : List ℕ) : Type 0 where
+  pub bytes : r ≡ length text
+  pub wrote : after ≡ text ++ drop r before
+
+-- under the allowance A
+pub record SolvedAs (A : ℕ) (file before : List ℕ) (r : ℕ) (after : List ℕ) : Type 0 where
+  pub text : Fronted (solvedText (solver A file room)) before r after
+  pub promise : SolverPromise A file room (solver A file room) (written (solver A file room) room)
+
+pub record MarkedAs (file answer before : List ℕ) (r : ℕ) (after : List ℕ) : Type 0 where
+  pub text : Fronted (markedText (marker file answer)) before r after
+  pub promise : MarkerPromise file answer (marker file answer)
