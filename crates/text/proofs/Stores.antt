@@ -5,6 +5,7 @@ use Prim.Native.Nat.{ℕ, suc, _+_, _≤_}
 use native.Mathlib.Omega.{arith}
 use lib.ListN.{length, getD, set, take, drop, length-append}
 use lib.Seq.{sets, length-sets, sets-eq, take-suc, length-take-le}
+use Rattle.io.specs.Counts.{Counts}
 use Rattle.text.specs.Putting.{Put}
 use Rattle.text.specs.Printing.{Fronted}
 
@@ -45,3 +46,11 @@ put-front {l} {m} {r} {t} p =
       bytes = sym e ∙ omega arith;
       wrote = p .stored ∙ sets-eq t l 0 (omega arith) ∙ ap (λ (k : ℕ). t ++ drop k l) e;
     }
+
+-- its bytes can be lent
+pub front-counts : {t l m : List ℕ} {r : ℕ} → Fronted t l r m → Counts r m
+front-counts {t} {l} {m} {r} w =
+    let n = ap length (w .wrote) in
+    let a = length-append t (drop r l) in
+    let b = w .bytes in
+    let h : r ≤ length m = omega arith in (h, sym (length-take-le r m h))

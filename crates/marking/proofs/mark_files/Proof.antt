@@ -1,10 +1,11 @@
--- `marking::mark_files` meets its contract: what the readers answer counts bytes of the buffers that they filled.
+-- `mark_files` lends what was read and what was put: all count bytes of their buffers.
 use mathlib.Core.Path.{subst}
-use borrow.Author.Needs.{needs}
 use Rattle.io.specs.Counts.{Counts}
 use Rattle.reading.specs.Filling.{Fills}
-use Rattle.marking.specs.Pieces.{FillsInPieces}
 use Rattle.reading.specs.declared.Filled.{Filled}
+use Rattle.text.proofs.Stores.{front-counts}
+use Rattle.marking.specs.Pieces.{FillsInPieces}
+use borrow.Author.Needs.{needs}
 use Rattle.marking.proofs.mark_files.Statement.{statement}
 use Rattle.marking.proofs.mark_files.Tie as tie
 
@@ -62,8 +63,14 @@ slice-aggregate-mark-2 c = second-counts (c .before .before .before) .1
 mark-requires : tie.Need-mark-requires
 mark-requires c κs = search needs
 
-print-verdict-requires : tie.Need-print-verdict-requires
-print-verdict-requires c κs = search needs
+array-share-prefix-out : tie.Need-array-share-prefix-out
+array-share-prefix-out c = front-counts (c .mark .ensures .text) .0
+
+slice-aggregate-print : tie.Need-slice-aggregate-print
+slice-aggregate-print c = front-counts (c .before .mark .ensures .text) .1
+
+print-requires : tie.Need-print-requires
+print-requires c κs = search needs
 
 returns-3 : tie.Need-returns-3
 returns-3 c = search needs
@@ -88,5 +95,7 @@ mark-files-spec =
     array-share-prefix-buffer
     slice-aggregate-mark-2
     mark-requires
-    print-verdict-requires
+    array-share-prefix-out
+    slice-aggregate-print
+    print-requires
     returns-3)
