@@ -3,10 +3,12 @@
 //!
 //! It is a module of the host, which is linked with the archive:
 //!
-//!     #[path = "include/cudreth.rs"]
-//!     mod cudreth;
+//! ```text
+//! #[path = "include/cudreth.rs"]
+//! mod cudreth;
 //!
-//!     rustc --edition 2021 -O host.rs -L native=target/staticlib -l static=capi
+//! rustc --edition 2021 -O host.rs -L native=target/staticlib -l static=capi
+//! ```
 //!
 //! Editions 2018, 2021 and 2024, with rustc 1.82 or newer. Any number of threads may call at once; one that calls `solve` wants `STACK`
 //! bytes of stack, which is less than a Rust thread has unless told otherwise.
