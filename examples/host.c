@@ -1,6 +1,6 @@
 /*
- * A host program: solves the question of document 01's listing, prints the tree, and marks three candidates. What it prints is held
- * to examples/host.stdout.
+ * A host program: solves the question of document 01's listing (M10), prints the tree, marks four candidates, and lists what a refusal
+ * can say. What it prints is held to examples/host.stdout. It is C99 and C++; host.rs is the same in Rust.
  */
 #include <inttypes.h>
 #include <stdio.h>
@@ -20,6 +20,11 @@ static void print_answer(const uint8_t *answer, size_t length)
     }
 }
 
+static void print_refused(uint32_t question)
+{
+    printf("refused %" PRIu32 ": %s\n", question, cudreth_question_words(question));
+}
+
 static void print_solved(uint64_t result, const uint8_t *answer)
 {
     switch (cudreth_verdict(result)) {
@@ -34,7 +39,7 @@ static void print_solved(uint64_t result, const uint8_t *answer)
         printf("spent %" PRIu32 "\n", cudreth_count(result));
         break;
     default:
-        printf("refused %" PRIu32 "\n", cudreth_question(result));
+        print_refused(cudreth_question(result));
     }
 }
 
@@ -45,10 +50,10 @@ static void print_marked(uint64_t result)
         printf("met\n");
         break;
     case CUDRETH_UNMET:
-        printf("unmet %" PRIu32 ", kind %u\n", cudreth_unmet_position(result), cudreth_unmet_kind(result));
+        printf("unmet %" PRIu32 " %s\n", cudreth_unmet_position(result), cudreth_kind_words(cudreth_unmet_kind(result)));
         break;
     default:
-        printf("refused %" PRIu32 "\n", cudreth_question(result));
+        print_refused(cudreth_question(result));
     }
 }
 
@@ -60,8 +65,9 @@ int main(void)
         CUDRETH_BELOW,  0, 2, 0,
         CUDRETH_DIFFER, 0, 1, 0,
     };
+    printf("version %d\n", CUDRETH_VERSION);
     /* Lent from the heap, at its exact length, so that a memory checker sees every byte too far. */
-    uint8_t *answer = malloc(CUDRETH_ANSWER_BYTES);
+    uint8_t *answer = (uint8_t *)malloc(CUDRETH_ANSWER_BYTES);
     if (!answer)
         return 1;
     memset(answer, 0xee, CUDRETH_ANSWER_BYTES);
@@ -92,6 +98,10 @@ int main(void)
     print_marked(cudreth_mark(question, sizeof question, wrong, sizeof wrong));
     printf("the last byte lost: ");
     print_marked(cudreth_mark(question, sizeof question, answer, written - 1));
+    printf("empty files: ");
+    print_marked(cudreth_mark(question, 0, answer, 0));
+    for (uint32_t number = CUDRETH_Q_CONSTRAINTS_LONG; number <= CUDRETH_Q_PLACES; number++)
+        print_refused(number);
     free(answer);
     return 0;
 }

@@ -1,12 +1,14 @@
 /*
  * Cudreth: solves and marks constraints on trees as XPath sees them.
  *
- * Link with libcapi.a (x86-64 Linux), which `rt staticlib capi` writes to target/staticlib/.
+ * Link with libcapi.a (x86-64 Linux), which `rt staticlib capi` writes to target/staticlib/. docs/FORMAT.md says what the bytes mean,
+ * examples/host.c is a host program, and cudreth.rs is this file for Rust.
  *
  * Both functions take any bytes of any length and always return: damaged files and buffers that are too short are refused by a number.
- * They have no globals, allocate nothing, print nothing and set no errno, so any number of threads may call them at once, each with
- * buffers of its own. cudreth_mark uses about 2 KiB of stack. cudreth_solve recurses once for each alternative that is open,
- * at most 240 deep; give its thread CUDRETH_STACK bytes (examples/stack.c measures what it uses).
+ * They have no globals, allocate nothing, print nothing and set no errno, so any number of threads may call them at once. Threads may
+ * share what they only read, constraint files and answer files; a buffer lent to cudreth_solve belongs to that one call until it
+ * returns. cudreth_mark uses about 2 KiB of stack. cudreth_solve recurses once for each alternative that is open, at most 240 deep;
+ * give its thread CUDRETH_STACK bytes (examples/stack.c measures what it uses).
  *
  * Each pointer must be valid for its length and not NULL, also where the length is 0. The buffer lent to cudreth_solve may not overlap
  * the constraints. No byte of a constraint file or of a candidate's answer is changed.
@@ -20,6 +22,9 @@
 #ifdef __cplusplus
 extern "C" {
 #endif
+
+/* Rises with each landing that a host can notice. The archive does not know it: take header and archive from one commit. */
+#define CUDRETH_VERSION 1
 
 /* Every record has 4 bytes; a file has no header. */
 #define CUDRETH_RECORD_BYTES 4
@@ -59,8 +64,28 @@ enum cudreth_answer_record {
 /* Verdicts of cudreth_mark. */
 #define CUDRETH_MET 0u   /* every record is met */
 #define CUDRETH_UNMET 1u /* some record is not */
-/* Of both: a question of document 01 was answered with no. */
+/* Of both: a question was answered with no. */
 #define CUDRETH_REFUSED 3u
+
+/* The questions by number, in the order in which they are asked; cudreth_question_words says what a refusal by each means. */
+enum cudreth_question_number {
+    /* of the whole constraint file */
+    CUDRETH_Q_CONSTRAINTS_LONG = 1,
+    CUDRETH_Q_CONSTRAINTS_CUT = 2,
+    /* of each of its records, before the next record */
+    CUDRETH_Q_KIND = 3,
+    CUDRETH_Q_VARIABLE = 4,
+    CUDRETH_Q_LABEL = 5,
+    CUDRETH_Q_UNUSED = 6,
+    /* of the lent buffer, by cudreth_solve alone */
+    CUDRETH_Q_BUFFER = 7,
+    /* of the answer file, by cudreth_mark alone, each of the whole file before the next question */
+    CUDRETH_Q_ANSWER_CUT = 8,
+    CUDRETH_Q_ANSWER_KIND = 9,
+    CUDRETH_Q_NODE_COUNT = 10,
+    CUDRETH_Q_NODES = 11,
+    CUDRETH_Q_PLACES = 12
+};
 
 /*
  * Solves the constraint file, entering at most `allowance` alternatives. Only the verdict CUDRETH_TREE writes: cudreth_written(result)
@@ -85,8 +110,44 @@ static inline uint32_t cudreth_count(uint64_t result) { return (uint32_t)result;
 static inline unsigned cudreth_unmet_kind(uint64_t result) { return (unsigned)(result >> 32 & 0xffff); }
 static inline uint32_t cudreth_unmet_position(uint64_t result) { return (uint32_t)result; }
 
-/* CUDRETH_REFUSED: the number of the question, 1 to 12. */
+/* CUDRETH_REFUSED: the number of the question, an enum cudreth_question_number. */
 static inline uint32_t cudreth_question(uint64_t result) { return (uint32_t)result; }
+
+/* Why a file or a buffer was refused, by the number of the question. */
+static inline const char *cudreth_question_words(uint32_t question)
+{
+    switch (question) {
+    case CUDRETH_Q_CONSTRAINTS_LONG: return "the constraint file has more than 1,024 bytes";
+    case CUDRETH_Q_CONSTRAINTS_CUT: return "the length of the constraint file is not a multiple of 4";
+    case CUDRETH_Q_KIND: return "the kind of a constraint record is not 1 to 8";
+    case CUDRETH_Q_VARIABLE: return "a constraint record names a variable above 15";
+    case CUDRETH_Q_LABEL: return "a label record has the label 0";
+    case CUDRETH_Q_UNUSED: return "a byte that the record's kind does not use is not 0";
+    case CUDRETH_Q_BUFFER: return "the lent buffer has less than 132 bytes";
+    case CUDRETH_Q_ANSWER_CUT: return "the length of the answer file is not a multiple of 4";
+    case CUDRETH_Q_ANSWER_KIND: return "an answer record is neither node nor place, or a node comes after a place";
+    case CUDRETH_Q_NODE_COUNT: return "there are not 1 to 64 node records";
+    case CUDRETH_Q_NODES: return "a node's number is not its position, or its parent is not smaller (0 for node 0)";
+    case CUDRETH_Q_PLACES: return "the places are not variables 0 to n-1 in order, each on a node of the tree, fourth byte 0";
+    default: return "a question that this version does not know";
+    }
+}
+
+/* The name of a kind, as the program mark prints it. */
+static inline const char *cudreth_kind_words(unsigned kind)
+{
+    switch (kind) {
+    case CUDRETH_CHILD: return "child";
+    case CUDRETH_BELOW: return "below";
+    case CUDRETH_STRICTLY_BELOW: return "strictly-below";
+    case CUDRETH_SAME: return "same";
+    case CUDRETH_DIFFER: return "differ";
+    case CUDRETH_ROOT: return "root";
+    case CUDRETH_LEAF: return "leaf";
+    case CUDRETH_LABEL: return "label";
+    default: return "a kind that this version does not know";
+    }
+}
 
 #ifdef __cplusplus
 }

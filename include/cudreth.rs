@@ -1,6 +1,90 @@
-//! The two functions of libcapi.a, for a program in Rust; cudreth.h says what they take and answer.
+//! Cudreth for a host program in Rust: the two functions of libcapi.a over slices. cudreth.h says more of what they take and answer,
+//! docs/FORMAT.md what the bytes mean, and examples/host.rs is a host program.
+//!
+//! It is a module of the host, which is linked with the archive:
+//!
+//! ```text
+//! #[path = "include/cudreth.rs"]
+//! mod cudreth;
+//!
+//! rustc --edition 2021 -O host.rs -L native=target/staticlib -l static=capi
+//! ```
+//!
+//! Editions 2018, 2021 and 2024, with rustc 1.82 or newer. Any number of threads may call at once; one that calls `solve` wants `STACK`
+//! bytes of stack, which is less than a Rust thread has unless told otherwise.
 
-extern "C" {
+// A host need not use all of it.
+#![allow(dead_code)]
+
+/// Rises with each landing that a host can notice. The archive does not know it: take this file and the archive from one commit.
+pub const VERSION: u32 = 1;
+
+/// Every record has 4 bytes; a file has no header.
+pub const RECORD_BYTES: usize = 4;
+/// The longest constraint file; a longer one is refused with 1.
+pub const CONSTRAINTS_BYTES: usize = 1024;
+/// The shortest buffer that may be lent to `solve`, and the longest answer it writes: 17 node and 16 place records.
+pub const ANSWER_BYTES: usize = 132;
+/// Variables are 0 to 15.
+pub const VARIABLES: usize = 16;
+/// The most nodes that a candidate's tree may have.
+pub const NODES: usize = 64;
+/// Stack enough for `solve`.
+pub const STACK: usize = 256 * 1024;
+
+// The first byte of a constraint record: kind, x, y, label. Bytes that a kind does not use are 0.
+/// The node of x is the parent of the node of y.
+pub const CHILD: u8 = 1;
+/// The node of x is that of y or an ancestor of it.
+pub const BELOW: u8 = 2;
+/// The node of x is a proper ancestor of that of y.
+pub const STRICTLY_BELOW: u8 = 3;
+/// x and y are on one node.
+pub const SAME: u8 = 4;
+/// x and y are on two nodes.
+pub const DIFFER: u8 = 5;
+/// The node of x has no parent.
+pub const ROOT: u8 = 6;
+/// The node of x has no child.
+pub const LEAF: u8 = 7;
+/// The node of x has that label, 1 to 255.
+pub const LABEL: u8 = 8;
+
+// The first byte of an answer record. Node records come first.
+/// Own number, parent (0 for node 0), label (0 is blank).
+pub const NODE: u8 = 1;
+/// Variable, its node, 0.
+pub const PLACE: u8 = 2;
+
+// Verdicts of `cudreth_solve`.
+pub const TREE: u64 = 0;
+pub const NONE: u64 = 1;
+pub const SPENT: u64 = 2;
+// Verdicts of `cudreth_mark`.
+pub const MET: u64 = 0;
+pub const UNMET: u64 = 1;
+// Of both.
+pub const REFUSED: u64 = 3;
+
+// The questions by number, in the order in which they are asked; `question_words` says what a refusal by each means.
+// Of the whole constraint file:
+pub const Q_CONSTRAINTS_LONG: u32 = 1;
+pub const Q_CONSTRAINTS_CUT: u32 = 2;
+// of each of its records, before the next record:
+pub const Q_KIND: u32 = 3;
+pub const Q_VARIABLE: u32 = 4;
+pub const Q_LABEL: u32 = 5;
+pub const Q_UNUSED: u32 = 6;
+// of the lent buffer, by `solve` alone:
+pub const Q_BUFFER: u32 = 7;
+// of the answer file, by `mark` alone, each of the whole file before the next question:
+pub const Q_ANSWER_CUT: u32 = 8;
+pub const Q_ANSWER_KIND: u32 = 9;
+pub const Q_NODE_COUNT: u32 = 10;
+pub const Q_NODES: u32 = 11;
+pub const Q_PLACES: u32 = 12;
+
+unsafe extern "C" {
     pub fn cudreth_solve(
         constraints: *const u8,
         constraints_len: usize,
@@ -9,4 +93,105 @@ extern "C" {
         allowance: u32,
     ) -> u64;
     pub fn cudreth_mark(constraints: *const u8, constraints_len: usize, answer: *const u8, answer_len: usize) -> u64;
+}
+
+/// What `solve` answers. `count` is the number of alternatives entered.
+#[derive(Clone, Copy, Debug, PartialEq, Eq)]
+pub enum Solved {
+    /// A tree was written to the front of the buffer, in so many bytes.
+    Tree { written: usize, count: u32 },
+    /// No tree of any size meets the constraints.
+    None { count: u32 },
+    /// The allowance ran out first; a larger one may tell.
+    Spent { count: u32 },
+    /// The question of that number was answered with no.
+    Refused { question: u32 },
+}
+
+/// What `mark` answers.
+#[derive(Clone, Copy, Debug, PartialEq, Eq)]
+pub enum Marked {
+    /// Every record is met.
+    Met,
+    /// The kind of the first unmet record, and its position, from 0.
+    Unmet { kind: u8, position: u32 },
+    /// The question of that number was answered with no.
+    Refused { question: u32 },
+}
+
+// A result is verdict * 2^48 + middle * 2^32 + low.
+fn parts(result: u64) -> (u64, u16, u32) {
+    (result >> 48, (result >> 32) as u16, result as u32)
+}
+
+impl Solved {
+    /// The meaning of a result of `cudreth_solve`.
+    pub fn decode(result: u64) -> Solved {
+        match parts(result) {
+            (TREE, written, count) => Solved::Tree { written: usize::from(written), count },
+            (NONE, _, count) => Solved::None { count },
+            (SPENT, _, count) => Solved::Spent { count },
+            (_, _, question) => Solved::Refused { question },
+        }
+    }
+}
+
+impl Marked {
+    /// The meaning of a result of `cudreth_mark`.
+    pub fn decode(result: u64) -> Marked {
+        match parts(result) {
+            (MET, _, _) => Marked::Met,
+            (UNMET, kind, position) => Marked::Unmet { kind: kind as u8, position },
+            (_, _, question) => Marked::Refused { question },
+        }
+    }
+}
+
+/// Solves the constraint file, entering at most `allowance` alternatives. Only `Solved::Tree` writes: `written` bytes at the front of
+/// `answer`; all other bytes stay as they were. `answer` has at least `ANSWER_BYTES` bytes, or is refused.
+pub fn solve(constraints: &[u8], answer: &mut [u8], allowance: u32) -> Solved {
+    // Safe: a slice's pointer is valid for its length, and not null where that is 0; `answer` overlaps nothing that is borrowed.
+    Solved::decode(unsafe {
+        cudreth_solve(constraints.as_ptr(), constraints.len(), answer.as_mut_ptr(), answer.len(), allowance)
+    })
+}
+
+/// Marks a candidate's answer file.
+pub fn mark(constraints: &[u8], answer: &[u8]) -> Marked {
+    // Safe: as in `solve`; nothing is written.
+    Marked::decode(unsafe { cudreth_mark(constraints.as_ptr(), constraints.len(), answer.as_ptr(), answer.len()) })
+}
+
+/// Why a file or a buffer was refused, by the number of the question.
+pub fn question_words(question: u32) -> &'static str {
+    match question {
+        Q_CONSTRAINTS_LONG => "the constraint file has more than 1,024 bytes",
+        Q_CONSTRAINTS_CUT => "the length of the constraint file is not a multiple of 4",
+        Q_KIND => "the kind of a constraint record is not 1 to 8",
+        Q_VARIABLE => "a constraint record names a variable above 15",
+        Q_LABEL => "a label record has the label 0",
+        Q_UNUSED => "a byte that the record's kind does not use is not 0",
+        Q_BUFFER => "the lent buffer has less than 132 bytes",
+        Q_ANSWER_CUT => "the length of the answer file is not a multiple of 4",
+        Q_ANSWER_KIND => "an answer record is neither node nor place, or a node comes after a place",
+        Q_NODE_COUNT => "there are not 1 to 64 node records",
+        Q_NODES => "a node's number is not its position, or its parent is not smaller (0 for node 0)",
+        Q_PLACES => "the places are not variables 0 to n-1 in order, each on a node of the tree, fourth byte 0",
+        _ => "a question that this version does not know",
+    }
+}
+
+/// The name of a kind, as the program `mark` prints it.
+pub fn kind_words(kind: u8) -> &'static str {
+    match kind {
+        CHILD => "child",
+        BELOW => "below",
+        STRICTLY_BELOW => "strictly-below",
+        SAME => "same",
+        DIFFER => "differ",
+        ROOT => "root",
+        LEAF => "leaf",
+        LABEL => "label",
+        _ => "a kind that this version does not know",
+    }
 }

@@ -1,0 +1,86 @@
+//! The host program of host.c in Rust: the same questions, and the same lines, held to examples/host.stdout.
+
+#[path = "../include/cudreth.rs"]
+mod cudreth;
+
+use cudreth::{Marked, Solved, ANSWER_BYTES, BELOW, CHILD, DIFFER, NODE, PLACE, RECORD_BYTES, ROOT};
+
+fn print_answer(answer: &[u8]) {
+    for record in answer.chunks(RECORD_BYTES) {
+        if record[0] == NODE {
+            println!("node {} {} {}", record[1], record[2], record[3]);
+        } else {
+            println!("var {} {}", record[1], record[2]);
+        }
+    }
+}
+
+fn print_refused(question: u32) {
+    println!("refused {}: {}", question, cudreth::question_words(question));
+}
+
+fn print_solved(solved: Solved, answer: &[u8]) {
+    match solved {
+        Solved::Tree { written, count } => {
+            println!("tree {}", count);
+            print_answer(&answer[..written]);
+        }
+        Solved::None { count } => println!("none {}", count),
+        Solved::Spent { count } => println!("spent {}", count),
+        Solved::Refused { question } => print_refused(question),
+    }
+}
+
+fn print_marked(marked: Marked) {
+    match marked {
+        Marked::Met => println!("met"),
+        Marked::Unmet { kind, position } => println!("unmet {} {}", position, cudreth::kind_words(kind)),
+        Marked::Refused { question } => print_refused(question),
+    }
+}
+
+#[rustfmt::skip]
+const QUESTION: [u8; 16] = [
+    ROOT,   1, 0, 0,
+    CHILD,  1, 2, 0,
+    BELOW,  0, 2, 0,
+    DIFFER, 0, 1, 0,
+];
+
+#[rustfmt::skip]
+const WRONG: [u8; 20] = [
+    NODE,  0, 0, 0,
+    NODE,  1, 0, 0,
+    PLACE, 0, 0, 0,
+    PLACE, 1, 0, 0,
+    PLACE, 2, 1, 0,
+];
+
+fn main() {
+    println!("version {}", cudreth::VERSION);
+    // Lent from the heap, at its exact length, so that a memory checker sees every byte too far.
+    let mut answer = vec![0xee; ANSWER_BYTES];
+
+    print!("allowance 1: ");
+    print_solved(cudreth::solve(&QUESTION, &mut answer, 1), &answer);
+    print!("buffer 131: ");
+    print_solved(cudreth::solve(&QUESTION, &mut answer[..ANSWER_BYTES - 1], 1), &answer);
+    let solved = cudreth::solve(&QUESTION, &mut answer, u32::MAX);
+    print_solved(solved, &answer);
+
+    let written = if let Solved::Tree { written, .. } = solved { written } else { 0 };
+    let unchanged = answer[written..].iter().take_while(|byte| **byte == 0xee).count();
+    println!("{} bytes written, {} left as they were", written, unchanged);
+
+    print!("that answer: ");
+    print_marked(cudreth::mark(&QUESTION, &answer[..written]));
+    print!("0 and 1 on one node: ");
+    print_marked(cudreth::mark(&QUESTION, &WRONG));
+    print!("the last byte lost: ");
+    print_marked(cudreth::mark(&QUESTION, &answer[..written - 1]));
+    print!("empty files: ");
+    print_marked(cudreth::mark(&[], &[]));
+    for question in cudreth::Q_CONSTRAINTS_LONG..=cudreth::Q_PLACES {
+        print_refused(question);
+    }
+}
