@@ -50,7 +50,7 @@ const PARTS: [(&str, fn(&mut Trial)); 9] = [
     ("positions", Trial::every_position),
     ("answer files by length", Trial::lengths_of_answers),
     ("files in pieces", Trial::pieces),
-    ("runs without a verdict or an output", Trial::lost),
+    ("usages and losses", Trial::lost),
     ("at once into one pipe", Trial::together),
 ];
 

@@ -41,19 +41,16 @@ impl Trial {
     pub fn known_counts(&mut self) {
         const FOLDER: &str = "bench/inputs";
         for line in text_of(&format!("{FOLDER}/COUNTS.txt")).lines() {
-            let words: Vec<&str> = line.split(' ').collect();
-            let known = match words.as_slice() {
-                [name, verdict, count, ..] => {
-                    count.parse().ok().map(|count: u32| (format!("{FOLDER}/{name}"), *verdict, count))
-                }
-                _ => None,
-            };
-            let (path, verdict, count) = known.unwrap_or_else(|| fail("COUNTS.txt", &line));
+            let mut words = line.split(' ');
+            let known = (words.next(), words.next(), words.next().and_then(|count| count.parse().ok()));
+            let (Some(name), Some(verdict), Some(count)) = known else { fail("COUNTS.txt", &line) };
+            let path = format!("{FOLDER}/{name}");
             let file = std::fs::read(&path).unwrap_or_else(|error| fail(&path, &error));
             match verdict {
                 _ if count > ALLOWANCE => self.solve(&path, &file, &SolverVerdict::Spent { count: ALLOWANCE }),
                 "none" => self.solve(&path, &file, &SolverVerdict::None { count }),
-                _ => self.known_count_of_tree(&path, &file, count),
+                "tree" => self.known_count_of_tree(&path, &file, count),
+                _ => fail("COUNTS.txt", &line),
             }
         }
     }

@@ -20,11 +20,11 @@ impl Seen {
                 self.note("solve: tree");
                 self.note(format!("solve: {} in a count", digits(*count)));
                 for node in answer.chunks(4).filter(|record| record[0] == 1) {
-                    self.note(format!(
-                        "solve: {} in a parent",
-                        if node[2] == 0 { "0".into() } else { digits(node[2]) }
-                    ));
-                    self.note(format!("solve: {} in a label", if node[3] == 0 { "0".into() } else { digits(node[3]) }));
+                    for (name, number) in [("parent", node[2]), ("label", node[3])] {
+                        if number > 0 {
+                            self.note(format!("solve: {} in a {name}", digits(number)));
+                        }
+                    }
                 }
             }
             SolverVerdict::None { count } => {
