@@ -6,7 +6,7 @@ use second::verdict::{hex, MarkerVerdict, SolverVerdict};
 use second::{Refusal, LEAST_BUFFER};
 use written::{Expected, Question};
 
-/// The second solver is asked anew where it can tell within so many choices.
+/// The second solver is asked where it can tell within so many choices.
 const AFFORDABLE: u32 = 2_000;
 
 impl Trial {
@@ -49,6 +49,9 @@ impl Trial {
             match verdict {
                 _ if count > ALLOWANCE => self.solve(&path, &file, &SolverVerdict::Spent { count: ALLOWANCE }),
                 "none" => self.solve(&path, &file, &SolverVerdict::None { count }),
+                "tree" if count <= AFFORDABLE => {
+                    self.solve(&path, &file, &second::solve(&file, LEAST_BUFFER, AFFORDABLE));
+                }
                 "tree" => self.known_count_of_tree(&path, &file, count),
                 _ => fail("COUNTS.txt", &line),
             }
