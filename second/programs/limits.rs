@@ -50,8 +50,8 @@ impl Trial {
         }
     }
 
-    /// Around each multiple of 4,096 bytes and far above, of four sorts: nodes alone; two nodes and places; the same with a last record of kind
-    /// 3; the same with a node for the last record.
+    /// Around multiples of 4,096 bytes and far above, of four sorts: nodes alone; two nodes and places; the same with a last record of
+    /// kind 3; the same with a node for the last record.
     pub fn lengths_of_answers(&mut self) {
         let mut lengths = vec![0, 1, 4, 15, 16, 17, 20, 256, 260, 1_000];
         for around in [4_096, 8_192, 12_288, 65_536] {

@@ -80,8 +80,8 @@ fn main() {
         .collect();
     let sorts = trial.seen.all_that_must().unwrap_or_else(|sort| fail("coverage", &format!("'{sort}' never came up")));
     println!(
-        "programs: {} runs in {} s, each as expected and each verdict in one write: {}; of the written questions the second solver answered {} \
-         anew for solve's allowance and buffer, and {} were left out as too long; all {sorts} sorts came up",
+        "programs: {} runs in {} s, each as expected and each verdict in one write: {}; of the written questions the second solver \
+         answered {} anew for solve's allowance and buffer, and {} were left out as too long; all {sorts} sorts came up",
         trial.runs,
         start.elapsed().as_secs(),
         tried.join(", "),
