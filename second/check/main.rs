@@ -3,16 +3,14 @@
 //!
 //! usage: check stored FILE... | check examples FILE... | check again FILE
 
-mod example;
-
-use example::{Expected, Question};
-use second::verdict::{hex, parse_marker, parse_solver, unhex};
+use second::verdict::hex;
+use written::{Expected, Question};
 
 fn main() {
     let words: Vec<String> = std::env::args().skip(1).collect();
     match words.iter().map(String::as_str).collect::<Vec<_>>().as_slice() {
-        ["stored", files @ ..] => hold_files(files, stored_questions),
-        ["examples", files @ ..] => hold_files(files, example::questions),
+        ["stored", files @ ..] => hold_files(files, written::stored),
+        ["examples", files @ ..] => hold_files(files, written::examples),
         ["again", file] => print_again(file),
         _ => {
             eprintln!("usage: check stored FILE... | check examples FILE... | check again FILE");
@@ -40,7 +38,7 @@ fn hold_files(files: &[&str], read: fn(&str) -> Result<Vec<Question>, String>) {
 
 fn print_again(path: &str) {
     for line in text_of(path).lines() {
-        let Some(Question { name, constraints, expected }) = stored_question(line) else {
+        let Some(Question { name, constraints, expected }) = written::stored_question(line) else {
             println!("{line}");
             continue;
         };
@@ -84,29 +82,4 @@ fn hold(question: &Question) -> Result<(), String> {
             archive::hold_marker(&question.constraints, answer, verdict).map_err(|disagreement| disagreement.0)
         }
     }
-}
-
-/// One question a line: its name, `solve`, constraints, buffer, allowance, verdict; or its name, `mark`, constraints, answer, verdict.
-fn stored_questions(text: &str) -> Result<Vec<Question>, String> {
-    let lines = text.lines().filter(|line| !line.is_empty() && !line.starts_with('#'));
-    lines.map(|line| stored_question(line).ok_or_else(|| format!("not a stored question: {line}"))).collect()
-}
-
-fn stored_question(line: &str) -> Option<Question> {
-    let words: Vec<&str> = line.split_whitespace().collect();
-    let (name, constraints, expected) = match words.as_slice() {
-        [name, "solve", constraints, buffer, allowance, verdict @ ..] => {
-            let verdict = parse_solver(verdict)?;
-            (
-                name,
-                constraints,
-                Expected::Solver { buffer: buffer.parse().ok()?, allowance: allowance.parse().ok()?, verdict },
-            )
-        }
-        [name, "mark", constraints, answer, verdict @ ..] => {
-            (name, constraints, Expected::Marker { answer: unhex(answer)?, verdict: parse_marker(verdict)? })
-        }
-        _ => return None,
-    };
-    Some(Question { name: name.to_string(), constraints: unhex(constraints)?, expected })
 }

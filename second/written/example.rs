@@ -12,20 +12,10 @@
 //!     var 0 0                 variable, node
 //!     gives tree 2            then its records; or none 2, spent 1, refused 7, met, unmet 0 child
 
+use crate::{Expected, Question};
 use second::constraint::KIND_NAMES;
-use second::verdict::{parse_marker, parse_solver, MarkerVerdict, SolverVerdict};
+use second::verdict::{parse_marker, parse_solver, SolverVerdict};
 use second::LEAST_BUFFER;
-
-pub struct Question {
-    pub name: String,
-    pub constraints: Vec<u8>,
-    pub expected: Expected,
-}
-
-pub enum Expected {
-    Solver { buffer: usize, allowance: u32, verdict: SolverVerdict },
-    Marker { answer: Vec<u8>, verdict: MarkerVerdict },
-}
 
 /// A question as far as it has been read.
 struct Draft {

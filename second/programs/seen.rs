@@ -1,0 +1,109 @@
+//! The sorts of what has been run, and which must come up.
+
+use second::constraint::KIND_NAMES;
+use second::verdict::{MarkerVerdict, SolverVerdict};
+use second::Refusal;
+use std::collections::BTreeSet;
+
+#[derive(Default)]
+pub struct Seen(BTreeSet<String>);
+
+impl Seen {
+    pub fn note(&mut self, sort: impl Into<String>) {
+        self.0.insert(sort.into());
+    }
+
+    pub fn solve(&mut self, constraints: &[u8], verdict: &SolverVerdict) {
+        self.note(format!("solve: {}", length_of(constraints)));
+        match verdict {
+            SolverVerdict::Tree { count, answer } => {
+                self.note("solve: tree");
+                self.note(format!("solve: {} in a count", digits(*count)));
+                for node in answer.chunks(4).filter(|record| record[0] == 1) {
+                    for (name, number) in [("parent", node[2]), ("label", node[3])] {
+                        if number > 0 {
+                            self.note(format!("solve: {} in a {name}", digits(number)));
+                        }
+                    }
+                }
+            }
+            SolverVerdict::None { count } => {
+                self.note("solve: none");
+                self.note(format!("solve: {} in a count", digits(*count)));
+            }
+            SolverVerdict::Spent { count } => self.note(format!("solve: spent {count}")),
+            SolverVerdict::Refused(Refusal(question)) => self.note(format!("solve: refused {question}")),
+        }
+    }
+
+    pub fn mark(&mut self, constraints: &[u8], answer: &[u8], verdict: &MarkerVerdict) {
+        self.note(format!("mark: {}", length_of(constraints)));
+        self.note(match answer.len() {
+            0..=4_095 => "mark: an answer below 4,096 bytes",
+            4_096 => "mark: an answer of 4,096 bytes",
+            4_097..=65_536 => "mark: an answer above 4,096 bytes",
+            _ => "mark: an answer above 65,536 bytes",
+        });
+        match verdict {
+            MarkerVerdict::Met => self.note("mark: met"),
+            MarkerVerdict::Unmet { position, kind } => {
+                self.note(format!("mark: unmet {}", KIND_NAMES[*kind as usize - 1]));
+                self.note(format!("mark: {} in a position", digits(*position)));
+            }
+            MarkerVerdict::Refused(Refusal(question)) => self.note(format!("mark: refused {question}")),
+        }
+    }
+
+    /// How many sorts must come up, or the first of them that did not.
+    pub fn all_that_must(&self) -> Result<usize, String> {
+        let sorts = must_be_seen();
+        match sorts.iter().find(|&sort| !self.0.contains(sort)) {
+            Some(sort) => Err(sort.clone()),
+            None => Ok(sorts.len()),
+        }
+    }
+}
+
+fn must_be_seen() -> Vec<String> {
+    let mut sorts: Vec<String> = Vec::new();
+    for program in ["solve", "mark"] {
+        sorts.extend(LENGTHS.map(|length| format!("{program}: {length}")));
+        let lost = ["is a full device", "is closed", "has room for three bytes"];
+        sorts.extend(lost.map(|how| format!("{program}: standard output {how}")));
+        sorts.extend((1..=6).map(|question| format!("{program}: refused {question}")));
+        sorts.extend(["usage", "in pieces", "at once"].map(|sort| format!("{program}: {sort}")));
+    }
+    sorts.extend(["tree", "none", "spent 1000000"].map(|sort| format!("solve: {sort}")));
+    sorts.extend((1..=6).map(|count| format!("solve: {} in a count", digits_of(count))));
+    for (number, most) in [("parent", 2), ("label", 3)] {
+        sorts.extend((1..=most).map(|count| format!("solve: {} in a {number}", digits_of(count))));
+    }
+    sorts.extend(["is a folder", "is closed"].map(|how| format!("solve: standard input {how}")));
+    sorts.extend(["met", "a file that is not there", "a folder"].map(|sort| format!("mark: {sort}")));
+    sorts.extend(KIND_NAMES.map(|kind| format!("mark: unmet {kind}")));
+    sorts.extend((1..=3).map(|count| format!("mark: {} in a position", digits_of(count))));
+    sorts.extend((8..=12).map(|question| format!("mark: refused {question}")));
+    let answers = ["below 4,096", "of 4,096", "above 4,096", "above 65,536"];
+    sorts.extend(answers.map(|length| format!("mark: an answer {length} bytes")));
+    sorts
+}
+
+const LENGTHS: [&str; 5] = ["no byte", "below 1,024 bytes", "1,024 bytes", "1,025 bytes", "above 1,025 bytes"];
+
+fn length_of(constraints: &[u8]) -> &'static str {
+    LENGTHS[match constraints.len() {
+        0 => 0,
+        1..=1_023 => 1,
+        1_024 => 2,
+        1_025 => 3,
+        _ => 4,
+    }]
+}
+
+fn digits(number: impl ToString) -> String {
+    digits_of(number.to_string().len())
+}
+
+fn digits_of(count: usize) -> String {
+    format!("{count} digit{}", if count == 1 { "" } else { "s" })
+}

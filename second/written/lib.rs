@@ -1,0 +1,42 @@
+//! Questions with a written result: the stored ones, which the second solver made, and the examples, which were worked out by hand.
+
+mod example;
+
+pub use example::questions as examples;
+use second::verdict::{parse_marker, parse_solver, unhex, MarkerVerdict, SolverVerdict};
+
+pub struct Question {
+    pub name: String,
+    pub constraints: Vec<u8>,
+    pub expected: Expected,
+}
+
+pub enum Expected {
+    Solver { buffer: usize, allowance: u32, verdict: SolverVerdict },
+    Marker { answer: Vec<u8>, verdict: MarkerVerdict },
+}
+
+/// One question a line: its name, `solve`, constraints, buffer, allowance, verdict; or its name, `mark`, constraints, answer, verdict.
+pub fn stored(text: &str) -> Result<Vec<Question>, String> {
+    let lines = text.lines().filter(|line| !line.is_empty() && !line.starts_with('#'));
+    lines.map(|line| stored_question(line).ok_or_else(|| format!("not a stored question: {line}"))).collect()
+}
+
+pub fn stored_question(line: &str) -> Option<Question> {
+    let words: Vec<&str> = line.split_whitespace().collect();
+    let (name, constraints, expected) = match words.as_slice() {
+        [name, "solve", constraints, buffer, allowance, verdict @ ..] => {
+            let verdict = parse_solver(verdict)?;
+            (
+                name,
+                constraints,
+                Expected::Solver { buffer: buffer.parse().ok()?, allowance: allowance.parse().ok()?, verdict },
+            )
+        }
+        [name, "mark", constraints, answer, verdict @ ..] => {
+            (name, constraints, Expected::Marker { answer: unhex(answer)?, verdict: parse_marker(verdict)? })
+        }
+        _ => return None,
+    };
+    Some(Question { name: name.to_string(), constraints: unhex(constraints)?, expected })
+}
