@@ -1,5 +1,5 @@
 -- What is kept of an answer read in pieces is judged as the whole answer is: by induction on the pieces, since shortening leaves the
--- judgement as it is whatever follows.
+-- answerJudgement as it is whatever follows.
 use mathlib.Core.Path.{refl, _∙_}
 use mathlib.Core.List.{[], _∷_, _++_, append-assoc}
 use Rattle.answers.specs.Pieces.{kept, joined, KeptAsJoined}

@@ -12,9 +12,8 @@ use Rattle.meaning.specs.ReadOff.{Decides}
 use Rattle.meaning.specs.Constraint.{Fact, child, below, differ, root, leaf, label}
 use Rattle.meaning.specs.Settled.{Settled, given, Clash, differs, labels, child-below, child-differ, self-below, chain, root-below, leaf-below, one-parent, differ-back, same-parent, same-child, same-differ, same-root, same-leaf, same-label}
 use Rattle.meaning.specs.Finite.{Yes}
-use Rattle.meaning.proofs.Rules.{Rules}
+use Rattle.meaning.specs.Closed.{Rules, Within, Inside}
 use Rattle.meaning.proofs.Tests.{yes-eq}
-use Rattle.meaning.proofs.Facts.{Within, Inside}
 use Rattle.meaning.proofs.Least.{settled-mono, settled-within}
 use Rattle.theory.proofs.Closure.{rules-decide}
 use Rattle.rowbits.specs.Bit.{bit}

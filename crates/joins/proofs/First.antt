@@ -1,5 +1,5 @@
 -- A join is read from the rows of z, x and y. With the parents of z all the same, any of them, y, tells whether x makes a parent join; of
--- two variables that are apart the smaller is found first, so it is the x of a chain join.
+-- two variables that are incomparable the smaller is found first, so it is the x of a chain join.
 use mathlib.Core.Path.{_≡_, refl, sym, ap, _∙_, subst}
 use mathlib.Core.Logic.{_⊎_, ⊎-elim}
 use mathlib.Core.Bool.{Bool}
@@ -25,7 +25,7 @@ use Rattle.tables.specs.Rows.{Gathers, Lowest, meets, without}
 use Rattle.tables.specs.declared.Facts.{Facts}
 use Rattle.tables.proofs.Bits.{in-both, both-in, or-l, or-r, or-case, all-is, all-has, without-in, without-out, flip-has, flip-not, meets-in, meets-out}
 use Rattle.tables.proofs.Loops.{below-cases}
-use Rattle.joins.specs.Found.{Apart}
+use Rattle.joins.specs.Found.{Incomparable}
 use Rattle.joins.proofs.Find.{firstOf-is-none, firstOf-is-some}
 
 -- no join at a z that was passed
@@ -95,7 +95,7 @@ module _ (n : ℕ) (small : n ≤ 16) (S : List Fact) (f : Facts) (r : Ready n S
       ordered : x < y
       above-x : Yes (bit (row (f .above) z) x)
       above-y : Yes (bit (row (f .above) z) y)
-      apart : ¬ Yes (bit (bitOr (row (f .below) x) (row (f .above) x)) y)
+      incomparable : ¬ Yes (bit (bitOr (row (f .below) x) (row (f .above) x)) y)
 
     chain-parts : Yes (isChainJoin h z x y) → ChainParts
     unfolding isChainJoin
@@ -104,7 +104,7 @@ module _ (n : ℕ) (small : n ≤ 16) (S : List Fact) (f : Facts) (r : Ready n S
           ordered = is-lt (and-left _ u);
           above-x = above-is x z hx hz ∙ and-left _ v;
           above-y = above-is y z hy hz ∙ and-left _ (and-right _ v);
-          apart = λ t. ⊎-elim (λ b. clash (sym (below-is x y) ∙ b) (and-left _ (and-right _ (and-right _ v))))
+          incomparable = λ t. ⊎-elim (λ b. clash (sym (below-is x y) ∙ b) (and-left _ (and-right _ (and-right _ v))))
               (λ a. clash (sym (above-is y x hy hx) ∙ a) (and-right _ (and-right _ (and-right _ v)))) (or-case _ _ y t);
         }
 
@@ -112,7 +112,7 @@ module _ (n : ℕ) (small : n ≤ 16) (S : List Fact) (f : Facts) (r : Ready n S
     unfolding isChainJoin
     parts-chain p =
         and-both (lt-yes (p .ordered)) (and-both (sym (above-is x z hx hz) ∙ p .above-x) (and-both (sym (above-is y z hy hz) ∙ p .above-y)
-        (and-both (no-neg (λ t. p .apart (or-l (row (f .below) x) (row (f .above) x) y (below-is x y ∙ t)))) (no-neg (λ t. p .apart (or-r (row (f .below) x) (row (f .above) x) y (above-is y x hy hx ∙ t)))))))
+        (and-both (no-neg (λ t. p .incomparable (or-l (row (f .below) x) (row (f .above) x) y (below-is x y ∙ t)))) (no-neg (λ t. p .incomparable (or-r (row (f .below) x) (row (f .above) x) y (above-is y x hy hx ∙ t)))))))
 
     apart-back : ¬ Yes (bit (bitOr (row (f .below) x) (row (f .above) x)) y) → ¬ Yes (bit (bitOr (row (f .below) y) (row (f .above) y)) x)
     apart-back p t = p (⊎-elim (λ b. or-r (row (f .below) x) (row (f .above) x) y (above-is y x hy hx ∙ sym (below-is y x) ∙ b))
@@ -171,36 +171,36 @@ module _ (n : ℕ) (small : n ≤ 16) (f : Facts) (vars : ℕ) (ev : vars ≡ 2 
 
 -- ---- the chain joins at z
 
-module _ (n : ℕ) (small : n ≤ 16) (f : Facts) (vars : ℕ) (ev : vars ≡ 2 ^ n - 1) (apart : List ℕ) (ea : Apart (f .below) (f .above) apart) (z : Var) (hz : z < n)
-    (g : ℕ) (gp : Gathers (λ k. meets (row apart k) (bitAnd (row (f .above) z) vars)) g)
+module _ (n : ℕ) (small : n ≤ 16) (f : Facts) (vars : ℕ) (ev : vars ≡ 2 ^ n - 1) (incomparable : List ℕ) (ea : Incomparable (f .below) (f .above) incomparable) (z : Var) (hz : z < n)
+    (g : ℕ) (gp : Gathers (λ k. meets (row incomparable k) (bitAnd (row (f .above) z) vars)) g)
     (x : ℕ) (lx : Lowest (bitAnd (bitAnd (row (f .above) z) vars) g) x) where
   abbrev u : ℕ
   u = bitAnd (row (f .above) z) vars
 
-  apart-in : (i k : Var) → i < 16 → k < 16 → ¬ Yes (bit (bitOr (row (f .below) i) (row (f .above) i)) k) → Yes (bit (row apart i) k)
+  apart-in : (i k : Var) → i < 16 → k < 16 → ¬ Yes (bit (bitOr (row (f .below) i) (row (f .above) i)) k) → Yes (bit (row incomparable i) k)
   apart-in i k hi hk p = subst (λ (j : ℕ). Yes (bit j k)) (sym (ea i hi)) (flip-has _ k hk p)
 
-  apart-out : (i k : Var) → i < 16 → k < 16 → Yes (bit (row apart i) k) → ¬ Yes (bit (bitOr (row (f .below) i) (row (f .above) i)) k)
+  apart-out : (i k : Var) → i < 16 → k < 16 → Yes (bit (row incomparable i) k) → ¬ Yes (bit (bitOr (row (f .below) i) (row (f .above) i)) k)
   apart-out i k hi hk p = flip-not _ k hk (subst (λ (j : ℕ). Yes (bit j k)) (ea i hi) p)
 
-  -- a member of u that is apart from another
-  in-c : (i k : Var) → i < 16 → Yes (bit u i) → Yes (bit u k) → Yes (bit (row apart i) k) → Yes (bit (bitAnd u g) i)
-  in-c i k hi ui uk p = both-in u g i ui (gp .to i hi (meets-in (row apart i) u k p uk))
+  -- a member of u that is incomparable from another
+  in-c : (i k : Var) → i < 16 → Yes (bit u i) → Yes (bit u k) → Yes (bit (row incomparable i) k) → Yes (bit (bitAnd u g) i)
+  in-c i k hi ui uk p = both-in u g i ui (gp .to i hi (meets-in (row incomparable i) u k p uk))
 
   record Passed (i k : Var) : Type 0 where
     u-i : Yes (bit u i)
     u-k : Yes (bit u k)
-    apart-i : Yes (bit (row apart i) k)
+    apart-i : Yes (bit (row incomparable i) k)
 
   passed : (S : List Fact) → Ready n S f → (i k : Var) → i < n → k < n → Yes (isChainJoin (has f) z i k) → Passed i k
   passed S r i k hi hk t =
       let p = chain-parts n small S f r z i k hz hi hk t in
-      record { u-i = vars-in _ vars n i ev hi (p .above-x); u-k = vars-in _ vars n k ev hk (p .above-y); apart-i = apart-in i k (le-trans hi small) (le-trans hk small) (p .apart) }
+      record { u-i = vars-in _ vars n i ev hi (p .above-x); u-k = vars-in _ vars n k ev hk (p .above-y); apart-i = apart-in i k (le-trans hi small) (le-trans hk small) (p .incomparable) }
 
   pub none-apart : 16 ≤ x → (S : List Fact) → Ready n S f → (i k : Var) → i < n → k < n → ¬ Yes (isChainJoin (has f) z i k)
   none-apart l S r i k hi hk t = let p = passed S r i k hi hk t in lx .none i (omega arith) (in-c i k (le-trans hi small) (p .u-i) (p .u-k) (p .apart-i))
 
-  module _ (m : x < 16) (fits : row apart x < 65536) (y : ℕ) (ly : Lowest (bitAnd u (row apart x)) y) where
+  module _ (m : x < 16) (fits : row incomparable x < 65536) (y : ℕ) (ly : Lowest (bitAnd u (row incomparable x)) y) where
     x-at : Yes (bit u x) × Yes (bit g x)
     x-at = in-both u g x (lx .this m)
 
@@ -208,14 +208,14 @@ module _ (n : ℕ) (small : n ≤ 16) (f : Facts) (vars : ℕ) (ev : vars ≡ 2 
     x-n = vars-out _ vars n x ev (x-at .0)
 
     y-16 : y < 16
-    y-16 = go (meets-out (row apart x) u fits (gp .from x (x-at .1))) (decLt y 16)
+    y-16 = go (meets-out (row incomparable x) u fits (gp .from x (x-at .1))) (decLt y 16)
       where
-        go : (i : ℕ) × Yes (bit (row apart x) i) × Yes (bit u i) → Dec (y < 16) → y < 16
+        go : (i : ℕ) × Yes (bit (row incomparable x) i) × Yes (bit u i) → Dec (y < 16) → y < 16
         go q (yes l) = l
-        go q (no l) = absurd (ly .none (q .0) (let i : q .0 < n = vars-out (row (f .above) z) vars n (q .0) ev (q .2) .1 in omega arith) (both-in u (row apart x) (q .0) (q .2) (q .1)))
+        go q (no l) = absurd (ly .none (q .0) (let i : q .0 < n = vars-out (row (f .above) z) vars n (q .0) ev (q .2) .1 in omega arith) (both-in u (row incomparable x) (q .0) (q .2) (q .1)))
 
-    y-at : Yes (bit u y) × Yes (bit (row apart x) y)
-    y-at = in-both u (row apart x) y (ly .this y-16)
+    y-at : Yes (bit u y) × Yes (bit (row incomparable x) y)
+    y-at = in-both u (row incomparable x) y (ly .this y-16)
 
     y-n : Yes (bit (row (f .above) z) y) × (y < n)
     y-n = vars-out _ vars n y ev (y-at .0)
@@ -223,7 +223,7 @@ module _ (n : ℕ) (small : n ≤ 16) (f : Facts) (vars : ℕ) (ev : vars ≡ 2 
     pub chain-named : (z < n) × (x < n) × (y < n)
     chain-named = (hz, x-n .1, y-n .1)
 
-    -- the smaller of two that are apart is found first
+    -- the smaller of two that are incomparable is found first
     x<y : (S : List Fact) → Ready n S f → x < y
     x<y S r = go (decLt x y) (ℕ-discrete x y)
       where
@@ -238,10 +238,10 @@ module _ (n : ℕ) (small : n ≤ 16) (f : Facts) (vars : ℕ) (ev : vars ≡ 2 
     pub chain-first : NoneBefore isChainJoin n f z → (S : List Fact) → Ready n S f → some (chain-join z x y) ≡ firstOf n (isChainJoin (has f)) chain-join
     chain-first before S r =
         sym (firstOf-is-some n (isChainJoin (has f)) chain-join z x y hz (x-n .1) (y-n .1)
-        (parts-chain n small S f r z x y hz (x-n .1) (y-n .1) record { ordered = x<y S r; above-x = x-n .0; above-y = y-n .0; apart = apart-out x y m y-16 (y-at .1) })
+        (parts-chain n small S f r z x y hz (x-n .1) (y-n .1) record { ordered = x<y S r; above-x = x-n .0; above-y = y-n .0; incomparable = apart-out x y m y-16 (y-at .1) })
         (before S r)
         (λ i k l hk t. let p = passed S r i k (le-trans l (le-of-lt (x-n .1))) hk t in lx .none i l (in-c i k (omega arith) (p .u-i) (p .u-k) (p .apart-i)))
-        (λ k l t. let p = passed S r x k (x-n .1) (le-trans l (le-of-lt (y-n .1))) t in ly .none k l (both-in u (row apart x) k (p .u-k) (p .apart-i))))
+        (λ k l t. let p = passed S r x k (x-n .1) (le-trans l (le-of-lt (y-n .1))) t in ly .none k l (both-in u (row incomparable x) k (p .u-k) (p .apart-i))))
 
 -- ---- no z is left
 

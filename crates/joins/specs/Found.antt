@@ -24,8 +24,8 @@ Named n (Parent z x y) = (z .0 < n) × (x .0 < n) × (y .0 < n)
 Named n (Chain z x y) = (z .0 < n) × (x .0 < n) × (y .0 < n)
 
 -- the rows of what is in neither of two tables
-abbrev pub Apart : List ℕ → List ℕ → List ℕ → Type 0
-Apart s t r = (x : ℕ) → x < 16 → row r x ≡ bitXor (bitOr (row s x) (row t x)) 65535
+abbrev pub Incomparable : List ℕ → List ℕ → List ℕ → Type 0
+Incomparable s t r = (x : ℕ) → x < 16 → row r x ≡ bitXor (bitOr (row s x) (row t x)) 65535
 
 pub record ChainOf (n : ℕ) (f : Facts) (r : Found) : Type 0 where
   pub first : (S : List Fact) → Ready n S f → joinOf r ≡ firstOf n (isChainJoin (has f)) chain-join

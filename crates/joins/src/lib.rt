@@ -3,7 +3,7 @@ ghost use mathlib.Core.List.{List};
 ghost use Prim.Native.Nat.{_≤_};
 ghost use Rattle.meaning.specs.Constraint.{Fact};
 ghost use Rattle.tables.specs.Tables.{Ready};
-ghost use Rattle.joins.specs.Found.{Apart, ChainIn, FoundIn, FoundOf};
+ghost use Rattle.joins.specs.Found.{Incomparable, ChainIn, FoundIn, FoundOf};
 use ids::Var;
 use tables::Facts;
 
@@ -15,8 +15,8 @@ pub enum Found {
 }
 
 // The variables that are neither above nor below each.
-fn apart_rows(below: [u16; 16], above: [u16; 16]) -> [u16; 16]
-    ensures { λ r. ⌜ Apart below above r ⌝ }
+fn incomparable_rows(below: [u16; 16], above: [u16; 16]) -> [u16; 16]
+    ensures { λ r. ⌜ Incomparable below above r ⌝ }
 {
     let mut a = below;
     for x in 0usize..16 {
@@ -27,13 +27,13 @@ fn apart_rows(below: [u16; 16], above: [u16; 16]) -> [u16; 16]
     a
 }
 
-// The first chain join: two variables above z that are apart, found from the smaller one.
+// The first chain join: two variables above z that are incomparable, found from the smaller one.
 fn chain_join(below: [u16; 16], above: [u16; 16], n: usize) -> Found
     requires { ⌜ n ≤ 16 ⌝ }
     ensures { λ r. ⌜ ChainIn n below above r ⌝ }
 {
     let vars = tables::all(n);
-    let apart = apart_rows(below, above);
+    let apart = incomparable_rows(below, above);
     for z in 0..n {
         let v = above[z];
         let u = v & vars;

@@ -6,7 +6,6 @@ pub mod Lists
 -- trees, facts, the settled set as the least one, and why every rule of settling is sound
 pub mod Trees
 pub mod Facts
-pub mod Rules
 pub mod Least
 pub mod Holds
 pub mod Constraints

@@ -26,14 +26,14 @@ ascii (c then s) = code c ∷ ascii s
 -- ---- numbers
 
 -- what stands before the last digit, unless that is 0
-unfoldable pub leading : ℕ → (Unit {0} → List ℕ) → List ℕ
-leading zero digits = []
-leading (suc k) digits = digits tt
+unfoldable pub beforeLast : ℕ → (Unit {0} → List ℕ) → List ℕ
+beforeLast zero digits = []
+beforeLast (suc k) digits = digits tt
 
 -- the digits of n, at most k of them
 unfoldable pub digitsOf : ℕ → ℕ → List ℕ
 digitsOf zero n = []
-digitsOf (suc k) n = leading (n / 10) (λ _. digitsOf k (n / 10)) ++ ((48 + n % 10) ∷ [])
+digitsOf (suc k) n = beforeLast (n / 10) (λ _. digitsOf k (n / 10)) ++ ((48 + n % 10) ∷ [])
 
 -- n in decimal: no number has more digits than its successor counts
 unfoldable pub decimal : ℕ → List ℕ

@@ -13,14 +13,14 @@ use Rattle.meaning.specs.Settled.{Settled, given, chain, leaf-below, self-below
 use Rattle.meaning.specs.Finite.{Yes}
 use Rattle.meaning.specs.ReadOff.{Decides}
 use Rattle.meaning.proofs.Least.{settled-mono, settled-rules}
-use Rattle.meaning.proofs.Facts.{Within}
+use Rattle.meaning.specs.Closed.{Within}
 use Rattle.theory.proofs.Closure.{rules-decide}
 use Rattle.rowbits.specs.Bit.{bit}
 use Rattle.tables.specs.Tables.{row, has, Ready}
 use Rattle.tables.specs.Rows.{meets}
 use Rattle.tables.specs.declared.Facts.{Facts}
 use Rattle.tables.proofs.Labels.{label-is}
-use Rattle.merge.specs.Rows.{Apart}
+use Rattle.merge.specs.Rows.{WithGap}
 use Rattle.merge.specs.Merging.{Awaits, held, waits, In, Held, Pending, MergedOf}
 use Rattle.tables.proofs.Bits.{or-case, or-l, or-r, one-is, one-has, meets-out, in-row}
 use Rattle.merge.proofs.Rounds.{sharing-same, none-left, narrow}
@@ -73,7 +73,7 @@ module _ (n : ℕ) (S : List Fact) (a b : Var) where
       complete = start-complete;
       sharing = sharing-same n (Settled n S) (Held f) (λ φ h. r .decides .complete h) (λ φ u. r .decides .sound u) (settled-rules n S .sharing);
       one-parent = λ x y z u v. held (r .decides .complete (one-parent (r .decides .sound u) (r .decides .sound v)));
-      apart = λ x u. r .free (differs (r .decides .sound u));
+      no-self-differ = λ x u. r .free (differs (r .decides .sound u));
       mirrored = r .mirrored;
     }
 
@@ -86,7 +86,7 @@ module _ (n : ℕ) (T : List Fact) (f : Facts) (p : Pending n T 0 f) where
       (record { sharing = p .sharing; one-parent = λ x y z u v. none-left f (below x y) (p .one-parent x y z u v) })
 
   done-free : ¬ Clash n T
-  done-free (differs {x} c) = p .apart x (done-decides .complete c)
+  done-free (differs {x} c) = p .no-self-differ x (done-decides .complete c)
   done-free (labels {x} {l} {m} c d z) = z (sym (label-is f x l (done-decides .complete c) .0) ∙ label-is f x m (done-decides .complete d) .0)
 
   pub done : Ready n T f
@@ -94,7 +94,7 @@ module _ (n : ℕ) (T : List Fact) (f : Facts) (p : Pending n T 0 f) where
 
 -- ---- the contract
 
-module _ (n : ℕ) (f : Facts) (a b : Var) (few : n ≤ 16) (ha : a < n) (hb : b < n) (x : ℕ) (h : Apart (f .below) (bitOr (2 ^ a) (2 ^ b)) x) where
+module _ (n : ℕ) (f : Facts) (a b : Var) (few : n ≤ 16) (ha : a < n) (hb : b < n) (x : ℕ) (h : WithGap (f .below) (bitOr (2 ^ a) (2 ^ b)) x) where
   begun : (S : List Fact) → Ready n S f → Settled n (below a b ∷ S) (below b a) → Pending n (below a b ∷ S) x f
   begun S r back = narrow n (below a b ∷ S) f _ x h (start n S a b few ha hb f r back)
 

@@ -7,9 +7,8 @@ use Prim.Native.Nat.{ℕ}
 use Rattle.meaning.specs.Tree.{Var}
 use Rattle.meaning.specs.Constraint.{Fact, child, below, differ, root, leaf, label}
 use Rattle.meaning.specs.Settled.{Settled, chain, same-parent, same-child, same-differ, same-root, same-leaf, same-label, differ-back}
-use Rattle.meaning.proofs.Facts.{Within}
+use Rattle.meaning.specs.Closed.{Within, Sharing}
 use Rattle.merge.specs.Merging.{Awaits, held, waits}
-use Rattle.meaning.proofs.Rules.{Sharing}
 
 -- where a set of facts can be glued
 pub record Cut (P : Fact → Type 0) (Up Down : Var → Type 0) : Type 0 where

@@ -17,7 +17,7 @@ use Rattle.tables.specs.Tables.{row}
 use Rattle.tables.specs.Rows.{without, Lowest, Union}
 use Rattle.tables.proofs.Bits.{none-in, or-case, or-l, or-r, one-is, one-has, one-small, in-both, both-in, some-in, in-row, without-in, without-out}
 use Rattle.tables.proofs.Members.{Passed, passed-none, next-in, next-named, passed-more, passed-all}
-use Rattle.merge.specs.Rows.{Apart, LabelOf, TwoLabels, Painted}
+use Rattle.merge.specs.Rows.{WithGap, LabelOf, TwoLabels, Painted}
 use Rattle.tables.proofs.Tested.{and-yes, yes-and, not-eq, eq-not, not-yes}
 
 -- ---- rows changed
@@ -46,7 +46,7 @@ is-whole t rows x small z j v =
     (λ y. none-in j (subst (λ (k : ℕ). Yes (bit k j)) z (without-in rows (row t x) j (in-row rows j small v) v (λ q. clash q y))))
     (yes-case (bit (row t x) j))
 
-pub is-apart : (t : List ℕ) (rows x : ℕ) → rows < 65536 → Yes (bit rows x) → without rows (row t x) ≢ 0 → Apart t rows rows
+pub is-apart : (t : List ℕ) (rows x : ℕ) → rows < 65536 → Yes (bit rows x) → without rows (row t x) ≢ 0 → WithGap t rows rows
 unfolding without
 is-apart t rows x small u z =
     let s : bitAnd rows (bitXor (row t x) 65535) < 65536 = let l = and-le-l rows (bitXor (row t x) 65535) in omega arith in
@@ -57,7 +57,7 @@ is-apart t rows x small u z =
       some = λ _. (refl, record { at = x; lacks = w .0; at-in = u; lacks-in = k .0; missing = k .1 });
     }
 
-pub not-apart : (t : List ℕ) (rows rest : ℕ) → Passed (Whole t rows) rows rest → rest ≡ 0 → Apart t rows 0
+pub not-apart : (t : List ℕ) (rows rest : ℕ) → Passed (Whole t rows) rows rest → rest ≡ 0 → WithGap t rows 0
 not-apart t rows rest w z = record { none = λ _ i j u v. passed-all _ rows rest w z i u j v; some = λ n. absurd (n refl) }
 
 -- ---- two rows
@@ -86,7 +86,7 @@ module _ (t : List ℕ) (a b : ℕ) (ha : a < 16) (hb : b < 16) where
   two-small : two < 65536
   two-small = or-lt 16 (2 ^ a) (2 ^ b) (one-small a ha) (one-small b hb)
 
-  pub not-apart-two : without two (bitAnd (row t a) (row t b)) ≡ 0 → Apart t two 0
+  pub not-apart-two : without two (bitAnd (row t a) (row t b)) ≡ 0 → WithGap t two 0
   not-apart-two z = record {
     none = λ _ i j u v. two-case (λ k. Yes (bit (row t k) j)) a b (both j v .0) (both j v .1) i u;
     some = λ n. absurd (n refl);
@@ -98,7 +98,7 @@ module _ (t : List ℕ) (a b : ℕ) (ha : a < 16) (hb : b < 16) where
           (λ y. none-in j (subst (λ (k : ℕ). Yes (bit k j)) z (without-in two (bitAnd (row t a) (row t b)) j (in-row two j two-small v) v (λ q. clash q y))))
           (yes-case (bit (bitAnd (row t a) (row t b)) j)))
 
-  pub is-apart-two : without two (bitAnd (row t a) (row t b)) ≢ 0 → Apart t two two
+  pub is-apart-two : without two (bitAnd (row t a) (row t b)) ≢ 0 → WithGap t two two
   unfolding without
   is-apart-two z =
       let l = and-le-l two (bitXor (bitAnd (row t a) (row t b)) 65535) in

@@ -6,10 +6,9 @@ use Prim.Native.Nat.{ℕ}
 use Rattle.meaning.specs.Tree.{Var}
 use Rattle.meaning.specs.Constraint.{Fact, below, leaf}
 use Rattle.meaning.specs.Settled.{Settled, chain, leaf-below}
-use Rattle.meaning.proofs.Facts.{Within, Inside}
+use Rattle.meaning.specs.Closed.{Within, Inside, Sharing}
 use Rattle.meaning.proofs.Least.{settled-within}
 use Rattle.merge.specs.Merging.{Awaits, held, waits}
-use Rattle.meaning.proofs.Rules.{Sharing}
 use Rattle.merge.proofs.Glue.{Cut}
 
 module _ (P : Fact → Type 0) (X : Var → Type 0) where

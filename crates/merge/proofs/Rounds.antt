@@ -13,7 +13,7 @@ use Rattle.meaning.specs.Tree.{Var}
 use Rattle.meaning.specs.Constraint.{Fact, child, below, differ, root, leaf, label}
 use Rattle.meaning.specs.Settled.{Settled, Clash, differs, labels, one-parent, same-child, same-differ, same-label}
 use Rattle.meaning.specs.Finite.{Yes, neg, pick, one}
-use Rattle.meaning.proofs.Facts.{Within}
+use Rattle.meaning.specs.Closed.{Within, Sharing}
 use Rattle.meaning.proofs.Finite.{sum-le, sum-lt, one-le, one-lt}
 use Rattle.meaning.proofs.Tests.{clash, no-neg}
 use Rattle.rowbits.specs.Bit.{bit}
@@ -22,9 +22,8 @@ use Rattle.tables.specs.Rows.{gained, meets, Raised, Union}
 use Rattle.tables.specs.declared.Facts.{Facts}
 use Rattle.tables.proofs.Bits.{in-both, both-in, none-in, meets-in, meets-out, in-row, or-l}
 use Rattle.tables.proofs.Labels.{label-has}
-use Rattle.merge.specs.Rows.{Gap, Apart, LabelOf, Painted}
+use Rattle.merge.specs.Rows.{Gap, WithGap, LabelOf, Painted}
 use Rattle.merge.specs.Merging.{Awaits, held, waits, In, Held, Pending, lacking, RoundOf}
-use Rattle.meaning.proofs.Rules.{Sharing}
 use Rattle.merge.proofs.Glue.{Cut, Twin, Glued, Over, glued-sharing, glued-apart, arrived, glued-parent, glued-sound}
 use Rattle.merge.proofs.Reach.{Reach, within, ends, cut, glue}
 use Rattle.merge.proofs.Masks.{reach, union-columns, columns-union}
@@ -211,7 +210,7 @@ module _ (n : ℕ) (T : List Fact) (f : Facts) (x u w : ℕ) (p : Pending n T x 
       sharing = sharing-same n (Glued P (In u) (In w)) (Held g) glued-has has-glued (glued-sharing n P (In u) (In w) s c);
       one-parent = λ i j k y z. ⊎-elim (λ h. held (glued-has (below i j) h)) (λ h. waits (over i (h .0)) (over j (h .1)))
           (glued-parent n P (In u) (In w) s c inside-of (In x) x-ends (p .one-parent) i j k (has-glued (child i k) y) (has-glued (child j k) z));
-      apart = λ i y. glued-apart n P (In u) (In w) s c (p .apart)
+      no-self-differ = λ i y. glued-apart n P (In u) (In w) s c (p .no-self-differ)
           (λ i j a b. apart-in i j (both-in u w i (a .0) (a .1)) (both-in u w j (b .0) (b .1))) i (has-glued (differ i i) y);
       mirrored = record {
         parents = columns-raised _ _ parents m _ _
@@ -228,7 +227,7 @@ pub none-left : (f : Facts) (φ : Fact) → Awaits (In 0) (Held f) φ → Held f
 none-left f φ (held y) = y
 none-left f φ (waits {x = i} y z) = none-in i y
 
-pub narrow : (n : ℕ) (T : List Fact) (f : Facts) (x r : ℕ) → Apart (f .below) x r → Pending n T x f → Pending n T r f
+pub narrow : (n : ℕ) (T : List Fact) (f : Facts) (x r : ℕ) → WithGap (f .below) x r → Pending n T x f → Pending n T r f
 unfolding has
 narrow n T f x r a p = go (ℕ-discrete r 0)
   where
@@ -245,7 +244,7 @@ narrow n T f x r a p = go (ℕ-discrete r 0)
       complete = λ φ h. held (all-there e φ (p .complete φ h));
       sharing = p .sharing;
       one-parent = λ i j k y z. held (all-there e (below i j) (p .one-parent i j k y z));
-      apart = p .apart;
+      no-self-differ = p .no-self-differ;
       mirrored = p .mirrored;
     }
 
@@ -294,7 +293,7 @@ module _ (f : Facts) (x w near far far-of : ℕ) (small : x < 65536) (uw : Union
       → RoundOf f x (record { clash = true; next = 0; facts = f })
   round-labels l lo y = clashing (λ n T p. clash-labels n T f x U D p (reached n T p) l lo (y .0) (y .1) (y .2) (y .3))
 
-  pub round-well : f .root < 65536 → f .leaf < 65536 → (parents : ℕ) (g : Facts) → Made f U D M parents g → (next : ℕ) → Apart (g .below) parents next
+  pub round-well : f .root < 65536 → f .leaf < 65536 → (parents : ℕ) (g : Facts) → Made f U D M parents g → (next : ℕ) → WithGap (g .below) parents next
       → RoundOf f x (record { clash = false; next = next; facts = g })
   round-well root-small leaf-small parents g q next a = record {
     clashes = λ e. absurd (false≢true e);

@@ -18,7 +18,7 @@ use Rattle.tables.proofs.Helpers.{gain-off}
 use Rattle.tables.proofs.Bits.{in-both, both-in, gained-up, gained-has, gained-case, meets-in, meets-out}
 use Rattle.merge.specs.Rows.{LabelOf, Painted}
 use Rattle.merge.specs.Merging.{In}
-use Rattle.meaning.proofs.Rules.{Sharing}
+use Rattle.meaning.specs.Closed.{Sharing}
 use Rattle.merge.proofs.Loops.{all-rows}
 use Rattle.merge.proofs.Glue.{Cut, Twin, One, Two, mid-twin, twin-cases}
 

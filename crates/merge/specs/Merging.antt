@@ -9,8 +9,7 @@ use Rattle.meaning.specs.Tree.{Var}
 use Rattle.meaning.specs.Constraint.{Fact, child, below, differ, leaf}
 use Rattle.meaning.specs.Settled.{Settled, Clash}
 use Rattle.meaning.specs.Finite.{Yes, neg, sum, one}
-use Rattle.meaning.proofs.Rules.{Sharing}
-use Rattle.meaning.proofs.Facts.{Inside}
+use Rattle.meaning.specs.Closed.{Sharing, Inside}
 use Rattle.tables.specs.Tables.{row, has, Mirrored, Ready}
 use Rattle.tables.specs.declared.Facts.{Facts}
 use Rattle.merge.specs.declared.Round.{Round}
@@ -37,7 +36,7 @@ pub record Pending (n : ℕ) (T : List Fact) (x : ℕ) (f : Facts) : Type 0 wher
   pub complete : (φ : Fact) → List·Memᴰ φ T → Awaits (In x) (Held f) φ
   pub sharing : Sharing n (Held f)
   pub one-parent : (x₁ x₂ y : Var) → Held f (child x₁ y) → Held f (child x₂ y) → Awaits (In x) (Held f) (below x₁ x₂)
-  pub apart : (y : Var) → ¬ Held f (differ y y)
+  pub no-self-differ : (y : Var) → ¬ Held f (differ y y)
   pub mirrored : Mirrored f
 
 -- how many pairs a table lacks

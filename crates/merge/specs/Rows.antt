@@ -17,7 +17,7 @@ pub record Gap (t : List ℕ) (rows : ℕ) : Type 0 where
   pub missing : ¬ Yes (bit (row t at) lacks)
 
 -- the rows named where there is such a gap, else none
-pub record Apart (t : List ℕ) (rows r : ℕ) : Type 0 where
+pub record WithGap (t : List ℕ) (rows r : ℕ) : Type 0 where
   pub none : r ≡ 0 → (i j : ℕ) → Yes (bit rows i) → Yes (bit rows j) → Yes (bit (row t i) j)
   pub some : r ≢ 0 → (r ≡ rows) × Gap t rows
 

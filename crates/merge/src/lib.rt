@@ -2,15 +2,15 @@
 ghost use Prim.Native.Nat.{_<_, _≤_, _^_};
 ghost use lib.Bits.{bitOr};
 ghost use Rattle.tables.specs.Rows.{Union};
-ghost use Rattle.merge.specs.Rows.{Apart, LabelOf, TwoLabels, Painted};
+ghost use Rattle.merge.specs.Rows.{WithGap, LabelOf, TwoLabels, Painted};
 ghost use Rattle.merge.specs.Merging.{RoundOf, Joining, MergedOf};
 use ids::Var;
 use tables::Facts;
 use tables::Settled;
 
 // The rows named, if one of them lacks one of them; else no row.
-fn apart(t: [u16; 16], rows: u16) -> u16
-    ensures { λ r. ⌜ Apart t rows r ⌝ }
+fn with_gap(t: [u16; 16], rows: u16) -> u16
+    ensures { λ r. ⌜ WithGap t rows r ⌝ }
 {
     let mut rest = rows;
     while rest != 0 {
@@ -35,9 +35,9 @@ fn union_two(t: [u16; 16], a: usize, b: usize) -> u16
 }
 
 // Both a and b, if the row of one lacks one of them; else none.
-fn apart_two(t: [u16; 16], a: usize, b: usize) -> u16
+fn two_with_gap(t: [u16; 16], a: usize, b: usize) -> u16
     requires { ⌜ (a < 16) × (b < 16) ⌝ }
-    ensures { λ r. ⌜ Apart t (bitOr (2 ^ a) (2 ^ b)) r ⌝ }
+    ensures { λ r. ⌜ WithGap t (bitOr (2 ^ a) (2 ^ b)) r ⌝ }
 {
     let v = t[a];
     let w = t[b];
@@ -152,7 +152,7 @@ fn unify(f: Facts, x: u16, lower: u16, upper: u16) -> Round
     let new_label = paint(label, group, shown);
     let root = tables::gain(tables::meet(f.root, group), f.root, group);
     let leaf = tables::gain(tables::meet(f.leaf, group), f.leaf, group);
-    let next = apart(new_below, parents);
+    let next = with_gap(new_below, parents);
     Round {
         clash: false,
         next,
@@ -180,7 +180,7 @@ pub fn enter_same(f: Facts, n: usize, a: Var, b: Var) -> Settled
     let mut below = f.below;
     let mut above = f.above;
     let mut g = f;
-    let mut x = apart_two(below, i, j);
+    let mut x = two_with_gap(below, i, j);
     let mut lower = union_two(below, i, j);
     let mut upper = union_two(above, i, j);
     while x != 0 {

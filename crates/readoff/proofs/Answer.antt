@@ -18,7 +18,7 @@ use Rattle.tables.specs.Tables.{row, has, Columns, Ready}
 use Rattle.readoff.specs.declared.Order.{Order}
 use Rattle.readoff.specs.Rows.{Gathered, isLow}
 use Rattle.readoff.specs.Listing.{groups, listed, Listed, Led, placeIn, nodeIn}
-use Rattle.readoff.specs.Written.{Wrote, Answered}
+use Rattle.readoff.specs.Written.{Wrote, FileWritten}
 use Rattle.readoff.proofs.Layered.{Layered}
 use Rattle.readoff.proofs.Listing.{length-groups}
 use Rattle.readoff.proofs.Meaning.{order-most, order-is, blank-is, places-are, nodes-are}
@@ -38,7 +38,7 @@ front-length (suc (suc k)) l = absurd (omega arith)
 
 module _ (n : ℕ) (few : n ≤ 16) (h : FactSet) where
   abbrev rest : List NodeRecord
-  rest = map (λ (g : ℕ). record { up = parentOf n h g; mark = labelOf n h g }) (order n h)
+  rest = map (λ (g : ℕ). record { up = parentOf n h g; label = labelOf n h g }) (order n h)
 
   nodes-bytes : nodeBytes 0 (nodes n h) ≡ nodeBytes 0 (front (blank n h)) ++ nodeBytes (blank n h) rest
   unfolding nodes
@@ -52,7 +52,7 @@ module _ (n : ℕ) (few : n ≤ 16) (h : FactSet) where
       let a = length-nodeBytes 0 (front (blank n h) ++ rest) in
       let b = length-append (front (blank n h)) rest in
       let c = front-length (blank n h) (blank-most n h) in
-      let d = length-map {B = NodeRecord} (order n h) (λ (g : ℕ). record { up = parentOf n h g; mark = labelOf n h g }) in
+      let d = length-map {B = NodeRecord} (order n h) (λ (g : ℕ). record { up = parentOf n h g; label = labelOf n h g }) in
       omega arith
 
   file-length : length (answerFile n h) ≡ (blank n h + length (order n h)) * 4 + n * 4
@@ -65,7 +65,7 @@ module _ (n : ℕ) (few : n ≤ 16) (h : FactSet) where
 
   answered : (old first second new : List ℕ) → 132 ≤ length old → Wrote 0 (nodeBytes 0 (front (blank n h))) old first
       → Wrote (blank n h * 4) (nodeBytes (blank n h) rest) first second → Wrote ((blank n h + length (order n h)) * 4) (placeBytes 0 (places n h)) second new
-      → Answered n h old ((blank n h + length (order n h)) * 4 + n * 4) new
+      → FileWritten n h old ((blank n h + length (order n h)) * 4 + n * 4) new
   unfolding answerFile
   answered old first second new room w v u = record {
     size = sym file-length;
@@ -126,7 +126,7 @@ module _ (f : Facts) (n lows : ℕ) (rows : List ℕ) (o : Order) (s : Ordered f
         → Wrote 0 (nodeBytes 0 (front k)) old first
         → Wrote (k * 4) (nodeBytes k (map (nodeIn (f .below) (f .above) (f .label) n lows k (groups o)) (groups o))) first second
         → Wrote ((k + o .len) * 4) (placeBytes 0 ns) second new → ns ≡ tab n (placeIn (f .below) (f .above) k (groups o))
-        → Answered n (has f) old ((k + o .len) * 4 + n * 4) new
+        → FileWritten n (has f) old ((k + o .len) * 4 + n * 4) new
     file-written old first second new ns room bytes w v u d =
         rw (first-is, len-is)
         (answered n (s .few) (has f) old first second new room (rw first-is at w)

@@ -16,7 +16,7 @@ use Rattle.meaning.proofs.Tests.{clash, yes-eq, no-neg, is-eq, eq-yes, self-eq,
 use Rattle.meaning.proofs.Finite.{any-intro, any-elim}
 use Rattle.rowbits.specs.Bit.{bit, withBit}
 use Rattle.rowbits.proofs.Laws.{bit-and, bit-with, bit-none, with-lt}
-use Rattle.tables.specs.Rows.{gained, marked, without}
+use Rattle.tables.specs.Rows.{gained, gainedOne, without}
 use Rattle.tables.proofs.Bits.{all-has, some-in, without-in, without-out}
 use Rattle.tables.proofs.Helpers.{and-is}
 use Rattle.readoff.specs.Rows.{Gathered}
@@ -148,12 +148,12 @@ empty k a l h =
 pub gather-none : (p : ℕ → Bool) → Gathered 0 p 0
 gather-none p = record { small = omega arith; each = λ y l. absurd (not-suc-le-zero l) }
 
-marked-is : (t : Bool) (a k : ℕ) → marked t a k ≡ pick t (withBit a k) a
-unfolding marked gained pick withBit
+marked-is : (t : Bool) (a k : ℕ) → gainedOne t a k ≡ pick t (withBit a k) a
+unfolding gainedOne gained pick withBit
 marked-is true a k = refl
 marked-is false a k = or-zero-r a
 
-pub gather-more : (p : ℕ → Bool) (k a b : ℕ) (t : Bool) → t ≡ p k → b ≡ marked t a k → Gathered k p a → Gathered (k + 1) p b
+pub gather-more : (p : ℕ → Bool) (k a b : ℕ) (t : Bool) → t ≡ p k → b ≡ gainedOne t a k → Gathered k p a → Gathered (k + 1) p b
 unfolding pick
 gather-more p k a b t e d g = record {
   small = subst (λ (r : ℕ). r < 2 ^ (k + 1)) (sym (d ∙ marked-is t a k)) (small t);

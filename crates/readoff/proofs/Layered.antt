@@ -12,7 +12,7 @@ use lib.Seq.{getD-set-same, getD-set-other}
 use Rattle.meaning.specs.Finite.{_and_}
 use Rattle.meaning.proofs.Tests.{eq-yes, is-eq}
 use Rattle.rowbits.specs.Bit.{bit}
-use Rattle.tables.specs.Rows.{marked}
+use Rattle.tables.specs.Rows.{gainedOne}
 use Rattle.tables.proofs.Helpers.{gain-off}
 use Rattle.tables.specs.Tables.{row}
 use Rattle.readoff.specs.Rows.{Gathered, overRow, deep, inLayer}
@@ -27,8 +27,8 @@ module _ (t u : List ℕ) (n lows : ℕ) where
   layered-none d h = subst (Gathered 0 _) (sym (getD-replicate 17 d 0 0 h)) (gather-none _)
 
   pub layered-more : (x above depth v : ℕ) (s : Bool) (layer : List ℕ) → length layer ≡ 17 → above ≡ overRow n (row u x) (row t x) → depth ≡ ones (bitAnd above lows) → s ≡ bit lows x
-      → v ≡ marked s (row layer depth) x → Layered x layer → Layered (x + 1) (set layer depth v)
-  unfolding Layered inLayer deep marked
+      → v ≡ gainedOne s (row layer depth) x → Layered x layer → Layered (x + 1) (set layer depth v)
+  unfolding Layered inLayer deep gainedOne
   layered-more x above depth v s layer long o c l w g d h = go (ℕ-discrete d depth)
     where
       e : depth ≡ deep t u n lows x
@@ -38,7 +38,7 @@ module _ (t u : List ℕ) (n lows : ℕ) where
       go (yes q) =
           gather-more (inLayer t u n lows d) x (row layer d) (row (set layer depth v) d) s
           (l ∙ sym (and-true (bit lows x)) ∙ ap (λ (b : Bool). bit lows x and b) (sym (eq-yes (sym e ∙ sym q))))
-          (ap (row (set layer depth v)) q ∙ getD-set-same layer depth v 0 (omega arith) ∙ w ∙ ap (λ (i : ℕ). marked s (row layer i) x) (sym q))
+          (ap (row (set layer depth v)) q ∙ getD-set-same layer depth v 0 (omega arith) ∙ w ∙ ap (λ (i : ℕ). gainedOne s (row layer i) x) (sym q))
           (g d h)
       go (no q) =
           gather-more (inLayer t u n lows d) x (row layer d) (row (set layer depth v) d) false

@@ -193,8 +193,8 @@ module _ (f : Facts) (n : ℕ) (few : n ≤ 16) (m : Columns (f .below) (f .abov
 
   pub nodes-are : (lows : ℕ) → Gathered n (isLow (f .below) (f .above)) lows → ((g : ℕ) → row (f .label) g < 256)
       → map (nodeIn (f .below) (f .above) (f .label) n lows (blank n (has f)) (order n (has f))) (order n (has f))
-      ≡ map (λ (g : ℕ). record { up = parentOf n (has f) g; mark = labelOf n (has f) g }) (order n (has f))
+      ≡ map (λ (g : ℕ). record { up = parentOf n (has f) g; label = labelOf n (has f) g }) (order n (has f))
   unfolding nodeIn
   nodes-are lows g bytes =
-      map-eq (nodeIn (f .below) (f .above) (f .label) n lows (blank n (has f)) (order n (has f))) (λ (x : ℕ). record { up = parentOf n (has f) x; mark = labelOf n (has f) x }) (order n (has f))
+      map-eq (nodeIn (f .below) (f .above) (f .label) n lows (blank n (has f)) (order n (has f))) (λ (x : ℕ). record { up = parentOf n (has f) x; label = labelOf n (has f) x }) (order n (has f))
       (λ x k. rw (parent-is lows g x (order-out n (has f) x k .0), label-is f n x (bytes x)))

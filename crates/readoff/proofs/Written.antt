@@ -60,7 +60,7 @@ pub nodeBytes-join : (i : ℕ) (vs ws : List NodeRecord) → nodeBytes i (vs ++ 
 unfolding nodeBytes
 nodeBytes-join i [] ws = ap (λ (k : ℕ). nodeBytes k ws) (sym (add-zero i))
 nodeBytes-join i (v ∷ vs) ws =
-    ap (λ (bs : List ℕ). 1 ∷ i ∷ v .up ∷ v .mark ∷ bs)
+    ap (λ (bs : List ℕ). 1 ∷ i ∷ v .up ∷ v .label ∷ bs)
     (nodeBytes-join (suc i) vs ws ∙ ap (λ (k : ℕ). nodeBytes (suc i) vs ++ nodeBytes k ws) (omega arith))
 
 placeBytes-join : (x : ℕ) (vs ws : List ℕ) → placeBytes x (vs ++ ws) ≡ placeBytes x vs ++ placeBytes (x + length vs) ws
@@ -80,24 +80,24 @@ module _ (f : ℕ → NodeRecord) (gs : List ℕ) (blank : ℕ) where
   firstNodes-length i l =
       length-nodeBytes blank (map f (take i gs)) ∙ ap (λ (k : ℕ). 4 * k) (length-map (take i gs) f ∙ length-take-le i gs l)
 
-  firstNodes-more : (i : ℕ) → i < length gs → firstNodes (i + 1) ≡ firstNodes i ++ (1 ∷ (blank + i) ∷ f (getD gs i 0) .up ∷ f (getD gs i 0) .mark ∷ [])
+  firstNodes-more : (i : ℕ) → i < length gs → firstNodes (i + 1) ≡ firstNodes i ++ (1 ∷ (blank + i) ∷ f (getD gs i 0) .up ∷ f (getD gs i 0) .label ∷ [])
   unfolding firstNodes nodeBytes
   firstNodes-more i l =
       ap (λ (xs : List ℕ). nodeBytes blank (map f xs)) (ap (λ (k : ℕ). take k gs) (add-one i) ∙ take-suc gs i 0 l)
       ∙ ap (nodeBytes blank) (map-append f (take i gs) (getD gs i 0 ∷ []))
       ∙ nodeBytes-join blank (map f (take i gs)) (f (getD gs i 0) ∷ [])
-      ∙ ap (λ (k : ℕ). nodeBytes blank (map f (take i gs)) ++ (1 ∷ (blank + k) ∷ f (getD gs i 0) .up ∷ f (getD gs i 0) .mark ∷ []))
+      ∙ ap (λ (k : ℕ). nodeBytes blank (map f (take i gs)) ++ (1 ∷ (blank + k) ∷ f (getD gs i 0) .up ∷ f (getD gs i 0) .label ∷ []))
       (length-map (take i gs) f ∙ length-take-le i gs (omega arith))
 
   pub nodes-none : (old : List ℕ) → Wrote (blank * 4) (firstNodes 0) old old
   unfolding firstNodes nodeBytes
   nodes-none old = wrote-none (blank * 4) old
 
-  pub nodes-more : (i up mark : ℕ) (old mid new : List ℕ) → i < length gs → up ≡ f (getD gs i 0) .up → mark ≡ f (getD gs i 0) .mark → (blank + length gs) * 4 ≤ length old
-      → Wrote (blank * 4) (firstNodes i) old mid → Wrote ((blank + i) * 4) (1 ∷ (blank + i) ∷ up ∷ mark ∷ []) mid new → Wrote (blank * 4) (firstNodes (i + 1)) old new
-  nodes-more i up mark old mid new l e d h w v =
+  pub nodes-more : (i up name : ℕ) (old mid new : List ℕ) → i < length gs → up ≡ f (getD gs i 0) .up → name ≡ f (getD gs i 0) .label → (blank + length gs) * 4 ≤ length old
+      → Wrote (blank * 4) (firstNodes i) old mid → Wrote ((blank + i) * 4) (1 ∷ (blank + i) ∷ up ∷ name ∷ []) mid new → Wrote (blank * 4) (firstNodes (i + 1)) old new
+  nodes-more i up name old mid new l e d h w v =
       let k = firstNodes-length i (omega arith) in
-      wrote-more (blank * 4) ((blank + i) * 4) (firstNodes i) (1 ∷ (blank + i) ∷ up ∷ mark ∷ []) (firstNodes (i + 1)) old mid new w (omega arith) v
+      wrote-more (blank * 4) ((blank + i) * 4) (firstNodes i) (1 ∷ (blank + i) ∷ up ∷ name ∷ []) (firstNodes (i + 1)) old mid new w (omega arith) v
       (firstNodes-more i l ∙ rw (e, d)) (omega arith)
 
   pub nodes-all : (i : ℕ) (old new : List ℕ) → i ≡ length gs → Wrote (blank * 4) (firstNodes i) old new → Wrote (blank * 4) (nodeBytes blank (map f gs)) old new
@@ -111,9 +111,9 @@ module _ (t u labels : List ℕ) (n lows blank : ℕ) (o : Order) (long : length
   unfolding nodeIn
   up-is above p a e = rw (member-at o long s i l) (e ∙ ap (parentIn t u lows blank (groups o)) a)
 
-  pub mark-is : row labels (getD (o .group) i record { 0 = 0 } .0) ≡ nodeIn t u labels n lows blank (groups o) (getD (groups o) i 0) .mark
+  pub label-is : row labels (getD (o .group) i record { 0 = 0 } .0) ≡ nodeIn t u labels n lows blank (groups o) (getD (groups o) i 0) .label
   unfolding nodeIn
-  mark-is = rw (member-at o long s i l)
+  label-is = rw (member-at o long s i l)
 
 -- ---- places
 

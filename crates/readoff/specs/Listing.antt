@@ -53,4 +53,4 @@ unfoldable pub parentIn : (t u : List ℕ) (lows blank : ℕ) (gs : List ℕ) �
 parentIn t u lows blank gs above = pick (eqb (bitAnd above lows) 0) 0 (blank + position (near t u above) gs)
 
 unfoldable pub nodeIn : (t u labels : List ℕ) (n lows blank : ℕ) (gs : List ℕ) → ℕ → NodeRecord
-nodeIn t u labels n lows blank gs g = record { up = parentIn t u lows blank gs (overRow n (row u g) (row t g)); mark = row labels g }
+nodeIn t u labels n lows blank gs g = record { up = parentIn t u lows blank gs (overRow n (row u g) (row t g)); label = row labels g }

@@ -10,7 +10,7 @@ abbrev pub Wrote : ℕ → List ℕ → List ℕ → List ℕ → Type 0
 Wrote at bytes old new = new ≡ take at old ++ bytes ++ drop (at + length bytes) old
 
 -- the answer file is at the front, and r is how many bytes it has
-pub record Answered (n : ℕ) (h : FactSet) (old : List ℕ) (r : ℕ) (new : List ℕ) : Type 0 where
+pub record FileWritten (n : ℕ) (h : FactSet) (old : List ℕ) (r : ℕ) (new : List ℕ) : Type 0 where
   pub size : r ≡ length (answerFile n h)
   pub bytes : new ≡ answerFile n h ++ drop (length (answerFile n h)) old
   pub most : r ≤ 132

@@ -15,7 +15,7 @@ ghost use Rattle.tables.specs.Rows.{without};
 ghost use Rattle.tables.specs.Tables.{row, has, Ready};
 ghost use Rattle.readoff.specs.Rows.{Gathered, overRow, isLow, inLayer, near};
 ghost use Rattle.readoff.specs.Listing.{groups, Small, listed, Listed, Placed, Led, nodeNumbers, placeIn, parentIn, nodeIn};
-ghost use Rattle.readoff.specs.Written.{Wrote, Answered};
+ghost use Rattle.readoff.specs.Written.{Wrote, FileWritten};
 use ids::Node;
 use ids::Var;
 use tables::Facts;
@@ -57,7 +57,7 @@ fn lows(below: [u16; 16], above: [u16; 16], n: usize) -> u16
     for x in 0..n {
         let up = above[x];
         let down = below[x];
-        a = tables::mark(is_low(up, down, Var(x as u8)), a, x);
+        a = tables::gain_one(is_low(up, down, Var(x as u8)), a, x);
     }
     a
 }
@@ -73,7 +73,7 @@ fn layers(below: [u16; 16], above: [u16; 16], lows: u16, n: usize) -> [u16; 17]
         let down = below[x];
         let depth = count(over(up, down, n) & lows);
         let old = layer[depth];
-        layer[depth] = tables::mark(rowbits::has(lows, x), old, x);
+        layer[depth] = tables::gain_one(rowbits::has(lows, x), old, x);
     }
     layer
 }
@@ -272,7 +272,7 @@ fn put_places(answer: &mut [u8], at: usize, nodes: [Node; 16], n: usize)
 // The answer file of the tables at the front of the buffer, and how many bytes it has.
 pub fn read_off(f: Facts, n: usize, answer: &mut [u8]) -> usize
     requires { ⌜ (n ≤ 16) × (132 ≤ length (now answer)) × ((S : List Fact) × Ready n S f) ⌝ }
-    ensures { λ r. ⌜ Answered n (has f) (now (answer .entry)) r (now (answer .exit)) ⌝ }
+    ensures { λ r. ⌜ FileWritten n (has f) (now (answer .entry)) r (now (answer .exit)) ⌝ }
 {
     let below = f.below;
     let above = f.above;

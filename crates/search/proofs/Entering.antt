@@ -7,7 +7,7 @@ use Prim.Native.Nat.{ℕ}
 use Rattle.meaning.specs.Constraint.{Fact, below}
 use Rattle.meaning.specs.Settled.{Settled, given, Clash, differs, labels}
 use Rattle.meaning.specs.FixedSearch.{Join, parent-join, chain-join, IsJoin}
-use Rattle.meaning.proofs.Facts.{Within}
+use Rattle.meaning.specs.Closed.{Within}
 use Rattle.meaning.proofs.Least.{settled-least, settled-rules, settled-mono, settled-within, clash-mono}
 use Rattle.theory.specs.Search.{firstJoin}
 use Rattle.theory.proofs.Search.{first-join-found}

@@ -11,7 +11,7 @@ use Rattle.meaning.specs.Constraint.{Fact, below}
 use Rattle.meaning.specs.FixedSearch.{first-alternative, second-alternative, Outcome, in-none, in-tree}
 use Rattle.meaning.specs.Finite.{neg, sum, one}
 use Rattle.meaning.specs.ReadOff.{FactSet}
-use Rattle.meaning.proofs.Facts.{Inside}
+use Rattle.meaning.specs.Closed.{Inside}
 use Rattle.theory.specs.Search.{firstJoin, search}
 use Rattle.theory.proofs.Closure.{holds-decides, decides-same}
 use Rattle.theory.proofs.Absent.{absent, Adds}

@@ -9,7 +9,7 @@ use Rattle.meaning.specs.Constraint.{Fact, below}
 use Rattle.meaning.specs.Settled.{Clash}
 use Rattle.meaning.specs.FixedSearch.{Join, first-alternative, second-alternative, Outcome, in-none, in-tree}
 use Rattle.meaning.specs.Finite.{neg, sum, one}
-use Rattle.meaning.proofs.Facts.{Inside}
+use Rattle.meaning.specs.Closed.{Inside}
 use Rattle.theory.specs.Search.{firstJoin, search}
 use Rattle.tables.specs.Tables.{has, Ready}
 use Rattle.tables.specs.declared.Facts.{Facts}
@@ -26,7 +26,7 @@ use Rattle.search.specs.declared.Ended.{Ended}
 abbrev pub fact : Below → Fact
 fact p = below (p .upper .0) (p .lower .0)
 
-pub record Named (n : ℕ) (p : Below) : Type 0 where
+pub record PairInside (n : ℕ) (p : Below) : Type 0 where
   pub upper : p .upper .0 < n
   pub lower : p .lower .0 < n
 
@@ -44,7 +44,7 @@ pub record Alternatives (n : ℕ) (S : List Fact) (f : Facts) (p q : Below) : Ty
 
 abbrev pub StepOf : ℕ → Facts → Step → Type 0
 StepOf n f Solved = (S : List Fact) → Ready n S f → firstJoin n (has f) ≡ none
-StepOf n f (Split p q) = Named n p × Named n q × ((S : List Fact) → Ready n S f → Alternatives n S f p q)
+StepOf n f (Split p q) = PairInside n p × PairInside n q × ((S : List Fact) → Ready n S f → Alternatives n S f p q)
 
 -- ---- a line
 

@@ -183,7 +183,7 @@ module _ (cs : List Constraint) (i : ℕ) (over : drop i cs ≡ []) (small : (c 
         inside = facts-inside (vars cs) cs (le-refl _);
         held = λ φ m. exact φ .1 (holds φ m);
         sound = λ φ u. settled φ (exact φ .0 u);
-        apart = λ x y u. exact (differ x y) .1 (inl (inr (exact (child x y) .0 u)));
+        child-differ = λ x y u. exact (differ x y) .1 (inl (inr (exact (child x y) .0 u)));
         turned = λ x y u. exact (differ y x) .1 (⊎-elim inr inl (exact (differ x y) .0 u));
         parents = λ x y hx hy. yes-eq _ _ (λ u. ch x y .1 (pa y x .0 u)) (λ u. pa y x .1 (ch x y .0 u));
       }

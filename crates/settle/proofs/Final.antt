@@ -15,9 +15,8 @@ use Rattle.meaning.specs.ReadOff.{Decides}
 use Rattle.meaning.specs.Finite.{Yes, sum}
 use Rattle.meaning.proofs.Finite.{sum-lt, sum-bound}
 use Rattle.meaning.proofs.Tests.{yes-eq}
-use Rattle.meaning.proofs.Rules.{Rules}
+use Rattle.meaning.specs.Closed.{Rules, Within}
 use Rattle.meaning.proofs.Least.{settled-within}
-use Rattle.meaning.proofs.Facts.{Within}
 use Rattle.theory.proofs.Closure.{rules-decide}
 use Rattle.rowbits.specs.Bit.{bit}
 use Rattle.tables.specs.Rows.{Transposed, Gathers, meets}
@@ -197,7 +196,7 @@ module _ {n : ℕ} {f : Facts} {B U E : List ℕ} {groups : ℕ} (o : Start n f 
 
         go : Dec (y ≡ v .two) → Yes (bit (row tc x) y)
         go (yes e) = k .child y (subst (λ (i : ℕ). Yes (bit (row (f .child) (v .one)) i)) (sym e) (v .fact))
-        go (no e) = k .twins (v .two) (seed .apart (v .one) (v .two) (v .fact)) (visited x (v .two) y (child-few (v .one) (v .two) (from-in h v) (v .fact)) (λ i. absurd (e i)) (v .right)) .child (v .fact) y (v .right)
+        go (no e) = k .twins (v .two) (seed .child-differ (v .one) (v .two) (v .fact)) (visited x (v .two) y (child-few (v .one) (v .two) (from-in h v) (v .fact)) (λ i. absurd (e i)) (v .right)) .child (v .fact) y (v .right)
 
     parent-to : (x y : ℕ) → x < n → From (f .parent) x y → Yes (bit (row tp x) y)
     unfolding has
@@ -207,7 +206,7 @@ module _ {n : ℕ} {f : Facts} {B U E : List ℕ} {groups : ℕ} (o : Start n f 
         k = done x h .taken (v .one) (v .left)
 
         away : Yes (has f (differ (v .one) (v .two)))
-        away = seed .turned (v .two) (v .one) (seed .apart (v .two) (v .one) (parent-child (v .two) (v .one) (from-in h v) (v .fact)))
+        away = seed .turned (v .two) (v .one) (seed .child-differ (v .two) (v .one) (parent-child (v .two) (v .one) (from-in h v) (v .fact)))
 
         go : Dec (y ≡ v .two) → Yes (bit (row tp x) y)
         go (yes e) = k .parent y (subst (λ (i : ℕ). Yes (bit (row (f .parent) (v .one)) i)) (sym e) (v .fact))
@@ -299,7 +298,7 @@ module _ {n : ℕ} {f : Facts} {B U E : List ℕ} {groups : ℕ} (o : Start n f 
     apart x y u =
         let h = within (child x y) (sound (child x y) u) .0 in
         let v = child-from x y h u in
-        differ-to x y h record { one = v .one; two = v .two; left = v .left; fact = seed .apart (v .one) (v .two) (v .fact); right = v .right }
+        differ-to x y h record { one = v .one; two = v .two; left = v .left; fact = seed .child-differ (v .one) (v .two) (v .fact); right = v .right }
 
     turned : (x y : ℕ) → Yes (has g (differ x y)) → Yes (has g (differ y x))
     unfolding has
@@ -349,7 +348,7 @@ module _ {n : ℕ} {f : Facts} {B U E : List ℕ} {groups : ℕ} (o : Start n f 
       inside = seed .inside;
       held = λ φ m. keeps φ (seed .inside φ m) (seed .held φ m);
       sound = sound;
-      apart = apart;
+      child-differ = apart;
       turned = turned;
       parents = parents;
     }

@@ -29,7 +29,7 @@ fn clashes(l: u8, m: u8) -> bool
     (l != 0) & (m != 0) & (l != m)
 }
 
-fn merge(l: u8, m: u8) -> u8
+fn either_label(l: u8, m: u8) -> u8
     ensures { λ r. ⌜ r ≡ pick (eqb l 0) m l ⌝ }
 {
     if l == 0 {
@@ -130,7 +130,7 @@ fn pass(f: Facts, n: usize) -> Passed
                 clash = true;
                 break 'pass;
             }
-            l = merge(l, ly);
+            l = either_label(l, ly);
             let cy = childs[y];
             let py = parents[y];
             let dy = differs[y];

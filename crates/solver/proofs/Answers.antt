@@ -13,7 +13,7 @@ use Rattle.meaning.specs.Demand.{Answer, a-tree, a-none, a-spent, Answers}
 use Rattle.meaning.specs.Results.{Solved, solver-refuses, solver-answers, written}
 use Rattle.meaning.specs.Promises.{SolverPromise}
 use Rattle.meaning.proofs.Tests.{pick-yes, pick-no, is-le, le-yes}
-use Rattle.meaning.proofs.Facts.{Inside}
+use Rattle.meaning.specs.Closed.{Inside}
 use Rattle.meaning.proofs.Constraints.{facts-inside}
 use Rattle.theory.specs.Search.{search}
 use Rattle.theory.specs.Solve.{solve}
@@ -35,7 +35,7 @@ use Rattle.search.specs.Searching.{Line, Reports}
 use Rattle.search.specs.declared.End.the-variants.{Tree, None, Spent}
 use Rattle.search.specs.declared.Searched.{Searched}
 use Rattle.search.proofs.Reporting.{was-tree, was-none, was-spent}
-use Rattle.readoff.specs.Written.{Answered}
+use Rattle.readoff.specs.Written.{FileWritten}
 use Rattle.solver.specs.Solving.{verdictOf, AnswerOf, SolverOf}
 use Rattle.solver.specs.declared.Verdict.{Verdict}
 use Rattle.solver.specs.declared.Verdict.the-variants as verdict
@@ -103,7 +103,7 @@ module _ (buffer : List ℕ) where
   unfolding verdictOf written
   answer-spent a c e = rw e (record { verdict = refl; wrote = refl })
 
-  pub answer-tree : (a : Answer) (n c k : ℕ) (h : FactSet) (after : List ℕ) → a ≡ a-tree c (answerFile n h) → Answered n h buffer k after → AnswerOf a (verdict.Tree k c) buffer after
+  pub answer-tree : (a : Answer) (n c k : ℕ) (h : FactSet) (after : List ℕ) → a ≡ a-tree c (answerFile n h) → FileWritten n h buffer k after → AnswerOf a (verdict.Tree k c) buffer after
   unfolding verdictOf written
   answer-tree a n c k h after e w = rw (e, w .size) (record { verdict = refl; wrote = w .bytes })
 

@@ -14,7 +14,7 @@ use Rattle.meaning.specs.Finite.{Yes}
 use Rattle.meaning.proofs.Tests.{clash, eq-yes, yes-eq}
 use Rattle.rowbits.specs.Bit.{bit}
 use Rattle.tables.specs.Tables.{row, Columns}
-use Rattle.tables.specs.Rows.{Gathers, Transposed, Raised, marked, gained, meets}
+use Rattle.tables.specs.Rows.{Gathers, Transposed, Raised, gainedOne, gained, meets}
 use Rattle.tables.proofs.Bits.{gained-up, gained-has, gained-case, one-is, one-has, none-in}
 
 pub below-cases : {k y : ℕ} → k < y + 1 → (k ≡ y) ⊎ (k < y)
@@ -31,8 +31,8 @@ pub record Gathering (p : ℕ → Bool) (y a : ℕ) : Type 0 where
 pub gather-none : (p : ℕ → Bool) → Gathering p 0 0
 gather-none p = record { from = λ k t. none-in k t; to = λ k h. absurd (not-suc-le-zero h) }
 
-pub gather-more : (p : ℕ → Bool) (y a b : ℕ) (t : Bool) → t ≡ p y → b ≡ marked t a y → Gathering p y a → Gathering p (y + 1) b
-unfolding marked
+pub gather-more : (p : ℕ → Bool) (y a b : ℕ) (t : Bool) → t ≡ p y → b ≡ gainedOne t a y → Gathering p y a → Gathering p (y + 1) b
+unfolding gainedOne
 gather-more p y a b t e d g = record {
   from = λ k u. ⊎-elim (g .from k) (λ w. rw (one-is y k (w .1)) (sym e ∙ w .0)) (gained-case t a _ k (subst (λ (i : ℕ). Yes (bit i k)) d u));
   to = λ k h u. subst (λ (i : ℕ). Yes (bit i k)) (sym d) (⊎-elim
@@ -76,7 +76,7 @@ pub record Transposing (t : List ℕ) (y : ℕ) (a : List ℕ) : Type 0 where
 pub transposing-none : (t a : List ℕ) → length a ≡ 16 → ((x : ℕ) → row a x ≡ 0) → Transposing t 0 a
 transposing-none t a h z = record { long = h; columns = λ x h. subst (Gathering (λ k. bit (row t k) x) 0) (sym (z x)) (gather-none _) }
 
-pub transposing-more : (t : List ℕ) (y : ℕ) (a : List ℕ) (x : ℕ) (b : List ℕ) → 16 ≤ x → Rowing (λ k w. marked (bit (row t y) k) w y) 16 a x b → Transposing t y a → Transposing t (y + 1) b
+pub transposing-more : (t : List ℕ) (y : ℕ) (a : List ℕ) (x : ℕ) (b : List ℕ) → 16 ≤ x → Rowing (λ k w. gainedOne (bit (row t y) k) w y) 16 a x b → Transposing t y a → Transposing t (y + 1) b
 transposing-more t y a x b l s w = record { long = s .long; columns = λ k h. gather-more (λ i. bit (row t i) k) y (row a k) (row b k) (bit (row t y) k) refl (s .done k (le-trans h l)) (w .columns k h) }
 
 pub transposed : (t : List ℕ) (y : ℕ) (a : List ℕ) → 16 ≤ y → Transposing t y a → Transposed t a

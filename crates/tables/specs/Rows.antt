@@ -19,8 +19,8 @@ unfoldable pub gained : Bool → ℕ → ℕ → ℕ
 gained t row more = bitOr row (pick t more 0)
 
 -- a row, with y where the test holds
-unfoldable pub marked : Bool → ℕ → ℕ → ℕ
-marked t row y = gained t row (2 ^ y)
+unfoldable pub gainedOne : Bool → ℕ → ℕ → ℕ
+gainedOne t row y = gained t row (2 ^ y)
 
 -- two rows have a number in common
 unfoldable pub meets : ℕ → ℕ → Bool

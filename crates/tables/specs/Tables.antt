@@ -9,7 +9,7 @@ use Rattle.meaning.specs.Constraint.{Fact, child, below, differ, root, leaf, la
 use Rattle.meaning.specs.Settled.{Settled, Clash}
 use Rattle.meaning.specs.Finite.{Yes, _and_, neg}
 use Rattle.meaning.specs.ReadOff.{Decides}
-use Rattle.meaning.proofs.Facts.{Inside}
+use Rattle.meaning.specs.Closed.{Inside}
 use Rattle.rowbits.specs.Bit.{bit}
 use Rattle.tables.specs.declared.Facts.{Facts}
 
@@ -43,7 +43,7 @@ pub record Seeded (n : ℕ) (S : List Fact) (f : Facts) : Type 0 where
   pub inside : Inside n S
   pub held : (φ : Fact) → List·Memᴰ φ S → Yes (has f φ)
   pub sound : Sound n S f
-  pub apart : (x y : ℕ) → Yes (has f (child x y)) → Yes (has f (differ x y))
+  pub child-differ : (x y : ℕ) → Yes (has f (child x y)) → Yes (has f (differ x y))
   pub turned : (x y : ℕ) → Yes (has f (differ x y)) → Yes (has f (differ y x))
   pub parents : Columns (f .child) (f .parent)
 

@@ -4,7 +4,7 @@ ghost use mathlib.Core.Path.{_≡_};
 ghost use mathlib.Core.Logic.{_≢_};
 ghost use Prim.Native.Nat.{_<_, _≤_, _^_, _-_};
 ghost use Rattle.meaning.specs.Finite.{pick};
-ghost use Rattle.tables.specs.Rows.{gained, meets, marked, without, Gathers, Transposed, Raised, Lowest, Rest, Union};
+ghost use Rattle.tables.specs.Rows.{gained, meets, gainedOne, without, Gathers, Transposed, Raised, Lowest, Rest, Union};
 ghost use Rattle.tables.specs.Tables.{row};
 
 // `parent` and `above` are the columns of `child` and `below`, kept as rows: bit x of row y. A label of 0 is no label fact.
@@ -57,9 +57,9 @@ pub fn gain(t: bool, row: u16, more: u16) -> u16
     row | when(t, more)
 }
 
-pub fn mark(t: bool, row: u16, y: usize) -> u16
+pub fn gain_one(t: bool, row: u16, y: usize) -> u16
     requires { ⌜ y < 16 ⌝ }
-    ensures { λ r. ⌜ r ≡ marked t row y ⌝ }
+    ensures { λ r. ⌜ r ≡ gainedOne t row y ⌝ }
 {
     gain(t, row, one(y))
 }
@@ -116,7 +116,7 @@ pub fn meeting(t: [u16; 16], c: u16) -> u16
     }
     for y in 0usize..16 {
         let v = t[y];
-        a = mark(meet(v, c), a, y);
+        a = gain_one(meet(v, c), a, y);
     }
     a
 }
@@ -130,7 +130,7 @@ pub fn transpose(t: [u16; 16]) -> [u16; 16]
         let v = t[y];
         for x in 0usize..16 {
             let w = a[x];
-            a[x] = mark(rowbits::has(v, x), w, y);
+            a[x] = gain_one(rowbits::has(v, x), w, y);
         }
     }
     a

@@ -9,14 +9,14 @@ use lib.Dec.{ltb}
 use lib.ListN.{length, length-append}
 use borrow.Author.Tests.{lt-ltb}
 use Rattle.io.specs.Digits.{digits, Fewest}
-use Rattle.meaning.specs.Text.{leading, digitsOf, decimal}
+use Rattle.meaning.specs.Text.{beforeLast, digitsOf, decimal}
 
-no-leading : (q : ℕ) (more : Unit {0} → List ℕ) → q ≡ 0 → leading q more ≡ []
-unfolding leading
+no-leading : (q : ℕ) (more : Unit {0} → List ℕ) → q ≡ 0 → beforeLast q more ≡ []
+unfolding beforeLast
 no-leading q more e = rw e
 
-some-leading : (q : ℕ) (more : Unit {0} → List ℕ) → 0 < q → leading q more ≡ more tt
-unfolding leading
+some-leading : (q : ℕ) (more : Unit {0} → List ℕ) → 0 < q → beforeLast q more ≡ more tt
+unfolding beforeLast
 some-leading zero more h = absurd (omega arith)
 some-leading (suc q) more h = refl
 
@@ -41,8 +41,8 @@ decimal-is n (suc k) w =
     let e : suc k - 1 ≡ k = omega arith in
     sym (same-digits k (suc n) n (w .1) (λ h. let l = rw e at (w .2 (omega arith)) in omega arith) (omega arith))
 
-one-more : (q : ℕ) (more : Unit {0} → List ℕ) (d k : ℕ) → (0 < q → length (more tt) ≤ k) → length (leading q more ++ (d ∷ [])) ≤ suc k
-unfolding leading
+one-more : (q : ℕ) (more : Unit {0} → List ℕ) (d k : ℕ) → (0 < q → length (more tt) ≤ k) → length (beforeLast q more ++ (d ∷ [])) ≤ suc k
+unfolding beforeLast
 one-more zero more d k h = omega arith
 one-more (suc q) more d k h = let l = h (omega arith) in omega (arith, length-append (more tt) (d ∷ []))
 

@@ -8,7 +8,7 @@ use Rattle.meaning.specs.Constraint.{Fact}
 use Rattle.meaning.specs.Settled.{Clash}
 use Rattle.meaning.specs.FixedSearch.{Join, first-alternative, second-alternative, FirstJoin, Outcome, in-none, in-tree, Ends, clashed, solved, in-first, in-second}
 use Rattle.meaning.specs.ReadOff.{FactSet, Decides}
-use Rattle.meaning.proofs.Facts.{Inside}
+use Rattle.meaning.specs.Closed.{Inside}
 use Rattle.theory.specs.Search.{firstJoin, search}
 use Rattle.theory.proofs.Absent.{Adds, first-adds, second-adds}
 use Rattle.theory.proofs.Ends.{ends-unique}

@@ -9,23 +9,23 @@ use borrow.Author.Needs.{needs}
 use Rattle.meaning.specs.FixedSearch.{chain-join}
 use Rattle.theory.specs.Search.{isChainJoin}
 use Rattle.tables.specs.declared.Facts.{Facts}
-use Rattle.joins.specs.Found.{joinOf, Apart, withBelow}
+use Rattle.joins.specs.Found.{joinOf, Incomparable, withBelow}
 use Rattle.joins.proofs.First.{NoneBefore, none-more, none-apart, chain-named, chain-first, none-first}
 use Rattle.joins.proofs.chain_join.Statement.{statement}
 use Rattle.joins.proofs.chain_join.Tie as tie
 
 abbrev Inv-loop : tie.InvT-loop
-Inv-loop n above vars apart z₀ z =
-    (z ≤ n) × ((below : List ℕ) → Apart below above apart → (f : Facts) → NoneBefore isChainJoin n (withBelow below above f) z)
+Inv-loop n above vars incomparable z₀ z =
+    (z ≤ n) × ((below : List ℕ) → Incomparable below above incomparable → (f : Facts) → NoneBefore isChainJoin n (withBelow below above f) z)
 
 abbrev μ-loop : tie.MeasureT-loop
-μ-loop n above vars apart z₀ z = n - z
+μ-loop n above vars incomparable z₀ z = n - z
 
 all-requires : tie.Need-all-requires Inv-loop μ-loop
 all-requires c κs = search needs
 
-apart-rows-requires : tie.Need-apart-rows-requires Inv-loop μ-loop
-apart-rows-requires c κs = search needs
+incomparable-rows-requires : tie.Need-incomparable-rows-requires Inv-loop μ-loop
+incomparable-rows-requires c κs = search needs
 
 loop-holds : tie.Need-loop-holds Inv-loop μ-loop
 loop-holds c = (search needs, λ below a f S r k x y l. absurd (not-suc-le-zero l))
@@ -67,13 +67,13 @@ returns c =
     let i = l .before .before in
     let r = i .before .before in
     let s = r .before in
-    let h : Fits w16 (getD (r .apart-rows .result) (l .lowest .result) 0) = search needs in
+    let h : Fits w16 (getD (r .incomparable-rows .result) (l .lowest .result) 0) = search needs in
     λ f.
     let g = withBelow (s .before .args .below) (s .before .args .t2) f in
     record {
-      first = chain-first _ (s .before .pre) g _ (s .all .ensures) (r .apart-rows .result) (r .apart-rows .ensures) _ (i .loop-test .taken) _ (l .before .meeting .ensures) _ (l .lowest .ensures)
-          (c .before .if1 .taken) (h .fits) _ (c .lowest2 .ensures) (i .before .loop .inv .1 _ (r .apart-rows .ensures) f);
-      named = chain-named _ (s .before .pre) g _ (s .all .ensures) (r .apart-rows .result) (r .apart-rows .ensures) _ (i .loop-test .taken) _ (l .before .meeting .ensures) _ (l .lowest .ensures)
+      first = chain-first _ (s .before .pre) g _ (s .all .ensures) (r .incomparable-rows .result) (r .incomparable-rows .ensures) _ (i .loop-test .taken) _ (l .before .meeting .ensures) _ (l .lowest .ensures)
+          (c .before .if1 .taken) (h .fits) _ (c .lowest2 .ensures) (i .before .loop .inv .1 _ (r .incomparable-rows .ensures) f);
+      named = chain-named _ (s .before .pre) g _ (s .all .ensures) (r .incomparable-rows .result) (r .incomparable-rows .ensures) _ (i .loop-test .taken) _ (l .before .meeting .ensures) _ (l .lowest .ensures)
           (c .before .if1 .taken) (h .fits) _ (c .lowest2 .ensures);
     }
 
@@ -92,13 +92,13 @@ loop-again c =
       search needs,
       λ below a f.
           none-more isChainJoin _ _ _ (i .before .loop .inv .1 below a f)
-          (none-apart _ (s .before .pre) (withBelow below (s .before .args .t2) f) _ (s .all .ensures) (r .apart-rows .result) a _ (i .loop-test .taken) _ (l .before .meeting .ensures) _ (l .lowest .ensures) (c .if1 .left)),
+          (none-apart _ (s .before .pre) (withBelow below (s .before .args .t2) f) _ (s .all .ensures) (r .incomparable-rows .result) a _ (i .loop-test .taken) _ (l .before .meeting .ensures) _ (l .lowest .ensures) (c .if1 .left)),
     )
 
 returns-2 : tie.Need-returns-2 Inv-loop μ-loop
 unfolding joinOf
 returns-2 c = λ f. record {
-  first = none-first isChainJoin chain-join _ _ _ (c .loop-test .left) (c .before .loop .inv .1 _ (c .before .before .apart-rows .ensures) f);
+  first = none-first isChainJoin chain-join _ _ _ (c .loop-test .left) (c .before .loop .inv .1 _ (c .before .before .incomparable-rows .ensures) f);
   named = tt;
 }
 
@@ -109,7 +109,7 @@ chain-join-spec =
     Inv-loop
     μ-loop
     all-requires
-    apart-rows-requires
+    incomparable-rows-requires
     loop-holds
     mul-v
     array-read-v

@@ -29,8 +29,8 @@ cast-i c = search needs
 cast-j : tie.Need-cast-j Inv-loop μ-loop
 cast-j c = search needs
 
-apart-two-requires : tie.Need-apart-two-requires Inv-loop μ-loop
-apart-two-requires c κs = (search needs, search needs)
+two-with-gap-requires : tie.Need-two-with-gap-requires Inv-loop μ-loop
+two-with-gap-requires c κs = (search needs, search needs)
 
 union-two-requires : tie.Need-union-two-requires Inv-loop μ-loop
 union-two-requires c κs = (search needs, search needs)
@@ -41,7 +41,7 @@ union-two-requires-2 c κs = (search needs, search needs)
 loop-holds : tie.Need-loop-holds Inv-loop μ-loop
 loop-holds c = (
   (λ T p. p),
-  λ z. let h = c .before .before .apart-two .ensures .some z in
+  λ z. let h = c .before .before .two-with-gap .ensures .some z in
       (subst (Gap _) (sym (h .0)) (h .1), union-at _ _ _ _ (h .0) (c .before .union-two .ensures), union-at _ _ _ _ (h .0) (c .union-two2 .ensures)),
 )
 
@@ -54,7 +54,7 @@ returns c =
     let l = u .before .before in
     let a = l .before .before .before in
     let s = a .before .before .before .before .before in
-    merged-clash _ _ _ _ (s .pre .0 .2) (s .pre .0 .0) (s .pre .0 .1) _ (a .apart-two .ensures) (λ T p. u .unify .ensures .clashes (c .if1 .taken) _ T (l .loop .inv .0 T p))
+    merged-clash _ _ _ _ (s .pre .0 .2) (s .pre .0 .0) (s .pre .0 .1) _ (a .two-with-gap .ensures) (λ T p. u .unify .ensures .clashes (c .if1 .taken) _ T (l .loop .inv .0 T p))
 
 union-rows-requires : tie.Need-union-rows-requires Inv-loop μ-loop
 union-rows-requires c κs = search needs
@@ -79,7 +79,7 @@ returns-2 c =
     let l = c .before in
     let a = l .before .before .before in
     let s = a .before .before .before .before .before in
-    merged-well _ _ _ _ (s .pre .0 .2) (s .pre .0 .0) (s .pre .0 .1) _ (a .apart-two .ensures)
+    merged-well _ _ _ _ (s .pre .0 .2) (s .pre .0 .0) (s .pre .0 .1) _ (a .two-with-gap .ensures)
     _ (λ T p. subst (λ (k : ℕ). Pending (s .args .n) T k (l .loop .g)) (c .loop-test .left) (l .loop .inv .0 T p))
 
 pub enter-same-spec : {M : Type 1} → statement M
@@ -90,7 +90,7 @@ enter-same-spec =
     μ-loop
     cast-i
     cast-j
-    apart-two-requires
+    two-with-gap-requires
     union-two-requires
     union-two-requires-2
     loop-holds

@@ -108,8 +108,8 @@ meet-requires-4 c κs = search needs
 gain-requires-2 : tie.Need-gain-requires-2
 gain-requires-2 c κs = search needs
 
-apart-requires : tie.Need-apart-requires
-apart-requires c κs = search needs
+with-gap-requires : tie.Need-with-gap-requires
+with-gap-requires c κs = search needs
 
 returns-3 : tie.Need-returns-3
 returns-3 c =
@@ -165,7 +165,7 @@ returns-3 c =
       leaf = rw (leaf .gain2 .ensures, leaf-met .meet4 .ensures);
       label = label .paint .ensures;
     })
-    _ (c .apart .ensures)
+    _ (c .with-gap .ensures)
 
 pub unify-spec : {M : Type 1} → statement M
 unify-spec =
@@ -195,5 +195,5 @@ unify-spec =
     gain-requires
     meet-requires-4
     gain-requires-2
-    apart-requires
+    with-gap-requires
     returns-3)

@@ -44,8 +44,8 @@ array-read-old c = search needs
 has-requires : tie.Need-has-requires Inv-loop μ-loop
 has-requires c κs = search needs
 
-mark-requires : tie.Need-mark-requires Inv-loop μ-loop
-mark-requires c κs = search needs
+gain-one-requires : tie.Need-gain-one-requires Inv-loop μ-loop
+gain-one-requires c κs = search needs
 
 mul-layer : tie.Need-mul-layer Inv-loop μ-loop
 mul-layer c = search needs
@@ -66,7 +66,7 @@ loop-again c =
       search needs,
       search needs,
       layered-more _ _ _ _ (i .loop .x) _ _ _ _ (i .loop .layer) (i .loop .inv .1) (c .before .before .before .over .ensures)
-          (c .before .before .count .ensures .0) (c .before .has .ensures) (c .mark .ensures) (i .loop .inv .2),
+          (c .before .before .count .ensures .0) (c .before .has .ensures) (c .gain-one .ensures) (i .loop .inv .2),
     )
 
 returns : tie.Need-returns Inv-loop μ-loop
@@ -90,7 +90,7 @@ layers-spec =
     mul-old
     array-read-old
     has-requires
-    mark-requires
+    gain-one-requires
     mul-layer
     array-write-layer
     add-x

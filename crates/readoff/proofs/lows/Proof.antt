@@ -34,8 +34,8 @@ cast-t17 c = search needs
 is-low-requires : tie.Need-is-low-requires Inv-loop μ-loop
 is-low-requires c κs = search needs
 
-mark-requires : tie.Need-mark-requires Inv-loop μ-loop
-mark-requires c κs = search needs
+gain-one-requires : tie.Need-gain-one-requires Inv-loop μ-loop
+gain-one-requires c κs = search needs
 
 add-x : tie.Need-add-x Inv-loop μ-loop
 add-x c = search needs
@@ -45,7 +45,7 @@ loop-less c = search needs
 
 loop-again : tie.Need-loop-again Inv-loop μ-loop
 unfolding isLow
-loop-again c = (search needs, gather-more _ _ _ _ _ (c .before .is-low .ensures) (c .mark .ensures) (c .before .before .before .loop .inv .1))
+loop-again c = (search needs, gather-more _ _ _ _ _ (c .before .is-low .ensures) (c .gain-one .ensures) (c .before .before .before .loop .inv .1))
 
 returns : tie.Need-returns Inv-loop μ-loop
 returns c = let e : c .before .loop .x ≡ c .before .before .args .n = search needs in rw (← e) (c .before .loop .inv .1)
@@ -63,7 +63,7 @@ lows-spec =
     array-read-down
     cast-t17
     is-low-requires
-    mark-requires
+    gain-one-requires
     add-x
     loop-less
     loop-again

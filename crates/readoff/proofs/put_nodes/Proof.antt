@@ -6,7 +6,7 @@ use lib.ListN.{length, getD}
 use Rattle.readoff.specs.Listing.{groups, nodeIn}
 use Rattle.readoff.specs.Written.{Wrote}
 use Rattle.readoff.proofs.Listing.{length-mapped, count-is, inside-at}
-use Rattle.readoff.proofs.Written.{firstNodes, nodes-none, nodes-more, nodes-all, up-is, mark-is}
+use Rattle.readoff.proofs.Written.{firstNodes, nodes-none, nodes-more, nodes-all, up-is, label-is}
 use borrow.Author.Needs.{needs}
 use Rattle.readoff.proofs.put_nodes.Statement.{statement}
 use Rattle.readoff.proofs.put_nodes.Tie as tie
@@ -91,7 +91,7 @@ loop-again c =
       nodes-more (nodeIn (s .args .t3) (s .args .t4) (s .args .t5) (s .args .n) (s .args .lows) (s .args .blank) (groups o)) (groups o) (s .args .blank) (i .loop .i) _ _
           (s .args .answer .now) (i .loop .answer) (c .before .before .put-node .last .0) (omega (arith, l, e))
           (up-is _ _ _ _ _ _ _ long (s .pre .0) (i .loop .i) l _ _ (c .before .before .before .before .before .over .ensures) (c .before .before .before .before .parent-of .ensures))
-          (mark-is _ _ _ _ _ _ _ long (s .pre .0) (i .loop .i) l) (omega (arith, s .pre .3, e)) (i .loop .inv .2) (c .before .before .put-node .ensures),
+          (label-is _ _ _ _ _ _ _ long (s .pre .0) (i .loop .i) l) (omega (arith, s .pre .3, e)) (i .loop .inv .2) (c .before .before .put-node .ensures),
     )
 
 same-length : tie.Need-same-length Inv-loop μ-loop

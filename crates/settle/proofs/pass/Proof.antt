@@ -154,8 +154,8 @@ array-read-ly c = y-small c
 clashes-requires : tie.Need-clashes-requires Inv-loop2 μ-loop2 Inv-loop μ-loop Inv-pass μ-pass
 clashes-requires c κs = search needs
 
-merge-requires : tie.Need-merge-requires Inv-loop2 μ-loop2 Inv-loop μ-loop Inv-pass μ-pass
-merge-requires c κs = search needs
+either-label-requires : tie.Need-either-label-requires Inv-loop2 μ-loop2 Inv-loop μ-loop Inv-pass μ-pass
+either-label-requires c κs = search needs
 
 mul-cy : tie.Need-mul-cy Inv-loop2 μ-loop2 Inv-loop μ-loop Inv-pass μ-pass
 mul-cy c = doubled _ (y-small (c .before .before .before))
@@ -179,7 +179,7 @@ loop2-holds : tie.Need-loop2-holds Inv-loop2 μ-loop2 Inv-loop μ-loop Inv-pass 
 loop2-holds c =
     let w = c .before .before .before in
     let i = w .before .before .loop .inv in
-    (i .0, added _ _ _ _ _ _ _ _ _ _ _ (i .1) (next-named _ _ _ _ (i .2) (w .before .loop-test .taken) (w .lowest .ensures)) _ (c .merge .ensures), passed-none _ _ (visits-small (at-x (w .before .before) .before .before) _ _), grown-none _ _ _ _)
+    (i .0, added _ _ _ _ _ _ _ _ _ _ _ (i .1) (next-named _ _ _ _ (i .2) (w .before .loop-test .taken) (w .lowest .ensures)) _ (c .either-label .ensures), passed-none _ _ (visits-small (at-x (w .before .before) .before .before) _ _), grown-none _ _ _ _)
 
 lowest-requires-2 : tie.Need-lowest-requires-2 Inv-loop2 μ-loop2 Inv-loop μ-loop Inv-pass μ-pass
 lowest-requires-2 c κs = search needs
@@ -245,7 +245,7 @@ loop-again c =
       i .0,
       i .1,
       rw (c .rest2 .ensures _ (w .lowest .ensures)) (y-passed _ _ _ _ _ _ _ _ _ _ _ _ _ _ (w .before .before .loop .inv .2) (w .before .loop-test .taken) (w .lowest .ensures)
-          (sym (m .before .before .clashes .ensures) ∙ m .before .if1 .left) _ (m .merge .ensures) _ _ _ _ (z .loop2-test .left) (i .2) (i .3)),
+          (sym (m .before .before .clashes .ensures) ∙ m .before .if1 .left) _ (m .either-label .ensures) _ _ _ _ (z .loop2-test .left) (i .2) (i .3)),
     )
 
 mul-old : tie.Need-mul-old Inv-loop2 μ-loop2 Inv-loop μ-loop Inv-pass μ-pass
@@ -359,7 +359,7 @@ pass-spec =
     lowest-requires
     array-read-ly
     clashes-requires
-    merge-requires
+    either-label-requires
     mul-cy
     array-read-cy
     mul-py

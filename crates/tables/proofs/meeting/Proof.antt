@@ -28,8 +28,8 @@ array-read-v c = search needs
 meet-requires : tie.Need-meet-requires Inv-loop μ-loop
 meet-requires c κs = search needs
 
-mark-requires : tie.Need-mark-requires Inv-loop μ-loop
-mark-requires c κs = search needs
+gain-one-requires : tie.Need-gain-one-requires Inv-loop μ-loop
+gain-one-requires c κs = search needs
 
 add-y : tie.Need-add-y Inv-loop μ-loop
 add-y c = search needs
@@ -38,7 +38,7 @@ loop-less : tie.Need-loop-less Inv-loop μ-loop
 loop-less c = search needs
 
 loop-again : tie.Need-loop-again Inv-loop μ-loop
-loop-again c = (search needs, gather-more _ _ _ _ _ (c .before .meet .ensures) (c .mark .ensures) (c .before .before .before .loop .inv .1))
+loop-again c = (search needs, gather-more _ _ _ _ _ (c .before .meet .ensures) (c .gain-one .ensures) (c .before .before .before .loop .inv .1))
 
 returns-2 : tie.Need-returns-2 Inv-loop μ-loop
 returns-2 c = gather-all _ _ _ (search needs) (c .before .loop .inv .1)
@@ -54,7 +54,7 @@ meeting-spec =
     mul-v
     array-read-v
     meet-requires
-    mark-requires
+    gain-one-requires
     add-y
     loop-less
     loop-again

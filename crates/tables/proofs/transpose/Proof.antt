@@ -3,13 +3,13 @@ use mathlib.Core.Path.{refl}
 use Prim.Native.Nat.{_≤_, _-_}
 use borrow.Author.Needs.{needs}
 use Rattle.rowbits.specs.Bit.{bit}
-use Rattle.tables.specs.Rows.{marked}
+use Rattle.tables.specs.Rows.{gainedOne}
 use Rattle.tables.proofs.Loops.{Rowing, rowing-none, rowing-more, Transposing, transposing-none, transposing-more, transposed, zeros}
 use Rattle.tables.proofs.transpose.Statement.{statement}
 use Rattle.tables.proofs.transpose.Tie as tie
 
 abbrev Inv-loop2 : tie.InvT-loop2
-Inv-loop2 t a₀ y v x₀ a x = (x ≤ 16) × Rowing (λ k w. marked (bit v k) w y) 16 a₀ x a
+Inv-loop2 t a₀ y v x₀ a x = (x ≤ 16) × Rowing (λ k w. gainedOne (bit v k) w y) 16 a₀ x a
 
 abbrev μ-loop2 : tie.MeasureT-loop2
 μ-loop2 t a₀ y v x₀ a x = 16 - x
@@ -41,8 +41,8 @@ array-read-w c = search needs
 has-requires : tie.Need-has-requires Inv-loop2 μ-loop2 Inv-loop μ-loop
 has-requires c κs = search needs
 
-mark-requires : tie.Need-mark-requires Inv-loop2 μ-loop2 Inv-loop μ-loop
-mark-requires c κs = search needs
+gain-one-requires : tie.Need-gain-one-requires Inv-loop2 μ-loop2 Inv-loop μ-loop
+gain-one-requires c κs = search needs
 
 mul-a : tie.Need-mul-a Inv-loop2 μ-loop2 Inv-loop μ-loop
 mul-a c = search needs
@@ -57,7 +57,7 @@ loop2-less : tie.Need-loop2-less Inv-loop2 μ-loop2 Inv-loop μ-loop
 loop2-less c = search needs
 
 loop2-again : tie.Need-loop2-again Inv-loop2 μ-loop2 Inv-loop μ-loop
-loop2-again c = (search needs, rowing-more _ _ _ _ _ _ (search needs) (rw (c .mark .ensures, c .before .has .ensures)) (c .before .before .before .loop2 .inv .1))
+loop2-again c = (search needs, rowing-more _ _ _ _ _ _ (search needs) (rw (c .gain-one .ensures, c .before .has .ensures)) (c .before .before .before .loop2 .inv .1))
 
 add-y : tie.Need-add-y Inv-loop2 μ-loop2 Inv-loop μ-loop
 add-y c = search needs
@@ -86,7 +86,7 @@ transpose-spec =
     mul-w
     array-read-w
     has-requires
-    mark-requires
+    gain-one-requires
     mul-a
     array-write-a
     add-x

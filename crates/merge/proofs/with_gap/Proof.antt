@@ -1,12 +1,12 @@
--- `merge::apart` meets its contract: every row named but those that are left has all of them, and the first that has not shows a gap.
+-- `merge::with_gap` meets its contract: every row named but those that are left has all of them, and the first that has not shows a gap.
 use mathlib.Core.Path.{sym, _∙_}
 use Prim.Native.Nat.{_<_}
 use native.Mathlib.Omega.{arith}
 use Rattle.tables.proofs.Members.{Passed, passed-none, passed-more, passed-less, next-in, next-named}
 use Rattle.merge.proofs.Loops.{Whole, is-whole, is-apart, not-apart}
 use borrow.Author.Needs.{needs}
-use Rattle.merge.proofs.apart.Statement.{statement}
-use Rattle.merge.proofs.apart.Tie as tie
+use Rattle.merge.proofs.with_gap.Statement.{statement}
+use Rattle.merge.proofs.with_gap.Tie as tie
 
 abbrev Inv-loop : tie.InvT-loop
 Inv-loop rows t rest₀ rest = Passed (Whole t rows) rows rest
@@ -59,8 +59,8 @@ loop-again c =
 returns-2 : tie.Need-returns-2 Inv-loop μ-loop
 returns-2 c = not-apart _ _ _ (c .before .loop .inv) (c .loop-test .left)
 
-pub apart-spec : {M : Type 1} → statement M
-apart-spec =
+pub with-gap-spec : {M : Type 1} → statement M
+with-gap-spec =
     tie.close
     (tie.spec
     Inv-loop

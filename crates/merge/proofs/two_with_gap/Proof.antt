@@ -1,8 +1,8 @@
--- `merge::apart_two` meets its contract: what the two rows do not share one of them lacks.
+-- `merge::two_with_gap` meets its contract: what the two rows do not share one of them lacks.
 use Rattle.merge.proofs.Loops.{is-apart-two, not-apart-two}
 use borrow.Author.Needs.{needs}
-use Rattle.merge.proofs.apart_two.Statement.{statement}
-use Rattle.merge.proofs.apart_two.Tie as tie
+use Rattle.merge.proofs.two_with_gap.Statement.{statement}
+use Rattle.merge.proofs.two_with_gap.Tie as tie
 
 mul-v : tie.Need-mul-v
 mul-v c = search needs
@@ -38,8 +38,8 @@ returns-2 c =
     rw (e .before .before .one .ensures, e .before .one2 .ensures)
     (is-apart-two (s .args .t1) (s .args .a) (s .args .b) (s .pre .0) (s .pre .1) (rw (← e .before .before .one .ensures, ← e .before .one2 .ensures) (rw (← e .except .ensures) (c .if1 .left))))
 
-pub apart-two-spec : {M : Type 1} → statement M
-apart-two-spec =
+pub two-with-gap-spec : {M : Type 1} → statement M
+two-with-gap-spec =
     tie.close
     (tie.spec
     mul-v
