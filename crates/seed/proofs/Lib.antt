@@ -5,3 +5,4 @@ pub mod Parts
 pub mod Gathering
 pub mod Seeding
 pub mod Together
+pub mod Clashes
