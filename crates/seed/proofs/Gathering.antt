@@ -1,19 +1,18 @@
 -- The records so far, gathered by kind as rows and as columns, and their labels: a bit or a label stands for a constraint of the file, and
--- each constraint is still to come or stands there, unless a variable has been given a second label.
+-- each constraint is still to come or stands there. Where a label stands and another one is given, the file gives two.
 use mathlib.Core.Path.{_≡_, refl, sym, ap, _∙_, subst}
 use mathlib.Core.Logic.{_≢_, _⊎_, inl, inr, ⊎-elim}
 use mathlib.Core.Bool.{Bool, true, false}
 use mathlib.Core.List.{List, _∷_, List·Memᴰ, List·Memᴰ·head, List·Memᴰ·cases-cons, Memᴰ·append-right}
 use Prim.Native.Nat.{ℕ, _+_, _*_, _^_, _<_}
 use native.Mathlib.Decide.{ℕ-discrete}
-use native.Mathlib.Omega.{arith}
 use lib.Dec.{eqb}
 use lib.Bits.{bitOr}
 use lib.ListN.{length, set, drop, replicate, length-set, length-replicate, take-append-drop, take}
 use lib.Seq.{getD-set-same, getD-set-other}
 use Rattle.rowbits.specs.Bit.{bit}
 use Rattle.meaning.specs.Constraint.{Constraint, is-label, label, factsOf}
-use Rattle.meaning.specs.Finite.{Yes, _and_, neg}
+use Rattle.meaning.specs.Finite.{Yes, neg, pick}
 use Rattle.meaning.proofs.Tests.{clash, and-left, and-right, and-both, no-neg, is-eq, eq-yes, yes-case, pick-yes, pick-no}
 use Rattle.tables.specs.Tables.{row}
 use Rattle.tables.proofs.Bits.{or-case, or-l, or-r, one-is, one-has, none-in}
@@ -71,13 +70,14 @@ gathered-none cs p q = record { long = length-replicate {A = ℕ} 256 0; from = 
 pub labels-none : (cs : List Constraint) → Labels cs 0 (replicate 16 0)
 labels-none cs = record { long = length-replicate {A = ℕ} 16 0; from = λ u m e z. absurd (z (sym e ∙ zeros 16 u)); to = λ u m k. inl k }
 
-second-is : {b : Bool} {m l : ℕ} → Yes (secondLabel b m l) → Yes b × (m ≢ 0) × (m ≢ l)
-unfolding secondLabel
-second-is q = (and-left _ q, λ z. clash (eq-yes z) (and-left _ (and-right _ q)), λ z. clash (eq-yes z) (and-right _ (and-right _ q)))
+second-is : (b : Bool) (m l : ℕ) → Yes (secondLabel m (labelled b m l)) → Yes b × (m ≢ 0) × (m ≢ l)
+unfolding secondLabel labelled pick
+second-is true m l q = (refl, λ z. clash (eq-yes z) (and-left _ q), λ z. clash (eq-yes z) (and-right _ q))
+second-is false m l q = absurd (clash (eq-yes {x = m} refl) (and-right _ q))
 
-is-second : {b : Bool} {m l : ℕ} → Yes b → m ≢ 0 → m ≢ l → Yes (secondLabel b m l)
-unfolding secondLabel
-is-second q z d = and-both q (and-both (no-neg (λ v. z (is-eq v))) (no-neg (λ v. d (is-eq v))))
+is-second : {b : Bool} {m l : ℕ} → Yes b → m ≢ 0 → m ≢ l → Yes (secondLabel m (labelled b m l))
+unfolding secondLabel labelled
+is-second q z d = and-both (no-neg (λ v. z (is-eq v))) (no-neg (λ v. d (is-eq v ∙ pick-yes _ _ q)))
 
 -- ---- one record more
 
@@ -128,7 +128,7 @@ module _ (cs : List Constraint) (i : ℕ) (d : Constraint) (at : drop i cs ≡ d
         go (yes a) (inl q) = rw (a, sym (sym (stored-new q) ∙ ap (row now) (sym a) ∙ e)) (label-here q)
         go (yes a) (inr v) = s .from u m (ap (row t) a ∙ sym (stored-old v) ∙ ap (row now) (sym a) ∙ e) z
 
-    module _ (free : secondLabel (eqb k 8) (row t x) l ≡ false) where
+    module _ (free : secondLabel (row t x) (labelled (eqb k 8) (row t x) l) ≡ false) where
       kept : (u m : ℕ) → row t u ≡ m → m ≢ 0 → row now u ≡ m
       kept u m e z = go (ℕ-discrete u x) (yes-case (eqb k 8)) (ℕ-discrete (row t x) l)
         where
@@ -153,8 +153,8 @@ module _ (cs : List Constraint) (i : ℕ) (d : Constraint) (at : drop i cs ≡ d
         to = λ u m n. ⊎-elim (λ b. ⊎-elim (λ e. inr (this u m e)) inl (next _ b)) (λ b. inr (kept u m (b .0) (b .1), b .1)) (s .to u m n);
       }
 
-    pub two-labels : secondLabel (eqb k 8) (row t x) l ≡ true → TwoLabels (factsOf cs)
-    two-labels q = let v = second-is q in record {
+    pub two-labels : secondLabel (row t x) (labelled (eqb k 8) (row t x) l) ≡ true → TwoLabels (factsOf cs)
+    two-labels q = let v = second-is (eqb k 8) (row t x) l q in record {
       variable = x;
       one = row t x;
       other = l;

@@ -1,4 +1,4 @@
-pub mod Tests
+pub mod Product
 pub mod Codes
 pub mod Bytes
 pub mod Parts

@@ -1,4 +1,4 @@
--- The tables of the gathered records: the loop of `seed` keeps `Seeding`, and at its end the tables hold what they should.
+-- The loop of `seed` keeps `Seeding`, or leaves with two labels.
 use mathlib.Core.Path.{_≡_, sym, _∙_, subst}
 use mathlib.Core.Bool.{Bool, true, false}
 use mathlib.Core.List.{List, List·Memᴰ}
@@ -62,7 +62,7 @@ module _ (file : List ℕ) (cs : List Constraint) (e : judge file ≡ accepted c
     y-small : y < 16
     y-small = subst (λ (j : ℕ). j < 16) (good .is-right) (few d (here-in cs i d (good-at file cs e i h .2)) .1)
 
-    next : secondLabel (eqb k 8) (row names x) l ≡ false → Seeding cs (i + 1) (set rows (k * 16 + x) (bitOr (row rows (k * 16 + x)) (2 ^ y)))
+    next : secondLabel (row names x) (labelled (eqb k 8) (row names x) l) ≡ false → Seeding cs (i + 1) (set rows (k * 16 + x) (bitOr (row rows (k * 16 + x)) (2 ^ y)))
         (set columns (k * 16 + y) (bitOr (row columns (k * 16 + y)) (2 ^ x))) (set names x (labelled (eqb k 8) (row names x) l))
     next free =
         let at = good-at file cs e i h .2 in
@@ -74,7 +74,8 @@ module _ (file : List ℕ) (cs : List Constraint) (e : judge file ≡ accepted c
         }
 
     -- the code's numbers are the record's
-    module _ (k' x' y' l' : ℕ) (ek : k' ≡ k % 16) (ex : x' ≡ x % 16) (ey : y' ≡ y % 16) (el : l' ≡ l) (second : Bool) (es : second ≡ secondLabel (eqb k' 8) (row names x') l') where
+    module _ (k' x' y' l' : ℕ) (ek : k' ≡ k % 16) (ex : x' ≡ x % 16) (ey : y' ≡ y % 16) (el : l' ≡ l)
+        (new : ℕ) (en : new ≡ labelled (eqb k' 8) (row names x') l') (second : Bool) (es : second ≡ secondLabel (row names x') new) where
       kind-is : k' ≡ k
       kind-is = ek ∙ mod-eq-of-lt (let m = good .most in omega arith)
 
@@ -84,13 +85,16 @@ module _ (file : List ℕ) (cs : List Constraint) (e : judge file ≡ accepted c
       right-is : y' ≡ y
       right-is = ey ∙ mod-eq-of-lt y-small
 
-      second-is : second ≡ secondLabel (eqb k 8) (row names x) l
-      second-is = es ∙ rw (kind-is, left-is, el)
+      new-is : new ≡ labelled (eqb k 8) (row names x) l
+      new-is = en ∙ rw (kind-is, left-is, el)
 
-      pub seeding-step : second ≡ false → (r₁ c₁ l₁ : ℕ) → r₁ ≡ 2 ^ y' → c₁ ≡ 2 ^ x' → l₁ ≡ labelled (eqb k' 8) (row names x') l'
+      second-is : second ≡ secondLabel (row names x) (labelled (eqb k 8) (row names x) l)
+      second-is = es ∙ rw (new-is, left-is)
+
+      pub seeding-step : second ≡ false → (r₁ c₁ : ℕ) → r₁ ≡ 2 ^ y' → c₁ ≡ 2 ^ x'
           → Seeding cs (i + 1) (set rows (k' * 16 + x') (bitOr (row rows (k' * 16 + x')) r₁))
-          (set columns (k' * 16 + y') (bitOr (row columns (k' * 16 + y')) c₁)) (set names x' l₁)
-      seeding-step free r₁ c₁ l₁ e₁ e₂ e₃ = rw (e₁, e₂, e₃, kind-is, left-is, right-is, el) (next (sym second-is ∙ free))
+          (set columns (k' * 16 + y') (bitOr (row columns (k' * 16 + y')) c₁)) (set names x' new)
+      seeding-step free r₁ c₁ e₁ e₂ = rw (e₁, e₂, new-is, kind-is, left-is, right-is) (next (sym second-is ∙ free))
 
       pub seeding-clash : second ≡ true → TwoLabels (factsOf cs)
       seeding-clash q = two-labels cs i d (good-at file cs e i h .2) k x y l good x-small names (s .labels) (sym second-is ∙ q)

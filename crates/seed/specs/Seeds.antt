@@ -19,9 +19,9 @@ use Rattle.seed.specs.declared.Seeds.{Seeds}
 unfoldable pub labelled : Bool → ℕ → ℕ → ℕ
 labelled given old new = pick given new old
 
--- a label is given where another one stands
-unfoldable pub secondLabel : Bool → ℕ → ℕ → Bool
-secondLabel given old new = given and neg (eqb old 0) and neg (eqb old new)
+-- another label than the one that stands
+unfoldable pub secondLabel : ℕ → ℕ → Bool
+secondLabel old new = neg (eqb old 0) and neg (eqb old new)
 
 unfoldable pub noFacts : Facts
 noFacts = record {

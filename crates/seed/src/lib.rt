@@ -22,11 +22,12 @@ fn label_with(given: bool, old: u8, new: u8) -> u8
     old
 }
 
-// A label is given where another one stands.
-fn second_label(given: bool, old: u8, new: u8) -> bool
-    ensures { λ r. ⌜ r ≡ secondLabel given old new ⌝ }
+// Another label than the one that stands. One product and not two tests, which are compiled to branches that a mix of records mispredicts.
+fn second_label(old: u8, new: u8) -> bool
+    ensures { λ r. ⌜ r ≡ secondLabel old new ⌝ }
 {
-    given & (old != 0) & (old != new)
+    let change = old ^ new;
+    old as u16 * change as u16 != 0
 }
 
 // A kind or a variable as an index. Those of an accepted file are below 16.
@@ -125,14 +126,15 @@ pub fn seed(file: &[u8]) -> Seeds
         let x = index(file[at + 1]);
         let y = index(file[at + 2]);
         let name = file[at + 3];
-        let l = label[x];
-        if second_label(kind == 8, l, name) {
+        let old = label[x];
+        let new = label_with(kind == 8, old, name);
+        if second_label(old, new) {
             return Seeds {
                 clash: true,
                 facts: blank(),
             };
         }
-        label[x] = label_with(kind == 8, l, name);
+        label[x] = new;
         let r = rows[kind * 16 + x];
         rows[kind * 16 + x] = r | tables::one(y);
         let c = columns[kind * 16 + y];

@@ -1,18 +1,17 @@
-use mathlib.Core.Path.{ap, _∙_}
-use mathlib.Core.Bool.{Bool, not}
-use lib.Dec.{eqb}
-use Rattle.meaning.specs.Finite.{_and_, neg}
-use Rattle.tables.proofs.Helpers.{and-is, not-is}
-use Rattle.seed.proofs.Tests.{and-assoc}
-use Rattle.seed.specs.Seeds.{secondLabel}
+-- `second_label` meets its contract: its product fits, and tells.
+use native.Mathlib.Omega.{arith}
+use Rattle.seed.proofs.Product.{change-small, product-small, product-is}
 use Rattle.seed.proofs.second_label.Statement.{statement}
 use Rattle.seed.proofs.second_label.Tie as tie
 
+cast-result : tie.Need-cast-result
+cast-result c = omega (arith, change-small (c .args .old) (c .args .new) (omega arith) (omega arith))
+
+mul-result : tie.Need-mul-result
+mul-result c = omega (arith, product-small (c .args .old) (c .args .new) (omega arith) (omega arith))
+
 returns : tie.Need-returns
-unfolding secondLabel
-returns c =
-    and-is _ _ ∙ ap (λ (b : Bool). b and not (eqb (c .args .old) (c .args .new))) (and-is _ _) ∙ and-assoc _ _ _
-    ∙ ap (λ (b : Bool). c .args .given and b and not (eqb (c .args .old) (c .args .new))) (not-is _) ∙ ap (λ (b : Bool). c .args .given and neg (eqb (c .args .old) 0) and b) (not-is _)
+returns c = product-is (c .args .old) (c .args .new)
 
 pub second-label-spec : {M : Type 1} → statement M
-second-label-spec = tie.close (tie.spec returns)
+second-label-spec = tie.close (tie.spec cast-result mul-result returns)

@@ -53,8 +53,11 @@ add-name c = search needs
 shared-slice-read-name : tie.Need-shared-slice-read-name Inv-loop μ-loop
 shared-slice-read-name c = search needs
 
-array-read-l : tie.Need-array-read-l Inv-loop μ-loop
-array-read-l c = search needs
+array-read-old : tie.Need-array-read-old Inv-loop μ-loop
+array-read-old c = search needs
+
+label-with-requires : tie.Need-label-with-requires Inv-loop μ-loop
+label-with-requires c κs = search needs
 
 second-label-requires : tie.Need-second-label-requires Inv-loop μ-loop
 second-label-requires c κs = search needs
@@ -65,14 +68,15 @@ blank-requires c κs = search needs
 returns : tie.Need-returns Inv-loop μ-loop
 returns c =
     let seconds = c .before .before in
-    let ys = seconds .before .before in
+    let names = seconds .before in
+    let ys = names .before .before in
     let xs = ys .before .before in
     let kinds = xs .before .before in
     let inside = kinds .before .before in
     let start = inside .before .before .before in
     let file = accepted-file (start .args .file .now) (start .pre .0) (start .pre .1) .0 in
     let two = seeding-clash (start .args .file .now) _ file (λ i. omega (arith, kinds .before .shared-slice-known2 .given i)) _ (omega arith) _ _ _ (inside .before .loop .inv .1)
-    _ _ _ _ (kinds .index .ensures) (xs .index2 .ensures) (ys .index3 .ensures) refl _ (seconds .second-label .ensures) (c .before .if1 .taken) in
+    _ _ _ _ (kinds .index .ensures) (xs .index2 .ensures) (ys .index3 .ensures) refl _ (names .label-with .ensures) _ (seconds .second-label .ensures) (c .before .if1 .taken) in
     record {
       clashes = (λ e. two, λ t. refl);
       cleared = λ e. c .blank .ensures;
@@ -80,9 +84,6 @@ returns c =
       unmirrored = λ e. let z : _≡_ {A = ℕ} 0 1 = cc in absurd (omega arith);
       seeded = λ e. let z : _≡_ {A = ℕ} 0 1 = cc in absurd (omega arith);
     }
-
-label-with-requires : tie.Need-label-with-requires Inv-loop μ-loop
-label-with-requires c κs = search needs
 
 array-write-label : tie.Need-array-write-label Inv-loop μ-loop
 array-write-label c = search needs
@@ -150,9 +151,10 @@ loop-less c = search needs
 loop-again : tie.Need-loop-again Inv-loop μ-loop
 loop-again c =
     let rights = c .before in
-    let names = rights .before in
-    let seconds = names .before .before in
-    let ys = seconds .before .before in
+    let free = rights .before in
+    let seconds = free .before in
+    let names = seconds .before in
+    let ys = names .before .before in
     let xs = ys .before .before in
     let kinds = xs .before .before in
     let inside = kinds .before .before in
@@ -160,8 +162,8 @@ loop-again c =
     let file = accepted-file (start .args .file .now) (start .pre .0) (start .pre .1) .0 in (
       omega arith,
       seeding-step (start .args .file .now) _ file (λ i. omega (arith, kinds .before .shared-slice-known2 .given i)) _ (omega arith) _ _ _ (inside .before .loop .inv .1)
-          _ _ _ _ (kinds .index .ensures) (xs .index2 .ensures) (ys .index3 .ensures) refl _ (seconds .second-label .ensures) (names .before .if1 .left)
-          _ _ _ (rights .one .ensures) (c .one2 .ensures) (names .label-with .ensures),
+          _ _ _ _ (kinds .index .ensures) (xs .index2 .ensures) (ys .index3 .ensures) refl _ (names .label-with .ensures) _ (seconds .second-label .ensures) (free .if1 .left)
+          _ _ (rights .one .ensures) (c .one2 .ensures),
     )
 
 put-together-requires : tie.Need-put-together-requires Inv-loop μ-loop
@@ -203,11 +205,11 @@ seed-spec =
     index-requires-3
     add-name
     shared-slice-read-name
-    array-read-l
+    array-read-old
+    label-with-requires
     second-label-requires
     blank-requires
     returns
-    label-with-requires
     array-write-label
     mul-r
     add-r
