@@ -89,7 +89,7 @@ pub record TwoLabels (S : List Fact) : Type 0 where
 pub record SeedsOf (file : List ℕ) (r : Seeds) : Type 0 where
   pub clashes : Yes (r .clash) ↔ TwoLabels (factsOf (constraintsIn file))
   pub cleared : r .clash ≡ true → r .facts ≡ noFacts
-  -- else the tables hold that and no other fact; that `parent` is the columns of `child` is in seeded
+  -- else the tables hold what is sown and no other fact; that `parent` is the columns of `child` is in seeded
   pub exact : r .clash ≡ false → (φ : Fact) → Yes (has (r .facts) φ) ↔ Sown (factsOf (constraintsIn file)) φ
   pub unmirrored : r .clash ≡ false → r .facts .above ≡ replicate 16 0
   pub seeded : r .clash ≡ false → Seeded (vars (constraintsIn file)) (factsOf (constraintsIn file)) (r .facts)
