@@ -18,7 +18,7 @@ use Rattle.tables.specs.Tables.{row}
 use Rattle.tables.proofs.Bits.{or-case, or-l, or-r, one-is, one-has, none-in}
 use Rattle.tables.proofs.Tested.{not-yes}
 use Rattle.tables.proofs.Loops.{zeros}
-use Rattle.seed.specs.Seeds.{labelled, secondLabel, TwoLabels}
+use Rattle.seed.specs.Seeds.{labelled, secondLabel, GivesTwoLabels}
 use Rattle.seed.proofs.Bytes.{GoodBytes}
 use Rattle.seed.proofs.Codes.{number, left, name, sourced}
 
@@ -153,7 +153,7 @@ module _ (cs : List Constraint) (i : ℕ) (d : Constraint) (at : drop i cs ≡ d
         to = λ u m n. ⊎-elim (λ b. ⊎-elim (λ e. inr (this u m e)) inl (next _ b)) (λ b. inr (kept u m (b .0) (b .1), b .1)) (s .to u m n);
       }
 
-    pub two-labels : secondLabel (row t x) (labelled (eqb k 8) (row t x) l) ≡ true → TwoLabels (factsOf cs)
+    pub two-labels : secondLabel (row t x) (labelled (eqb k 8) (row t x) l) ≡ true → GivesTwoLabels (factsOf cs)
     two-labels q = let v = second-is (eqb k 8) (row t x) l q in record {
       variable = x;
       one = row t x;

@@ -14,7 +14,7 @@ use Rattle.meaning.proofs.Constraints.{named-most}
 use Rattle.theory.proofs.ConstraintFile.{bytes, accepted-vars}
 use Rattle.constraints.proofs.Records.{good-at}
 use Rattle.tables.specs.Tables.{row}
-use Rattle.seed.specs.Seeds.{labelled, secondLabel, TwoLabels}
+use Rattle.seed.specs.Seeds.{labelled, secondLabel, GivesTwoLabels}
 use Rattle.seed.proofs.Codes.{left, right, variables-named}
 use Rattle.seed.proofs.Bytes.{GoodBytes, good-bytes}
 use Rattle.seed.proofs.Gathering.{Gathered, Labels, gathered-none, labels-none, here-in, gathered-more, labels-more, two-labels}
@@ -96,5 +96,5 @@ module _ (file : List ℕ) (cs : List Constraint) (e : judge file ≡ accepted c
           (set columns (k' * 16 + y') (bitOr (row columns (k' * 16 + y')) c₁)) (set names x' new)
       seeding-step free r₁ c₁ e₁ e₂ = rw (e₁, e₂, new-is, kind-is, left-is, right-is) (next (sym second-is ∙ free))
 
-      pub seeding-clash : second ≡ true → TwoLabels (factsOf cs)
+      pub seeding-clash : second ≡ true → GivesTwoLabels (factsOf cs)
       seeding-clash q = two-labels cs i d (good-at file cs e i h .2) k x y l good x-small names (s .labels) (sym second-is ∙ q)

@@ -21,7 +21,7 @@ use Rattle.tables.specs.Tables.{row, has, Seeded}
 use Rattle.tables.specs.declared.Facts.{Facts}
 use Rattle.tables.proofs.Bits.{or-case, or-l, or-r, none-in}
 use Rattle.tables.proofs.Labels.{label-is, label-has}
-use Rattle.seed.specs.Seeds.{kindRow, bothWays, RowsOf, TogetherOf, Sown, TwoLabels}
+use Rattle.seed.specs.Seeds.{kindRow, bothWays, RowsOf, TogetherOf, Sown, GivesTwoLabels}
 use Rattle.seed.proofs.Codes.{number, left, right, name, spelt-as, Source, source, sourced}
 use Rattle.seed.proofs.Gathering.{Gathered}
 use Rattle.seed.proofs.Seeding.{Seeding}
@@ -182,7 +182,7 @@ module _ (cs : List Constraint) (i : ℕ) (over : drop i cs ≡ []) (small : (c 
       exact (leaf x) = by-source (leaf x) (leaf-is x)
       exact (label x l) = by-source (label x l) (label-are x l)
 
-      pub one-label : ¬ TwoLabels (factsOf cs)
+      pub one-label : ¬ GivesTwoLabels (factsOf cs)
       one-label t = t .unlike (sym (named (t .one) (t .gives-one)) ∙ named (t .other) (t .gives-other))
         where
           named : (l : ℕ) → List·Memᴰ (label (t .variable) l) (factsOf cs) → row (f .label) (t .variable) ≡ l

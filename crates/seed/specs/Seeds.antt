@@ -78,7 +78,7 @@ Sown S (leaf x) = List·Memᴰ (leaf x) S
 Sown S (label x l) = List·Memᴰ (label x l) S
 
 -- S gives two different labels to one variable
-pub record TwoLabels (S : List Fact) : Type 0 where
+pub record GivesTwoLabels (S : List Fact) : Type 0 where
   pub variable : Var
   pub one : Label
   pub other : Label
@@ -87,7 +87,7 @@ pub record TwoLabels (S : List Fact) : Type 0 where
   pub unlike : one ≢ other
 
 pub record SeedsOf (file : List ℕ) (r : Seeds) : Type 0 where
-  pub clashes : Yes (r .clash) ↔ TwoLabels (factsOf (constraintsIn file))
+  pub clashes : Yes (r .clash) ↔ GivesTwoLabels (factsOf (constraintsIn file))
   pub cleared : r .clash ≡ true → r .facts ≡ noFacts
   -- else the tables hold what is sown and no other fact; that `parent` is the columns of `child` is in seeded
   pub exact : r .clash ≡ false → (φ : Fact) → Yes (has (r .facts) φ) ↔ Sown (factsOf (constraintsIn file)) φ
