@@ -1,26 +1,24 @@
 -- The records so far, gathered by kind as rows and as columns, and their labels: a bit or a label stands for a constraint of the file, and
--- each constraint is still to come or stands there, unless two labels have clashed.
+-- each constraint is still to come or stands there. Where a label stands and another one is given, the file gives two.
 use mathlib.Core.Path.{_≡_, refl, sym, ap, _∙_, subst}
 use mathlib.Core.Logic.{_≢_, _⊎_, inl, inr, ⊎-elim}
-use mathlib.Core.Bool.{Bool, true, false, _||_}
+use mathlib.Core.Bool.{Bool, true, false}
 use mathlib.Core.List.{List, _∷_, List·Memᴰ, List·Memᴰ·head, List·Memᴰ·cases-cons, Memᴰ·append-right}
 use Prim.Native.Nat.{ℕ, _+_, _*_, _^_, _<_}
 use native.Mathlib.Decide.{ℕ-discrete}
-use native.Mathlib.Omega.{arith}
 use lib.Dec.{eqb}
 use lib.Bits.{bitOr}
 use lib.ListN.{length, set, drop, replicate, length-set, length-replicate, take-append-drop, take}
 use lib.Seq.{getD-set-same, getD-set-other}
 use Rattle.rowbits.specs.Bit.{bit}
-use Rattle.meaning.specs.Constraint.{Constraint, is-label, vars, label, factsOf}
-use Rattle.meaning.specs.Settled.{Clash, labels, given}
-use Rattle.meaning.specs.Finite.{Yes, _and_, neg}
+use Rattle.meaning.specs.Constraint.{Constraint, is-label, label, factsOf}
+use Rattle.meaning.specs.Finite.{Yes, neg, pick}
 use Rattle.meaning.proofs.Tests.{clash, and-left, and-right, and-both, no-neg, is-eq, eq-yes, yes-case, pick-yes, pick-no}
 use Rattle.tables.specs.Tables.{row}
 use Rattle.tables.proofs.Bits.{or-case, or-l, or-r, one-is, one-has, none-in}
-use Rattle.tables.proofs.Tested.{or-yes, or-no, not-yes}
+use Rattle.tables.proofs.Tested.{not-yes}
 use Rattle.tables.proofs.Loops.{zeros}
-use Rattle.seed.specs.Seeds.{labelled, clashing}
+use Rattle.seed.specs.Seeds.{labelled, secondLabel, GivesTwoLabels}
 use Rattle.seed.proofs.Bytes.{GoodBytes}
 use Rattle.seed.proofs.Codes.{number, left, name, sourced}
 
@@ -61,30 +59,25 @@ pub record Gathered (cs : List Constraint) (i : ℕ) (p q : Constraint → ℕ) 
   pub from : (u v : ℕ) → Yes (bit (row t u) v) → (c : Constraint) × List·Memᴰ c cs × (number c * 16 + p c ≡ u) × (q c ≡ v)
   pub to : (c : Constraint) → List·Memᴰ c cs → List·Memᴰ c (drop i cs) ⊎ Yes (bit (row t (number c * 16 + p c)) (q c))
 
-pub record Labels (cs : List Constraint) (i : ℕ) (c : Bool) (t : List ℕ) : Type 0 where
+pub record Labels (cs : List Constraint) (i : ℕ) (t : List ℕ) : Type 0 where
   pub long : length t ≡ 16
   pub from : (u m : ℕ) → row t u ≡ m → m ≢ 0 → List·Memᴰ (is-label u m) cs
-  pub to : c ≡ false → (u m : ℕ) → List·Memᴰ (is-label u m) cs → List·Memᴰ (is-label u m) (drop i cs) ⊎ ((row t u ≡ m) × (m ≢ 0))
-  pub clashed : c ≡ true → Clash (vars cs) (factsOf cs)
+  pub to : (u m : ℕ) → List·Memᴰ (is-label u m) cs → List·Memᴰ (is-label u m) (drop i cs) ⊎ ((row t u ≡ m) × (m ≢ 0))
 
 pub gathered-none : (cs : List Constraint) (p q : Constraint → ℕ) → Gathered cs 0 p q (replicate 256 0)
 gathered-none cs p q = record { long = length-replicate {A = ℕ} 256 0; from = λ u v b. none-in v (rw (zeros 256 u) at b); to = λ c m. inl m }
 
-pub labels-none : (cs : List Constraint) → Labels cs 0 false (replicate 16 0)
-labels-none cs = record {
-  long = length-replicate {A = ℕ} 16 0;
-  from = λ u m e z. absurd (z (sym e ∙ zeros 16 u));
-  to = λ e u m k. inl k;
-  clashed = λ e. let z : _≡_ {A = ℕ} 0 1 = cc in absurd (omega arith);
-}
+pub labels-none : (cs : List Constraint) → Labels cs 0 (replicate 16 0)
+labels-none cs = record { long = length-replicate {A = ℕ} 16 0; from = λ u m e z. absurd (z (sym e ∙ zeros 16 u)); to = λ u m k. inl k }
 
-clashing-is : {b : Bool} {m l : ℕ} → clashing b m l ≡ true → Yes b × (m ≢ 0) × (m ≢ l)
-unfolding clashing
-clashing-is q = (and-left _ q, λ z. clash (eq-yes z) (and-left _ (and-right _ q)), λ z. clash (eq-yes z) (and-right _ (and-right _ q)))
+second-is : (b : Bool) (m l : ℕ) → Yes (secondLabel m (labelled b m l)) → Yes b × (m ≢ 0) × (m ≢ l)
+unfolding secondLabel labelled pick
+second-is true m l q = (refl, λ z. clash (eq-yes z) (and-left _ q), λ z. clash (eq-yes z) (and-right _ q))
+second-is false m l q = absurd (clash (eq-yes {x = m} refl) (and-right _ q))
 
-is-clashing : {b : Bool} {m l : ℕ} → Yes b → m ≢ 0 → m ≢ l → Yes (clashing b m l)
-unfolding clashing
-is-clashing q z d = and-both q (and-both (no-neg (λ v. z (is-eq v))) (no-neg (λ v. d (is-eq v))))
+is-second : {b : Bool} {m l : ℕ} → Yes b → m ≢ 0 → m ≢ l → Yes (secondLabel m (labelled b m l))
+unfolding secondLabel labelled
+is-second q z d = and-both (no-neg (λ v. z (is-eq v))) (no-neg (λ v. d (is-eq v ∙ pick-yes _ _ q)))
 
 -- ---- one record more
 
@@ -109,7 +102,7 @@ module _ (cs : List Constraint) (i : ℕ) (d : Constraint) (at : drop i cs ≡ d
       Stands : Constraint → Type 0
       Stands c = Yes (bit (row (set t j (bitOr (row t j) (2 ^ v))) (number c * 16 + p c)) (q c))
 
-  module _ (k x y l : ℕ) (w : GoodBytes k x y l d) (h : x < 16) (c : Bool) (t : List ℕ) (s : Labels cs i c t) where
+  module _ (k x y l : ℕ) (w : GoodBytes k x y l d) (h : x < 16) (t : List ℕ) (s : Labels cs i t) where
     abbrev now : List ℕ
     now = set t x (labelled (eqb k 8) (row t x) l)
 
@@ -135,14 +128,14 @@ module _ (cs : List Constraint) (i : ℕ) (d : Constraint) (at : drop i cs ≡ d
         go (yes a) (inl q) = rw (a, sym (sym (stored-new q) ∙ ap (row now) (sym a) ∙ e)) (label-here q)
         go (yes a) (inr v) = s .from u m (ap (row t) a ∙ sym (stored-old v) ∙ ap (row now) (sym a) ∙ e) z
 
-    module _ (free : clashing (eqb k 8) (row t x) l ≡ false) where
+    module _ (free : secondLabel (row t x) (labelled (eqb k 8) (row t x) l) ≡ false) where
       kept : (u m : ℕ) → row t u ≡ m → m ≢ 0 → row now u ≡ m
       kept u m e z = go (ℕ-discrete u x) (yes-case (eqb k 8)) (ℕ-discrete (row t x) l)
         where
           go : Dec (u ≡ x) → Yes (eqb k 8) ⊎ Yes (neg (eqb k 8)) → Dec (row t x ≡ l) → row now u ≡ m
           go (no n) b f = getD-set-other t x u _ 0 n ∙ e
           go (yes a) (inl q) (yes f) = ap (row now) a ∙ stored-new q ∙ sym f ∙ ap (row t) (sym a) ∙ e
-          go (yes a) (inl q) (no f) = absurd (not-yes free (is-clashing q (λ v. z (sym e ∙ ap (row t) a ∙ v)) f))
+          go (yes a) (inl q) (no f) = absurd (not-yes free (is-second q (λ v. z (sym e ∙ ap (row t) a ∙ v)) f))
           go (yes a) (inr v) f = ap (row now) a ∙ stored-old v ∙ ap (row t) (sym a) ∙ e
 
       this : (u m : ℕ) → is-label u m ≡ d → (row now u ≡ m) × (m ≢ 0)
@@ -153,16 +146,19 @@ module _ (cs : List Constraint) (i : ℕ) (d : Constraint) (at : drop i cs ≡ d
           let b : m ≡ l = ap name (e ∙ g .0) in
           (ap (row now) a ∙ stored-new (eq-yes eight) ∙ sym b, λ z. g .1 (sym b ∙ z))
 
-    two-labels : clashing (eqb k 8) (row t x) l ≡ true → Clash (vars cs) (factsOf cs)
-    two-labels q =
-        let v = clashing-is q in
-        labels (given (sourced cs (label x _) (s .from x _ refl (v .1)))) (given (sourced cs (label x l) (label-here (v .0)))) (v .2)
+      pub labels-more : Labels cs (i + 1) now
+      labels-more = record {
+        long = length-set t _ _ ∙ s .long;
+        from = from-more;
+        to = λ u m n. ⊎-elim (λ b. ⊎-elim (λ e. inr (this u m e)) inl (next _ b)) (λ b. inr (kept u m (b .0) (b .1), b .1)) (s .to u m n);
+      }
 
-    pub labels-more : Labels cs (i + 1) (c || clashing (eqb k 8) (row t x) l) now
-    labels-more = record {
-      long = length-set t _ _ ∙ s .long;
-      from = from-more;
-      to = λ q u m n. let v = or-no c _ q in
-          ⊎-elim (λ b. ⊎-elim (λ e. inr (this (v .1) u m e)) inl (next _ b)) (λ b. inr (kept (v .1) u m (b .0) (b .1), b .1)) (s .to (v .0) u m n);
-      clashed = λ q. ⊎-elim (s .clashed) two-labels (or-yes c _ q);
+    pub two-labels : secondLabel (row t x) (labelled (eqb k 8) (row t x) l) ≡ true → GivesTwoLabels (factsOf cs)
+    two-labels q = let v = second-is (eqb k 8) (row t x) l q in record {
+      variable = x;
+      one = row t x;
+      other = l;
+      gives-one = sourced cs (label x _) (s .from x _ refl (v .1));
+      gives-other = sourced cs (label x l) (label-here (v .0));
+      unlike = v .2;
     }

@@ -1,16 +1,17 @@
 -- The tables put together from the gathered records: they hold what they should.
 use mathlib.Core.Path.{_≡_, refl, sym, ap, _∙_, subst}
 use mathlib.Core.Logic.{_↔_, _⊎_, inl, inr, ⊎-elim}
-use mathlib.Core.Bool.{false}
+use mathlib.Core.Bool.{Bool}
 use mathlib.Core.List.{List, [], List·Memᴰ, List·Memᴰ·not-nil}
 use Prim.Native.Nat.{ℕ, _+_, _*_, _<_}
 use native.Mathlib.Nat.{le-refl}
 use native.Mathlib.Decide.{decLt}
 use native.Mathlib.Omega.{arith}
+use lib.Bits.{bitOr}
 use lib.ListN.{drop}
 use Rattle.rowbits.specs.Bit.{bit}
 use Rattle.meaning.specs.Tree.{Var}
-use Rattle.meaning.specs.Constraint.{Constraint, is-child, is-below, is-strictly-below, is-same, is-differ, is-root, is-leaf, vars, Fact, child, below, differ, root, leaf, label, factsOf}
+use Rattle.meaning.specs.Constraint.{Constraint, is-child, is-below, is-strictly-below, is-same, is-differ, is-root, is-leaf, is-label, vars, Fact, child, below, differ, root, leaf, label, factsOf}
 use Rattle.meaning.specs.Settled.{Settled, given, child-differ, differ-back}
 use Rattle.meaning.specs.Finite.{Yes, pick}
 use Rattle.meaning.proofs.Tests.{yes-eq}
@@ -20,20 +21,32 @@ use Rattle.tables.specs.Tables.{row, has, Seeded}
 use Rattle.tables.specs.declared.Facts.{Facts}
 use Rattle.tables.proofs.Bits.{or-case, or-l, or-r, none-in}
 use Rattle.tables.proofs.Labels.{label-is, label-has}
-use Rattle.seed.specs.Seeds.{RowsOf, United, Sown}
+use Rattle.seed.specs.Seeds.{kindRow, bothWays, RowsOf, TogetherOf, Sown, GivesTwoLabels}
 use Rattle.seed.proofs.Codes.{number, left, right, name, spelt-as, Source, source, sourced}
 use Rattle.seed.proofs.Gathering.{Gathered}
 use Rattle.seed.proofs.Seeding.{Seeding}
 
--- the rows are a relation
+-- the 16 rows are a relation
+record Tells (rows : ℕ → ℕ) (P : ℕ → ℕ → Type 0) : Type 0 where
+  from : (x y : ℕ) → x < 16 → Yes (bit (rows x) y) → P x y
+  to : (x y : ℕ) → P x y → (x < 16) × Yes (bit (rows x) y)
+
+unite : {g h : ℕ → ℕ} {P Q : ℕ → ℕ → Type 0} → Tells g P → Tells h Q → Tells (λ x. bitOr (g x) (h x)) (λ x y. P x y ⊎ Q x y)
+unite {g} {h} a b = record {
+  from = λ x y l u. ⊎-elim (λ v. inl (a .from x y l v)) (λ v. inr (b .from x y l v)) (or-case (g x) (h x) y u);
+  to = λ x y. ⊎-elim (λ p. let w = a .to x y p in (w .0, or-l (g x) (h x) y (w .1))) (λ q. let w = b .to x y q in (w .0, or-r (g x) (h x) y (w .1)));
+}
+
+-- and so is a table of them
 abbrev Bits : List ℕ → (ℕ → ℕ → Type 0) → Type 0
 Bits r P = (x y : ℕ) → Yes (bit (row r x) y) ↔ P x y
 
-unite : {t more r : List ℕ} {P Q : ℕ → ℕ → Type 0} → United t more r → Bits t P → Bits more Q → Bits r (λ x y. P x y ⊎ Q x y)
-unite {t} {more} w p q x y = (
-  λ h. ⊎-elim (λ u. inl (p x y .0 u)) (λ u. inr (q x y .0 u)) (or-case (row t x) (row more x) y (subst (λ (k : ℕ). Yes (bit k y)) (w .rows x) h)),
-  λ h. subst (λ (k : ℕ). Yes (bit k y)) (sym (w .rows x)) (⊎-elim (λ u. or-l (row t x) (row more x) y (p x y .1 u)) (λ u. or-r (row t x) (row more x) y (q x y .1 u)) h),
-)
+told : {g : ℕ → ℕ} {r : List ℕ} {P : ℕ → ℕ → Type 0} → RowsOf g r → Tells g P → Bits r P
+told {r = r} {P = P} w a x y = (λ u. from u (decLt x 16), λ p. let v = a .to x y p in subst (λ (j : ℕ). Yes (bit j y)) (sym (w .within x (v .0))) (v .1))
+  where
+    from : Yes (bit (row r x) y) → Dec (x < 16) → P x y
+    from u (yes h) = a .from x y h (subst (λ (j : ℕ). Yes (bit j y)) (w .within x h) u)
+    from u (no h) = none-in y (subst (λ (j : ℕ). Yes (bit j y)) (w .beyond x (omega arith)) u)
 
 -- a record of these numbers spells c, whose numbers they are, whatever its label
 abbrev Spells : ℕ → ℕ → ℕ → ℕ → Constraint → Type 0
@@ -44,35 +57,27 @@ module _ (cs : List Constraint) (i : ℕ) (over : drop i cs ≡ []) (small : (c 
   same-in : {k x y : ℕ} {c d : Constraint} → ((l : ℕ) → Spells k x y l d) → List·Memᴰ c cs → number c ≡ k → left c ≡ x → right c ≡ y → List·Memᴰ d cs
   same-in {c = c} w m a b e = subst (λ (d : Constraint). List·Memᴰ d cs) (spelt-as c a b e ∙ w (name c) .0) m
 
+  -- a constraint of number k and these two others
+  abbrev Given : (Constraint → ℕ) → (Constraint → ℕ) → ℕ → ℕ → ℕ → Type 0
+  Given p q k x y = (c : Constraint) × List·Memᴰ c cs × (number c ≡ k) × (p c ≡ x) × (q c ≡ y)
+
   module _ (p q : Constraint → ℕ) (low : (c : Constraint) → List·Memᴰ c cs → p c < 16) (t : List ℕ) (g : Gathered cs i p q t) (k : ℕ) where
-    abbrev Given : ℕ → ℕ → Type 0
-    Given x y = (c : Constraint) × List·Memᴰ c cs × (number c ≡ k) × (p c ≡ x) × (q c ≡ y)
-
-    given-from : (x y : ℕ) → x < 16 → Yes (bit (row t (k * 16 + x)) y) → Given x y
-    given-from x y h u =
-        let w = g .from _ y u in
-        let e = w .2 in
-        let l = low (w .0) (w .1) in
-        (w .0, w .1, omega arith, omega arith, w .3)
-
-    given-in : (x y : ℕ) → Given x y → Yes (bit (row t (k * 16 + x)) y)
-    given-in x y w =
-        let u : Yes (bit (row t (number (w .0) * 16 + p (w .0))) (q (w .0))) = ⊎-elim (λ n. absurd (List·Memᴰ·not-nil (rw over at n))) (λ b. b) (g .to (w .0) (w .1)) in
-        rw (sym (w .2), sym (w .3), sym (w .4)) u
-
-    part : (r : List ℕ) → RowsOf t k r → Bits r Given
-    part r w x y = (λ u. from u (decLt x 16), λ v. in-table v)
+    part : Tells (kindRow t k) (Given p q k)
+    part = record { from = given-from; to = λ x y w. (subst (λ (j : ℕ). j < 16) (w .3) (low (w .0) (w .1)), given-in x y w) }
       where
-        from : Yes (bit (row r x) y) → Dec (x < 16) → Given x y
-        from u (yes h) = given-from x y h (subst (λ (j : ℕ). Yes (bit j y)) (w .within x h) u)
-        from u (no h) = none-in y (subst (λ (j : ℕ). Yes (bit j y)) (w .beyond x (omega arith)) u)
+        given-from : (x y : ℕ) → x < 16 → Yes (bit (kindRow t k x) y) → Given p q k x y
+        given-from x y h u =
+            let w = g .from _ y u in
+            let e = w .2 in
+            let l = low (w .0) (w .1) in
+            (w .0, w .1, omega arith, omega arith, w .3)
 
-        in-table : Given x y → Yes (bit (row r x) y)
-        in-table v =
-            let h : x < 16 = subst (λ (j : ℕ). j < 16) (v .3) (low (v .0) (v .1)) in
-            subst (λ (j : ℕ). Yes (bit j y)) (sym (w .within x h)) (given-in x y v)
+        given-in : (x y : ℕ) → Given p q k x y → Yes (bit (kindRow t k x) y)
+        given-in x y w =
+            let u : Yes (bit (row t (number (w .0) * 16 + p (w .0))) (q (w .0))) = ⊎-elim (λ n. absurd (List·Memᴰ·not-nil (rw over at n))) (λ b. b) (g .to (w .0) (w .1)) in
+            rw (sym (w .2), sym (w .3), sym (w .4)) u
 
-  module _ (rows columns names : List ℕ) (s : Seeding cs i false rows columns names) where
+  module _ (rows columns names : List ℕ) (s : Seeding cs i rows columns names) where
     abbrev Of : (Var → Var → Constraint) → ℕ → ℕ → Type 0
     Of d x y = List·Memᴰ (d x y) cs
 
@@ -85,54 +90,73 @@ module _ (cs : List Constraint) (i : ℕ) (over : drop i cs ≡ []) (small : (c 
     abbrev Unlike : ℕ → ℕ → Type 0
     Unlike x y = Both is-child x y ⊎ (Both is-strictly-below x y ⊎ Both is-differ x y)
 
-    -- kind k is d
-    module _ (k : ℕ) (d : Var → Var → Constraint) (w : (x y l : ℕ) → Spells k x y l (d x y)) {r : List ℕ} where
-      rows-are : RowsOf rows k r → Bits r (Of d)
-      rows-are h x y =
-          let v = part left right (λ c m. small c m .0) rows (s .by-row) k r h x y in
-          (λ u. let g = v .0 u in same-in (w x y) (g .1) (g .2) (g .3) (g .4), λ m. let a = w x y 0 in v .1 (d x y, m, a .1, a .2, a .3))
+    by-row : (k : ℕ) → Tells (kindRow rows k) (Given left right k)
+    by-row k = part left right (λ c m. small c m .0) rows (s .by-row) k
 
-      columns-are : RowsOf columns k r → Bits r (Back d)
-      columns-are h y x =
-          let v = part right left (λ c m. small c m .1) columns (s .by-column) k r h y x in
-          (λ u. let g = v .0 u in same-in (w x y) (g .1) (g .2) (g .4) (g .3), λ m. let a = w x y 0 in v .1 (d x y, m, a .1, a .3, a .2))
+    by-column : (k : ℕ) → Tells (kindRow columns k) (Given right left k)
+    by-column k = part right left (λ c m. small c m .1) columns (s .by-column) k
+
+    -- kind k is d
+    module _ (k : ℕ) (d : Var → Var → Constraint) (w : (x y l : ℕ) → Spells k x y l (d x y)) where
+      rows-are : Tells (kindRow rows k) (Of d)
+      rows-are = record {
+        from = λ x y h u. let g = by-row k .from x y h u in same-in (w x y) (g .1) (g .2) (g .3) (g .4);
+        to = λ x y m. let a = w x y 0 in by-row k .to x y (d x y, m, a .1, a .2, a .3);
+      }
+
+      columns-are : Tells (kindRow columns k) (Back d)
+      columns-are = record {
+        from = λ y x h u. let g = by-column k .from y x h u in same-in (w x y) (g .1) (g .2) (g .4) (g .3);
+        to = λ y x m. let a = w x y 0 in by-column k .to y x (d x y, m, a .1, a .3, a .2);
+      }
+
+      both-are : Tells (bothWays rows columns k) (Both d)
+      both-are = unite rows-are columns-are
 
     -- kind k is d, of one variable
-    column-is : (k : ℕ) (d : Var → Constraint) → ((x l : ℕ) → Spells k x 0 l (d x)) → (x : ℕ) → Yes (bit (row columns (k * 16 + 0)) x) ↔ List·Memᴰ (d x) cs
+    column-is : (k : ℕ) (d : Var → Constraint) → ((x l : ℕ) → Spells k x 0 l (d x)) → (x : ℕ) → Yes (bit (kindRow columns k 0) x) ↔ List·Memᴰ (d x) cs
     column-is k d w x = (
-      λ u. let g = given-from right left (λ c m. small c m .1) columns (s .by-column) k 0 x (omega arith) u in same-in (w x) (g .1) (g .2) (g .4) (g .3),
-      λ m. let a = w x 0 in given-in right left (λ c m. small c m .1) columns (s .by-column) k 0 x (d x, m, a .1, a .3, a .2),
+      λ u. let g = by-column k .from 0 x (omega arith) u in same-in (w x) (g .1) (g .2) (g .4) (g .3),
+      λ m. let a = w x 0 in by-column k .to 0 x (d x, m, a .1, a .3, a .2) .1,
     )
 
-    pub child-are : {r : List ℕ} → RowsOf rows 1 r → Bits r (Of is-child)
-    unfolding constraintAs kindOf pick
-    child-are w = rows-are 1 is-child (λ x y l. (refl, refl, refl, refl)) w
+    module _ (f : Facts) (w : TogetherOf rows columns names f) where
+      child-are : Bits (f .child) (Of is-child)
+      unfolding constraintAs kindOf pick
+      child-are = told (w .child-rows) (rows-are 1 is-child (λ x y l. (refl, refl, refl, refl)))
 
-    pub parent-are : {r : List ℕ} → RowsOf columns 1 r → Bits r (Back is-child)
-    unfolding constraintAs kindOf pick
-    parent-are w = columns-are 1 is-child (λ x y l. (refl, refl, refl, refl)) w
+      parent-are : Bits (f .parent) (Back is-child)
+      unfolding constraintAs kindOf pick
+      parent-are = told (w .parent-rows) (columns-are 1 is-child (λ x y l. (refl, refl, refl, refl)))
 
-    pub below-are : {r₂ r₃ r₄ c₄ u₁ u₂ r : List ℕ} → RowsOf rows 2 r₂ → RowsOf rows 3 r₃ → RowsOf rows 4 r₄ → RowsOf columns 4 c₄
-        → United r₄ c₄ u₁ → United r₃ u₁ u₂ → United r₂ u₂ r → Bits r (λ x y. Source cs (below x y))
-    unfolding constraintAs kindOf pick
-    below-are a b c d e f g =
-        unite g (rows-are 2 is-below (λ x y l. (refl, refl, refl, refl)) a)
-        (unite f (rows-are 3 is-strictly-below (λ x y l. (refl, refl, refl, refl)) b)
-        (unite e (rows-are 4 is-same (λ x y l. (refl, refl, refl, refl)) c) (columns-are 4 is-same (λ x y l. (refl, refl, refl, refl)) d)))
+      below-are : Bits (f .below) (λ x y. Source cs (below x y))
+      unfolding constraintAs kindOf pick
+      below-are =
+          told (w .below-rows)
+          (unite (rows-are 2 is-below (λ x y l. (refl, refl, refl, refl)))
+          (unite (rows-are 3 is-strictly-below (λ x y l. (refl, refl, refl, refl))) (both-are 4 is-same (λ x y l. (refl, refl, refl, refl)))))
 
-    pub differ-are : {r₁ c₁ r₃ c₃ r₅ c₅ u₁ u₃ u₅ u r : List ℕ} → RowsOf rows 1 r₁ → RowsOf columns 1 c₁ → United r₁ c₁ u₁
-        → RowsOf rows 3 r₃ → RowsOf columns 3 c₃ → United r₃ c₃ u₃ → RowsOf rows 5 r₅ → RowsOf columns 5 c₅ → United r₅ c₅ u₅
-        → United u₃ u₅ u → United u₁ u r → Bits r Unlike
-    unfolding constraintAs kindOf pick
-    differ-are a b c d e f g h i j k =
-        unite k (unite c (child-are a) (parent-are b))
-        (unite j
-        (unite f (rows-are 3 is-strictly-below (λ x y l. (refl, refl, refl, refl)) d) (columns-are 3 is-strictly-below (λ x y l. (refl, refl, refl, refl)) e))
-        (unite i (rows-are 5 is-differ (λ x y l. (refl, refl, refl, refl)) g) (columns-are 5 is-differ (λ x y l. (refl, refl, refl, refl)) h)))
+      differ-are : Bits (f .differ) Unlike
+      unfolding constraintAs kindOf pick
+      differ-are =
+          told (w .differ-rows)
+          (unite (both-are 1 is-child (λ x y l. (refl, refl, refl, refl)))
+          (unite (both-are 3 is-strictly-below (λ x y l. (refl, refl, refl, refl))) (both-are 5 is-differ (λ x y l. (refl, refl, refl, refl)))))
 
-    module _ (f : Facts) (ch : Bits (f .child) (Of is-child)) (pa : Bits (f .parent) (Back is-child)) (be : Bits (f .below) (λ x y. Source cs (below x y)))
-        (di : Bits (f .differ) Unlike)
-        (ro : f .root ≡ row columns 96) (le : f .leaf ≡ row columns 112) (la : f .label ≡ names) where
+      root-is : (x : ℕ) → Yes (bit (f .root) x) ↔ List·Memᴰ (is-root x) cs
+      unfolding constraintAs kindOf pick
+      root-is x = rw (w .root-row) (column-is 6 is-root (λ x l. (refl, refl, refl, refl)) x)
+
+      leaf-is : (x : ℕ) → Yes (bit (f .leaf) x) ↔ List·Memᴰ (is-leaf x) cs
+      unfolding constraintAs kindOf pick
+      leaf-is x = rw (w .leaf-row) (column-is 7 is-leaf (λ x l. (refl, refl, refl, refl)) x)
+
+      label-are : (x l : ℕ) → Yes (has f (label x l)) ↔ List·Memᴰ (is-label x l) cs
+      label-are x l = (
+        λ u. let v = label-is f x l u in s .labels .from x l (ap (λ (t : List ℕ). row t x) (sym (w .names-kept)) ∙ v .0) (v .1),
+        λ m. ⊎-elim (λ n. absurd (List·Memᴰ·not-nil (rw over at n))) (λ v. label-has f x l (ap (λ (t : List ℕ). row t x) (w .names-kept) ∙ v .0) (v .1)) (s .labels .to x l m),
+      )
+
       apart-to : (x y : ℕ) → Unlike x y → Sown (factsOf cs) (differ x y)
       apart-to x y =
           ⊎-elim (⊎-elim (λ m. inl (inr (sourced cs (child x y) m))) (λ m. inr (inr (sourced cs (child y x) m))))
@@ -145,21 +169,24 @@ module _ (cs : List Constraint) (i : ℕ) (over : drop i cs ≡ []) (small : (c 
           (⊎-elim (λ m. inr (⊎-elim (λ b. inl (inl b)) (λ b. inr (inl b)) (source cs (differ x y) m))) (λ m. inl (inl (source cs (child x y) m))))
           (⊎-elim (λ m. inr (⊎-elim (λ b. inl (inr b)) (λ b. inr (inr b)) (source cs (differ y x) m))) (λ m. inl (inr (source cs (child y x) m))))
 
+      -- what gives a fact
+      by-source : {b : Bool} (φ : Fact) → Yes b ↔ Source cs φ → Yes b ↔ List·Memᴰ φ (factsOf cs)
+      by-source φ v = (λ u. sourced cs φ (v .0 u), λ m. v .1 (source cs φ m))
+
       pub exact : (φ : Fact) → Yes (has f φ) ↔ Sown (factsOf cs) φ
-      unfolding has constraintAs kindOf pick
-      exact (child x y) = (λ u. sourced cs (child x y) (ch x y .0 u), λ m. ch x y .1 (source cs (child x y) m))
-      exact (below x y) = (λ u. sourced cs (below x y) (be x y .0 u), λ m. be x y .1 (source cs (below x y) m))
-      exact (differ x y) = (λ u. apart-to x y (di x y .0 u), λ m. di x y .1 (apart-from x y m))
-      exact (root x) =
-          let v = column-is 6 is-root (λ x l. (refl, refl, refl, refl)) x in
-          rw ro (λ u. sourced cs (root x) (v .0 u), λ m. v .1 (source cs (root x) m))
-      exact (leaf x) =
-          let v = column-is 7 is-leaf (λ x l. (refl, refl, refl, refl)) x in
-          rw le (λ u. sourced cs (leaf x) (v .0 u), λ m. v .1 (source cs (leaf x) m))
-      exact (label x l) = (
-        λ u. let w = label-is f x l u in sourced cs (label x l) (s .labels .from x l (ap (λ (t : List ℕ). row t x) (sym la) ∙ w .0) (w .1)),
-        λ m. ⊎-elim (λ n. absurd (List·Memᴰ·not-nil (rw over at n))) (λ w. label-has f x l (ap (λ (t : List ℕ). row t x) la ∙ w .0) (w .1)) (s .labels .to refl x l (source cs (label x l) m)),
-      )
+      unfolding has
+      exact (child x y) = by-source (child x y) (child-are x y)
+      exact (below x y) = by-source (below x y) (below-are x y)
+      exact (differ x y) = (λ u. apart-to x y (differ-are x y .0 u), λ m. differ-are x y .1 (apart-from x y m))
+      exact (root x) = by-source (root x) (root-is x)
+      exact (leaf x) = by-source (leaf x) (leaf-is x)
+      exact (label x l) = by-source (label x l) (label-are x l)
+
+      pub one-label : ¬ GivesTwoLabels (factsOf cs)
+      one-label t = t .unlike (sym (named (t .one) (t .gives-one)) ∙ named (t .other) (t .gives-other))
+        where
+          named : (l : ℕ) → List·Memᴰ (label (t .variable) l) (factsOf cs) → row (f .label) (t .variable) ≡ l
+          named l m = label-is f (t .variable) l (exact (label (t .variable) l) .1 m) .0
 
       holds : (φ : Fact) → List·Memᴰ φ (factsOf cs) → Sown (factsOf cs) φ
       holds (child x y) m = m
@@ -185,5 +212,5 @@ module _ (cs : List Constraint) (i : ℕ) (over : drop i cs ≡ []) (small : (c 
         sound = λ φ u. settled φ (exact φ .0 u);
         child-differ = λ x y u. exact (differ x y) .1 (inl (inr (exact (child x y) .0 u)));
         turned = λ x y u. exact (differ y x) .1 (⊎-elim inr inl (exact (differ x y) .0 u));
-        parents = λ x y hx hy. yes-eq _ _ (λ u. ch x y .1 (pa y x .0 u)) (λ u. pa y x .1 (ch x y .0 u));
+        parents = λ x y hx hy. yes-eq _ _ (λ u. child-are x y .1 (parent-are y x .0 u)) (λ u. parent-are y x .1 (child-are x y .0 u));
       }

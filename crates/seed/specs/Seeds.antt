@@ -2,14 +2,14 @@
 -- rules close it.
 use mathlib.Core.Path.{_≡_}
 use mathlib.Core.Bool.{Bool, true, false}
-use mathlib.Core.Logic.{_↔_, _⊎_}
+use mathlib.Core.Logic.{_↔_, _≢_, _⊎_}
 use mathlib.Core.List.{List, List·Memᴰ}
 use Prim.Native.Nat.{ℕ, _+_, _*_, _<_, _≤_}
 use lib.Dec.{eqb}
 use lib.Bits.{bitOr}
 use lib.ListN.{replicate}
+use Rattle.meaning.specs.Tree.{Var, Label}
 use Rattle.meaning.specs.Constraint.{Fact, child, below, differ, root, leaf, label, vars, factsOf}
-use Rattle.meaning.specs.Settled.{Clash}
 use Rattle.meaning.specs.Finite.{Yes, _and_, neg, pick}
 use Rattle.constraints.specs.Judgement.{constraintsIn}
 use Rattle.tables.specs.Tables.{row, has, Seeded}
@@ -19,8 +19,9 @@ use Rattle.seed.specs.declared.Seeds.{Seeds}
 unfoldable pub labelled : Bool → ℕ → ℕ → ℕ
 labelled given old new = pick given new old
 
-unfoldable pub clashing : Bool → ℕ → ℕ → Bool
-clashing given old new = given and neg (eqb old 0) and neg (eqb old new)
+-- another label than the one that stands
+unfoldable pub secondLabel : ℕ → ℕ → Bool
+secondLabel old new = neg (eqb old 0) and neg (eqb old new)
 
 unfoldable pub noFacts : Facts
 noFacts = record {
@@ -34,32 +35,61 @@ noFacts = record {
   leaf = 0;
 }
 
--- the rows 16·kind to 16·kind + 15
-pub record RowsOf (rows : List ℕ) (kind : ℕ) (r : List ℕ) : Type 0 where
-  pub within : (x : ℕ) → x < 16 → row r x ≡ row rows (kind * 16 + x)
+-- row x of a kind
+abbrev pub kindRow : List ℕ → ℕ → ℕ → ℕ
+kindRow t kind x = row t (kind * 16 + x)
+
+-- a table of 16 rows
+pub record RowsOf (rows : ℕ → ℕ) (r : List ℕ) : Type 0 where
+  pub within : (x : ℕ) → x < 16 → row r x ≡ rows x
   pub beyond : (x : ℕ) → 16 ≤ x → row r x ≡ 0
 
 -- each row with the other table's
 pub record United (t more r : List ℕ) : Type 0 where
   pub rows : (x : ℕ) → row r x ≡ bitOr (row t x) (row more x)
 
+-- row x and column x of a kind
+abbrev pub bothWays : List ℕ → List ℕ → ℕ → ℕ → ℕ
+bothWays rows columns kind x = bitOr (kindRow rows kind x) (kindRow columns kind x)
+
+-- the tables, from the rows and columns by kind: strictly below is below and differ, same is below both ways, and child and differ are
+-- differ both ways
+pub record TogetherOf (rows columns names : List ℕ) (r : Facts) : Type 0 where
+  pub child-rows : RowsOf (kindRow rows 1) (r .child)
+  pub parent-rows : RowsOf (kindRow columns 1) (r .parent)
+  pub below-rows : RowsOf (λ x. bitOr (kindRow rows 2 x) (bitOr (kindRow rows 3 x) (bothWays rows columns 4 x))) (r .below)
+  pub above-rows : r .above ≡ replicate 16 0
+  pub differ-rows : RowsOf (λ x. bitOr (bothWays rows columns 1 x) (bitOr (bothWays rows columns 3 x) (bothWays rows columns 5 x))) (r .differ)
+  pub root-row : r .root ≡ kindRow columns 6 0
+  pub leaf-row : r .leaf ≡ kindRow columns 7 0
+  pub names-kept : r .label ≡ names
+
 -- S says that x and y differ, one way round, by differ or by child
-abbrev pub SaidApart : List Fact → ℕ → ℕ → Type 0
-SaidApart S x y = List·Memᴰ (differ x y) S ⊎ List·Memᴰ (child x y) S
+abbrev pub SaidDiffer : List Fact → ℕ → ℕ → Type 0
+SaidDiffer S x y = List·Memᴰ (differ x y) S ⊎ List·Memᴰ (child x y) S
 
 -- what the seeds of S hold: the facts of S, and differ both ways and for child
 abbrev pub Sown : List Fact → Fact → Type 0
 Sown S (child x y) = List·Memᴰ (child x y) S
 Sown S (below x y) = List·Memᴰ (below x y) S
-Sown S (differ x y) = SaidApart S x y ⊎ SaidApart S y x
+Sown S (differ x y) = SaidDiffer S x y ⊎ SaidDiffer S y x
 Sown S (root x) = List·Memᴰ (root x) S
 Sown S (leaf x) = List·Memᴰ (leaf x) S
 Sown S (label x l) = List·Memᴰ (label x l) S
 
+-- S gives two different labels to one variable
+pub record GivesTwoLabels (S : List Fact) : Type 0 where
+  pub variable : Var
+  pub one : Label
+  pub other : Label
+  pub gives-one : List·Memᴰ (label variable one) S
+  pub gives-other : List·Memᴰ (label variable other) S
+  pub unlike : one ≢ other
+
 pub record SeedsOf (file : List ℕ) (r : Seeds) : Type 0 where
-  pub clashes : r .clash ≡ true → Clash (vars (constraintsIn file)) (factsOf (constraintsIn file))
+  pub clashes : Yes (r .clash) ↔ GivesTwoLabels (factsOf (constraintsIn file))
   pub cleared : r .clash ≡ true → r .facts ≡ noFacts
-  -- else the tables hold that and no other fact; that `parent` is the columns of `child` is in seeded
+  -- else the tables hold what is sown and no other fact; that `parent` is the columns of `child` is in seeded
   pub exact : r .clash ≡ false → (φ : Fact) → Yes (has (r .facts) φ) ↔ Sown (factsOf (constraintsIn file)) φ
   pub unmirrored : r .clash ≡ false → r .facts .above ≡ replicate 16 0
   pub seeded : r .clash ≡ false → Seeded (vars (constraintsIn file)) (factsOf (constraintsIn file)) (r .facts)

@@ -3,7 +3,7 @@ ghost use mathlib.Core.Path.{_≡_};
 ghost use Prim.Native.Nat.{ℕ, _%_, _<_};
 ghost use Rattle.constraints.specs.Judgement.{judgement};
 ghost use Rattle.constraints.specs.declared.Judgement.the-variants.{Accepted};
-ghost use Rattle.seed.specs.Seeds.{labelled, clashing, noFacts, RowsOf, United, SeedsOf};
+ghost use Rattle.seed.specs.Seeds.{labelled, secondLabel, noFacts, kindRow, RowsOf, United, TogetherOf, SeedsOf};
 use tables::Facts;
 
 // The tables, or a clash: two labels on one variable, which no tables hold.
@@ -22,10 +22,12 @@ fn label_with(given: bool, old: u8, new: u8) -> u8
     old
 }
 
-fn labels_clash(given: bool, old: u8, new: u8) -> bool
-    ensures { λ r. ⌜ r ≡ clashing given old new ⌝ }
+// Another label than the one that stands. One product and not two tests, which are compiled to branches that a mix of records mispredicts.
+fn second_label(old: u8, new: u8) -> bool
+    ensures { λ r. ⌜ r ≡ secondLabel old new ⌝ }
 {
-    given & (old != 0) & (old != new)
+    let change = old ^ new;
+    old as u16 * change as u16 != 0
 }
 
 // A kind or a variable as an index. Those of an accepted file are below 16.
@@ -53,7 +55,7 @@ fn blank() -> Facts
 // The rows of one kind.
 fn table(rows: [u16; 256], kind: usize) -> [u16; 16]
     requires { ⌜ kind < 16 ⌝ }
-    ensures { λ r. ⌜ RowsOf rows kind r ⌝ }
+    ensures { λ r. ⌜ RowsOf (kindRow rows kind) r ⌝ }
 {
     let mut a = [0u16; 16];
     for x in 0usize..16 {
@@ -75,40 +77,11 @@ fn either(t: [u16; 16], more: [u16; 16]) -> [u16; 16]
     a
 }
 
-// The tables of the given facts, ready to be settled; blank tables where two labels clash. The records are gathered by kind, without
-// a branch, then put together.
-pub fn seed(file: &[u8]) -> Seeds
-    requires { ⌜ ((n : ℕ) × (judgement (now file) ≡ Accepted n)) ⌝ }
-    ensures { λ r. ⌜ SeedsOf (now (file .entry)) r ⌝ }
+// The tables, from the rows and columns by kind: 1 child, 2 below, 3 strictly below, 4 same, 5 differ; 6 root and 7 leaf, which have 0
+// for y.
+fn put_together(rows: [u16; 256], columns: [u16; 256], label: [u8; 16]) -> Facts
+    ensures { λ r. ⌜ TogetherOf rows columns label r ⌝ }
 {
-    // bit y of row 16·kind + x and bit x of column 16·kind + y: there is a record of that kind with x and y
-    let mut rows = [0u16; 256];
-    let mut columns = [0u16; 256];
-    let mut label = [0u8; 16];
-    let mut clash = false;
-    let mut position: usize = 0;
-    while position < file.len() / 4 {
-        let at = position * 4;
-        let kind = index(file[at]);
-        let x = index(file[at + 1]);
-        let y = index(file[at + 2]);
-        let name = file[at + 3];
-        let r = rows[kind * 16 + x];
-        rows[kind * 16 + x] = r | tables::one(y);
-        let c = columns[kind * 16 + y];
-        columns[kind * 16 + y] = c | tables::one(x);
-        let l = label[x];
-        clash = clash | labels_clash(kind == 8, l, name);
-        label[x] = label_with(kind == 8, l, name);
-        position += 1;
-    }
-    if clash {
-        return Seeds {
-            clash: true,
-            facts: blank(),
-        };
-    }
-    // Kinds: 1 child, 2 below, 3 strictly below, 4 same, 5 differ; 6 root and 7 leaf, which have 0 for y.
     let root = columns[96];
     let leaf = columns[112];
     let child = table(rows, 1);
@@ -124,7 +97,7 @@ pub fn seed(file: &[u8]) -> Seeds
             either(table(rows, 5), table(columns, 5)),
         ),
     );
-    let facts = Facts {
+    Facts {
         child,
         parent,
         below,
@@ -133,9 +106,43 @@ pub fn seed(file: &[u8]) -> Seeds
         root,
         label,
         leaf,
-    };
+    }
+}
+
+// The tables of the given facts, ready to be settled; blank tables as soon as a variable is given a second label. The records are
+// gathered by kind here, where the arrays are, and not in a function that hands them back: that would copy a kilobyte.
+pub fn seed(file: &[u8]) -> Seeds
+    requires { ⌜ ((n : ℕ) × (judgement (now file) ≡ Accepted n)) ⌝ }
+    ensures { λ r. ⌜ SeedsOf (now (file .entry)) r ⌝ }
+{
+    // bit y of row 16·kind + x and bit x of column 16·kind + y: there is a record of that kind with x and y
+    let mut rows = [0u16; 256];
+    let mut columns = [0u16; 256];
+    let mut label = [0u8; 16];
+    let mut position: usize = 0;
+    while position < file.len() / 4 {
+        let at = position * 4;
+        let kind = index(file[at]);
+        let x = index(file[at + 1]);
+        let y = index(file[at + 2]);
+        let name = file[at + 3];
+        let old = label[x];
+        let new = label_with(kind == 8, old, name);
+        if second_label(old, new) {
+            return Seeds {
+                clash: true,
+                facts: blank(),
+            };
+        }
+        label[x] = new;
+        let r = rows[kind * 16 + x];
+        rows[kind * 16 + x] = r | tables::one(y);
+        let c = columns[kind * 16 + y];
+        columns[kind * 16 + y] = c | tables::one(x);
+        position += 1;
+    }
     Seeds {
         clash: false,
-        facts,
+        facts: put_together(rows, columns, label),
     }
 }

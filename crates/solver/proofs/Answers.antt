@@ -6,7 +6,6 @@ use Prim.Native.Nat.{ℕ, _≤_, _<_}
 use native.Mathlib.Omega.{arith}
 use lib.ListN.{length, getD}
 use Rattle.meaning.specs.Constraint.{Constraint, vars, Fact, factsOf}
-use Rattle.meaning.specs.Settled.{Clash}
 use Rattle.meaning.specs.ReadOff.{FactSet, answerFile}
 use Rattle.meaning.specs.Files.{Judged, accepted, judge}
 use Rattle.meaning.specs.Demand.{Answer, a-tree, a-none, a-spent, Answers}
@@ -29,6 +28,7 @@ use Rattle.tables.specs.Tables.{has, Seeded, Ready}
 use Rattle.tables.specs.declared.Facts.{Facts}
 use Rattle.seed.specs.Seeds.{SeedsOf}
 use Rattle.seed.specs.declared.Seeds.{Seeds}
+use Rattle.seed.proofs.Clashes.{two-labels-clash}
 use Rattle.settle.specs.Settling.{SettledOf}
 use Rattle.tables.specs.declared.Settled.{Settled}
 use Rattle.search.specs.Searching.{Line, Reports}
@@ -82,7 +82,7 @@ module _ (file : List ℕ) (small : (i : ℕ) → getD file i 0 < 256) (n : ℕ)
     pub seeds-clash : r .clash ≡ true → (f : Facts) → Line n (factsOf (constraintsIn file)) (record { clash = true; facts = f })
     seeds-clash d f = record {
       inside = inside;
-      clashes = λ q. subst (λ (m : ℕ). Clash m (factsOf (constraintsIn file))) vars-is (w .clashes d);
+      clashes = λ q. two-labels-clash n (w .clashes .0 d);
       ready = λ q. let z : _≡_ {A = ℕ} 0 1 = cc in absurd (omega arith);
     }
 

@@ -1,15 +1,15 @@
 -- `seed::table` meets its contract: the loop has copied the rows below x.
 use mathlib.Core.Path.{refl}
-use Prim.Native.Nat.{_+_, _*_, _≤_, _-_}
+use Prim.Native.Nat.{_≤_, _-_}
 use borrow.Author.Needs.{needs}
-use Rattle.tables.specs.Tables.{row}
 use Rattle.tables.proofs.Loops.{Rowing, rowing-none, rowing-more}
+use Rattle.seed.specs.Seeds.{kindRow}
 use Rattle.seed.proofs.Parts.{rows-of}
 use Rattle.seed.proofs.table.Statement.{statement}
 use Rattle.seed.proofs.table.Tie as tie
 
 abbrev Inv-loop : tie.InvT-loop
-Inv-loop kind rows a₀ x₀ a x = (x ≤ 16) × Rowing (λ k v. row rows (kind * 16 + k)) 16 a₀ x a
+Inv-loop kind rows a₀ x₀ a x = (x ≤ 16) × Rowing (λ k v. kindRow rows kind k) 16 a₀ x a
 
 abbrev μ-loop : tie.MeasureT-loop
 μ-loop kind rows a₀ x₀ a x = 16 - x
@@ -45,7 +45,7 @@ loop-again : tie.Need-loop-again Inv-loop μ-loop
 loop-again c = (search needs, rowing-more _ _ _ _ _ _ (search needs) refl (c .before .loop .inv .1))
 
 returns : tie.Need-returns Inv-loop μ-loop
-returns c = rows-of _ _ _ _ (search needs) (c .before .loop .inv .0) (c .before .loop .inv .1)
+returns c = rows-of _ _ _ (search needs) (c .before .loop .inv .0) (c .before .loop .inv .1)
 
 pub table-spec : {M : Type 1} → statement M
 table-spec =
