@@ -2,3 +2,4 @@ pub mod Stores
 pub mod Numbers
 pub mod Lines
 pub mod Answers
+pub mod Read
