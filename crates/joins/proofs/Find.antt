@@ -13,12 +13,12 @@ use Rattle.theory.specs.Find.{first, when, orElse}
 use Rattle.theory.specs.Search.{firstOf}
 
 module _ {A : Type 0} where
-  pub first-is-none : (n : ℕ) (f : ℕ → Option A) → ((k : ℕ) → k < n → f k ≡ none) → first n f ≡ none
+  first-is-none : (n : ℕ) (f : ℕ → Option A) → ((k : ℕ) → k < n → f k ≡ none) → first n f ≡ none
   unfolding first orElse
   first-is-none zero f h = refl
   first-is-none (suc n) f h = rw (first-is-none n f (λ k l. h k (le-step l))) (h n (le-refl _))
 
-  pub first-is-some : (n : ℕ) (f : ℕ → Option A) (r : ℕ) (v : A) → r < n → ((k : ℕ) → k < r → f k ≡ none) → f r ≡ some v → first n f ≡ some v
+  first-is-some : (n : ℕ) (f : ℕ → Option A) (r : ℕ) (v : A) → r < n → ((k : ℕ) → k < r → f k ≡ none) → f r ≡ some v → first n f ≡ some v
   unfolding first orElse
   first-is-some zero f r v l h e = absurd (not-suc-le-zero l)
   first-is-some (suc n) f r v l h e =

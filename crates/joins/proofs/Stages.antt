@@ -1,38 +1,40 @@
--- The kinds are asked in the order of their list, and the first that has a join gives the first join of all.
-use mathlib.Core.Path.{_≡_, refl, sym, _∙_, subst}
-use mathlib.Core.Logic.{⊎-elim}
-use mathlib.Core.Option.{Option, none, some}
-use Prim.Native.Nat.{ℕ, suc, _<_}
-use native.Mathlib.Nat.{not-suc-le-zero}
-use lib.ListN.{length}
+-- The kinds are asked in the order of their list, each where those before it have no join.
+use mathlib.Core.Path.{_≡_, refl, sym, ap, _∙_}
+use mathlib.Core.List.{[], _∷_}
+use mathlib.Core.Option.{Option}
+use Prim.Native.Nat.{ℕ, suc}
+use types.Run.{OneOf, miss}
+use denote.Enum.Declared.{tagOf}
 use Rattle.meaning.specs.ReadOff.{FactSet}
-use Rattle.meaning.specs.FixedSearch.{joinKinds, Join, join}
-use Rattle.meaning.proofs.Finite.{split-lt}
+use Rattle.meaning.specs.FixedSearch.{Join, join}
 use Rattle.meaning.proofs.Joins.{kindAt}
-use Rattle.theory.specs.Search.{isJoin, firstOf, firstJoin}
-use Rattle.joins.proofs.Find.{first-is-none, first-is-some}
+use Rattle.theory.specs.Find.{first, orElse}
+use Rattle.theory.specs.Search.{isJoin, firstOf}
+use Rattle.joins.specs.Found.{joinOf}
+use Rattle.joins.specs.declared.Found.{Found}
+use Rattle.joins.specs.declared.Found.the-variants.{Nothing, Parent, Chain}
+use Rattle.joins.proofs.Found as found
 
 module _ (n : ℕ) (h : FactSet) where
   -- the first join of the kind at place i
   abbrev at : ℕ → Option Join
   at i = firstOf n (isJoin h (kindAt i)) (join (kindAt i))
 
-  -- no kind before place i has a join
-  abbrev pub Asked : ℕ → Type 0
-  Asked i = (k : ℕ) → k < i → at k ≡ none
+  -- r is the first join of the first i kinds: of all of them, of firstJoin
+  abbrev pub FirstIn : ℕ → Found → Type 0
+  FirstIn i r = joinOf r ≡ first i at
 
-  pub asked-none : Asked 0
-  asked-none k l = absurd (not-suc-le-zero l)
+  pub no-kind : FirstIn 0 Nothing
+  unfolding joinOf first
+  no-kind = refl
 
-  module _ (i : ℕ) (asked : Asked i) (o : Option Join) (w : o ≡ at i) where
-    pub asked-more : o ≡ none → Asked (suc i)
-    asked-more e k l = ⊎-elim (λ q. subst (λ (j : ℕ). at j ≡ none) (sym q) (sym w ∙ e)) (asked k) (split-lt l)
+  pub next-kind : (i : ℕ) (r q : Found) → FirstIn i r → r ≡ Nothing → joinOf q ≡ at i → FirstIn (suc i) q
+  unfolding joinOf first orElse
+  next-kind i r q u e w = rw (sym u ∙ ap joinOf e) w
 
-    -- a kind that has none is the last
-    pub found-at : i < length joinKinds → (o ≡ none → suc i ≡ length joinKinds) → o ≡ firstJoin n h
-    unfolding firstJoin
-    found-at l last = go o refl
-      where
-        go : (p : Option Join) → o ≡ p → o ≡ firstJoin n h
-        go none e = e ∙ sym (first-is-none (length joinKinds) at (subst Asked (last e) (asked-more e)))
-        go (some j) e = e ∙ sym (first-is-some (length joinKinds) at i j l asked (sym w ∙ e))
+  -- the kinds that are not asked, since a join was found
+  pub other-kind : (i : ℕ) (r : Found) → OneOf (1 ∷ 2 ∷ []) (tagOf found.the-type r) → FirstIn i r → FirstIn (suc i) r
+  unfolding joinOf first orElse
+  other-kind i Nothing t u = absurd (miss (1 ∷ 2 ∷ []) 0 tt t)
+  other-kind i (Parent z x y) t u = rw (← u)
+  other-kind i (Chain z x y) t u = rw (← u)

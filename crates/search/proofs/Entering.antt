@@ -48,12 +48,9 @@ enters-one n S p = record { one = List·Memᴰ·head refl; ready = λ r. r; clas
 enters-two : (n : ℕ) (S : List Fact) (p : Below) (φ : Fact) → Settled n S φ → Enters n S p (φ ∷ fact p ∷ [])
 enters-two n S p φ s = record {
   one = List·Memᴰ·tail (List·Memᴰ·head refl);
-  ready = λ r. ready-more n (fact p ∷ S) φ there r;
-  clash = λ c. clash-mono n (fact p ∷ S) (φ ∷ fact p ∷ S) (λ g m. List·Memᴰ·tail m) c;
+  ready = ready-more n (fact p ∷ S) φ (settled-mono n S (fact p ∷ S) (λ g m. List·Memᴰ·tail m) s);
+  clash = clash-mono n (fact p ∷ S) (φ ∷ fact p ∷ S) (λ g m. List·Memᴰ·tail m);
 }
-  where
-    there : Settled n (fact p ∷ S) φ
-    there = settled-mono n S (fact p ∷ S) (λ g m. List·Memᴰ·tail m) s
 
 -- ---- the step from the first join found, for any S that the tables are ready for
 

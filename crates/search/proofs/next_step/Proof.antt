@@ -19,14 +19,10 @@ returns : tie.Need-returns
 returns c = step-solved _ _ _ (c .before .before .first-join .ensures) (c .enum-told .given .1)
 
 returns-2 : tie.Need-returns-2
-returns-2 c =
-    let j = c .before .before .before in
-    step-parent _ _ _ (j .first-join .ensures) _ (j .before .pre .1 .1) _ _ _ (c .before .found .given .1)
+returns-2 c = step-parent _ _ _ (c .before .before .before .first-join .ensures) _ (c .before .before .before .before .pre .1 .1) _ _ _ (c .before .found .given .1)
 
 returns-3 : tie.Need-returns-3
-returns-3 c =
-    let j = c .before .before .before in
-    step-chain _ _ _ (j .first-join .ensures) _ (j .before .pre .1 .1) _ _ _ (c .before .found2 .given .1)
+returns-3 c = step-chain _ _ _ (c .before .before .before .first-join .ensures) _ (c .before .before .before .before .pre .1 .1) _ _ _ (c .before .found2 .given .1)
 
 pub next-step-spec : {M : Type 1} → statement M
 next-step-spec =
