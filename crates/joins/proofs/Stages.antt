@@ -1,19 +1,17 @@
 -- The kinds are asked in the order of their list, each where those before it have no join.
 use mathlib.Core.Path.{_≡_, refl, sym, ap, _∙_}
-use mathlib.Core.List.{[], _∷_}
 use mathlib.Core.Option.{Option}
 use Prim.Native.Nat.{ℕ, suc}
-use types.Run.{OneOf, miss}
-use denote.Enum.Declared.{tagOf}
 use Rattle.meaning.specs.ReadOff.{FactSet}
 use Rattle.meaning.specs.FixedSearch.{Join, join}
 use Rattle.meaning.proofs.Joins.{kindAt}
 use Rattle.theory.specs.Find.{first, orElse}
 use Rattle.theory.specs.Search.{isJoin, firstOf}
+use Rattle.ids.specs.declared.Var.{Var}
 use Rattle.joins.specs.Found.{joinOf}
 use Rattle.joins.specs.declared.Found.{Found}
-use Rattle.joins.specs.declared.Found.the-variants.{Nothing, Parent, Chain}
-use Rattle.joins.proofs.Found as found
+use Rattle.joins.specs.declared.Found.the-variants.{Nothing, One}
+use Rattle.joins.specs.declared.JoinKind as coded
 
 module _ (n : ℕ) (h : FactSet) where
   -- the first join of the kind at place i
@@ -32,9 +30,7 @@ module _ (n : ℕ) (h : FactSet) where
   unfolding joinOf first orElse
   next-kind i r q u e w = rw (sym u ∙ ap joinOf e) w
 
-  -- the kinds that are not asked, since a join was found
-  pub other-kind : (i : ℕ) (r : Found) → OneOf (1 ∷ 2 ∷ []) (tagOf found.the-type r) → FirstIn i r → FirstIn (suc i) r
+  -- a kind that is not asked, since a join was found
+  pub other-kind : (i : ℕ) (r : Found) (k : coded.JoinKind) (z x y : Var) → FirstIn i r → r ≡ One k z x y → FirstIn (suc i) r
   unfolding joinOf first orElse
-  other-kind i Nothing t u = absurd (miss (1 ∷ 2 ∷ []) 0 tt t)
-  other-kind i (Parent z x y) t u = rw (← u)
-  other-kind i (Chain z x y) t u = rw (← u)
+  other-kind i r k z x y u e = rw (← u, e)

@@ -10,12 +10,17 @@ use Rattle.theory.specs.Search.{isJoin, firstOf, firstJoin}
 use Rattle.tables.specs.Tables.{row, has, Ready}
 use Rattle.tables.specs.declared.Facts.{Facts}
 use Rattle.joins.specs.declared.Found.{Found}
-use Rattle.joins.specs.declared.Found.the-variants.{Nothing, Parent, Chain}
+use Rattle.joins.specs.declared.Found.the-variants.{Nothing, One}
+use Rattle.joins.specs.declared.JoinKind as coded
+use Rattle.joins.specs.declared.JoinKind.the-variants.{Parent, Chain}
+
+abbrev pub kindOf : coded.JoinKind → JoinKind
+kindOf Parent = parent-join
+kindOf Chain = chain-join
 
 unfoldable pub joinOf : Found → Option Join
 joinOf Nothing = none
-joinOf (Parent z x y) = some (join parent-join (z .0) (x .0) (y .0))
-joinOf (Chain z x y) = some (join chain-join (z .0) (x .0) (y .0))
+joinOf (One k z x y) = some (join (kindOf k) (z .0) (x .0) (y .0))
 
 -- the rows of what is in neither of two tables
 abbrev pub Incomparable : List ℕ → List ℕ → List ℕ → Type 0

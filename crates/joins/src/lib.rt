@@ -7,11 +7,15 @@ ghost use Rattle.joins.specs.Found.{Incomparable, ParentIn, ChainIn, Fou
 use ids::Var;
 use tables::Facts;
 
+pub enum JoinKind {
+    Parent,
+    Chain,
+}
+
 // A join by its kind and its variables, in the order z, x, y.
 pub enum Found {
     Nothing,
-    Parent(Var, Var, Var),
-    Chain(Var, Var, Var),
+    One(JoinKind, Var, Var, Var),
 }
 
 // The variables that are neither above nor below each.
@@ -42,7 +46,7 @@ fn parent_join(parent: [u16; 16], below: [u16; 16], above: [u16; 16], n: usize) 
             let a = above[y];
             let x = tables::lowest(tables::except(u & vars, b | a));
             if x < 16 {
-                return Found::Parent(Var(z as u8), Var(x as u8), Var(y as u8));
+                return Found::One(JoinKind::Parent, Var(z as u8), Var(x as u8), Var(y as u8));
             }
         }
     }
@@ -63,7 +67,7 @@ fn chain_join(below: [u16; 16], above: [u16; 16], n: usize) -> Found
         if x < 16 {
             let a = apart[x];
             let y = tables::lowest(u & a);
-            return Found::Chain(Var(z as u8), Var(x as u8), Var(y as u8));
+            return Found::One(JoinKind::Chain, Var(z as u8), Var(x as u8), Var(y as u8));
         }
     }
     Found::Nothing

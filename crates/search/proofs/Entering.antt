@@ -6,16 +6,18 @@ use mathlib.Core.Option.{some}
 use Prim.Native.Nat.{ℕ}
 use Rattle.meaning.specs.Constraint.{Fact}
 use Rattle.meaning.specs.Settled.{Settled, given, Clash, differs, labels}
-use Rattle.meaning.specs.FixedSearch.{parent-join, chain-join, Join, join, IsJoin, first-alternative, second-alternative}
+use Rattle.meaning.specs.FixedSearch.{Join, join, IsJoin, first-alternative, second-alternative}
 use Rattle.meaning.specs.Closed.{Within}
 use Rattle.meaning.proofs.Least.{settled-least, settled-rules, settled-mono, settled-within, clash-mono}
+use Rattle.theory.specs.Search.{firstJoin}
 use Rattle.theory.proofs.Absent.{first-adds, second-adds}
 use Rattle.theory.proofs.Search.{first-join-found}
 use Rattle.tables.specs.Tables.{has, Ready}
 use Rattle.tables.specs.declared.Facts.{Facts}
-use Rattle.joins.specs.Found.{joinOf, FoundOf}
+use Rattle.joins.specs.Found.{kindOf, joinOf, FoundOf}
 use Rattle.joins.specs.declared.Found.{Found}
-use Rattle.joins.specs.declared.Found.the-variants.{Nothing, Parent, Chain}
+use Rattle.joins.specs.declared.Found.the-variants.{Nothing, One}
+use Rattle.joins.specs.declared.JoinKind as coded
 use Rattle.ids.specs.declared.Var.{Var}
 use Rattle.search.specs.Searching.{fact, Enters, StepOf}
 use Rattle.search.specs.declared.Below.{Below}
@@ -41,11 +43,11 @@ module _ (n : ℕ) (T : List Fact) (φ : Fact) (s : Settled n T φ) where
   }
 
 -- the fact itself
-enters-one : (n : ℕ) (S : List Fact) (p : Below) → Enters n S p (fact p ∷ [])
+pub enters-one : (n : ℕ) (S : List Fact) (p : Below) → Enters n S p (fact p ∷ [])
 enters-one n S p = record { one = List·Memᴰ·head refl; ready = λ r. r; clash = λ c. c }
 
 -- and one that is settled already
-enters-two : (n : ℕ) (S : List Fact) (p : Below) (φ : Fact) → Settled n S φ → Enters n S p (φ ∷ fact p ∷ [])
+pub enters-two : (n : ℕ) (S : List Fact) (p : Below) (φ : Fact) → Settled n S φ → Enters n S p (φ ∷ fact p ∷ [])
 enters-two n S p φ s = record {
   one = List·Memᴰ·tail (List·Memᴰ·head refl);
   ready = ready-more n (fact p ∷ S) φ (settled-mono n S (fact p ∷ S) (λ g m. List·Memᴰ·tail m) s);
@@ -59,25 +61,25 @@ module _ (n : ℕ) (f : Facts) (r : Found) (found : FoundOf n f r) where
   unfolding joinOf
   step-solved e S g = sym (found S g) ∙ ap joinOf e
 
-  module _ (T : List Fact) (t : Ready n T f) where
-    -- a join whose alternatives p and q enter
-    step-split : (j : Join) → joinOf r ≡ some j → (p q : Below)
-        → ((S : List Fact) → IsJoin n S j → Enters n S p (first-alternative j) × Enters n S q (second-alternative j)) → StepOf n f (Split p q)
-    step-split j e p q enters =
-        let a = first-adds n T (t .inside) j (is-join T t) .inside (fact p) (Memᴰ·append-left T (enters T (is-join T t) .0 .one)) in
-        let b = second-adds n T (t .inside) j (is-join T t) .inside (fact q) (Memᴰ·append-left T (enters T (is-join T t) .1 .one)) in (
-          record { upper = a .0; lower = a .1 },
-          record { upper = b .0; lower = b .1 },
-          λ S g. record { join = j; is-first = sym (found S g) ∙ e; first = enters S (is-join S g) .0; second = enters S (is-join S g) .1 },
-        )
-      where
-        is-join : (S : List Fact) → Ready n S f → IsJoin n S j
-        is-join S g = first-join-found n S (g .inside) (has f) (g .decides) j (sym (found S g) ∙ e) .is-join
+  -- a join of any kind, with what its two alternatives enter
+  pub step-split : (T : List Fact) → Ready n T f → (k l : coded.JoinKind) (z x y : Var) → r ≡ One l z x y → l ≡ k → (p q : Below)
+      → ((S : List Fact) → IsJoin n S (join (kindOf k) (z .0) (x .0) (y .0))
+      → Enters n S p (first-alternative (join (kindOf k) (z .0) (x .0) (y .0))) × Enters n S q (second-alternative (join (kindOf k) (z .0) (x .0) (y .0))))
+      → StepOf n f (Split p q)
+  unfolding joinOf
+  step-split T t k l z x y e d p q enters =
+      let a = first-adds n T (t .inside) j (is-join T t) .inside (fact p) (Memᴰ·append-left T (enters T (is-join T t) .0 .one)) in
+      let b = second-adds n T (t .inside) j (is-join T t) .inside (fact q) (Memᴰ·append-left T (enters T (is-join T t) .1 .one)) in (
+        record { upper = a .0; lower = a .1 },
+        record { upper = b .0; lower = b .1 },
+        λ S g. record { join = j; is-first = is-first S g; first = enters S (is-join S g) .0; second = enters S (is-join S g) .1 },
+      )
+    where
+      j : Join
+      j = join (kindOf k) (z .0) (x .0) (y .0)
 
-    pub step-parent : (z x y : Var) → r ≡ Parent z x y → StepOf n f (Split (record { upper = x; lower = y }) (record { upper = z; lower = x }))
-    unfolding joinOf
-    step-parent z x y e = step-split (join parent-join (z .0) (x .0) (y .0)) (ap joinOf e) _ _ (λ S q. (enters-one n S _, enters-two n S _ _ (q .above)))
+      is-first : (S : List Fact) → Ready n S f → firstJoin n (has f) ≡ some j
+      is-first S g = sym (found S g) ∙ ap joinOf (e ∙ ap (λ (i : coded.JoinKind). One i z x y) d)
 
-    pub step-chain : (z x y : Var) → r ≡ Chain z x y → StepOf n f (Split (record { upper = x; lower = y }) (record { upper = y; lower = x }))
-    unfolding joinOf
-    step-chain z x y e = step-split (join chain-join (z .0) (x .0) (y .0)) (ap joinOf e) _ _ (λ S q. (enters-one n S _, enters-one n S _))
+      is-join : (S : List Fact) → Ready n S f → IsJoin n S j
+      is-join S g = first-join-found n S (g .inside) (has f) (g .decides) j (is-first S g) .is-join

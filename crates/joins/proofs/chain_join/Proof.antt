@@ -50,14 +50,14 @@ array-read-a c = search needs
 lowest-requires-2 : tie.Need-lowest-requires-2 Inv-loop μ-loop
 lowest-requires-2 c κs = search needs
 
-cast-t26 : tie.Need-cast-t26 Inv-loop μ-loop
-cast-t26 c = search needs
+cast-t27 : tie.Need-cast-t27 Inv-loop μ-loop
+cast-t27 c = search needs
 
-cast-t28 : tie.Need-cast-t28 Inv-loop μ-loop
-cast-t28 c = search needs
+cast-t29 : tie.Need-cast-t29 Inv-loop μ-loop
+cast-t29 c = search needs
 
-cast-t30 : tie.Need-cast-t30 Inv-loop μ-loop
-cast-t30 c = search needs
+cast-t31 : tie.Need-cast-t31 Inv-loop μ-loop
+cast-t31 c = search needs
 
 returns : tie.Need-returns Inv-loop μ-loop
 unfolding joinOf
@@ -108,9 +108,9 @@ chain-join-spec =
     mul-a
     array-read-a
     lowest-requires-2
-    cast-t26
-    cast-t28
-    cast-t30
+    cast-t27
+    cast-t29
+    cast-t31
     returns
     add-z
     loop-less

@@ -12,12 +12,15 @@ parent-join-requires c κs = search needs
 enum-told : tie.Need-enum-told
 enum-told c = search needs
 
+enum-told-2 : tie.Need-enum-told-2
+enum-told-2 c = search needs
+
 returns : tie.Need-returns
 unfolding firstJoin
 returns c =
-    let a = c .before in
+    let a = c .before .before in
     let f = a .before .before .before .before .args .f in
-    λ S w. other-kind _ _ 1 _ (c .match .keys2) (next-kind _ _ 0 _ _ (no-kind _ _) refl (a .parent-join .ensures f S w))
+    λ S w. other-kind _ _ 1 _ _ _ _ _ (next-kind _ _ 0 _ _ (no-kind _ _) refl (a .parent-join .ensures f S w)) (c .enum-told2 .given .1)
 
 chain-join-requires : tie.Need-chain-join-requires
 chain-join-requires c κs = search needs
@@ -31,4 +34,4 @@ returns-2 c =
 
 pub first-join-spec : {M : Type 1} → statement M
 first-join-spec =
-    tie.close (tie.spec parent-join-requires enum-told returns chain-join-requires returns-2)
+    tie.close (tie.spec parent-join-requires enum-told enum-told-2 returns chain-join-requires returns-2)

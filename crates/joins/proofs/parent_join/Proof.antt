@@ -58,14 +58,14 @@ except-requires c κs = search needs
 lowest-requires-2 : tie.Need-lowest-requires-2 Inv-loop μ-loop
 lowest-requires-2 c κs = search needs
 
-cast-t32 : tie.Need-cast-t32 Inv-loop μ-loop
-cast-t32 c = search needs
+cast-t33 : tie.Need-cast-t33 Inv-loop μ-loop
+cast-t33 c = search needs
 
-cast-t34 : tie.Need-cast-t34 Inv-loop μ-loop
-cast-t34 c = search needs
+cast-t35 : tie.Need-cast-t35 Inv-loop μ-loop
+cast-t35 c = search needs
 
-cast-t36 : tie.Need-cast-t36 Inv-loop μ-loop
-cast-t36 c = search needs
+cast-t37 : tie.Need-cast-t37 Inv-loop μ-loop
+cast-t37 c = search needs
 
 returns : tie.Need-returns Inv-loop μ-loop
 unfolding joinOf
@@ -125,9 +125,9 @@ parent-join-spec =
     array-read-a
     except-requires
     lowest-requires-2
-    cast-t32
-    cast-t34
-    cast-t36
+    cast-t33
+    cast-t35
+    cast-t37
     returns
     add-z
     loop-less
