@@ -187,18 +187,13 @@ module _ (n : ℕ) (small : n ≤ 16) (f : Facts) (vars : ℕ) (ev : vars ≡ 2 
   in-c : (i k : Var) → i < 16 → Yes (bit u i) → Yes (bit u k) → Yes (bit (row incomparable i) k) → Yes (bit (bitAnd u g) i)
   in-c i k hi ui uk p = both-in u g i ui (gp .to i hi (meets-in (row incomparable i) u k p uk))
 
-  record Passed (i k : Var) : Type 0 where
-    u-i : Yes (bit u i)
-    u-k : Yes (bit u k)
-    apart-i : Yes (bit (row incomparable i) k)
-
-  passed : (S : List Fact) → Ready n S f → (i k : Var) → i < n → k < n → Yes (isJoin (has f) chain-join z i k) → Passed i k
+  passed : (S : List Fact) → Ready n S f → (i k : Var) → i < n → k < n → Yes (isJoin (has f) chain-join z i k) → Yes (bit u i) × Yes (bit u k) × Yes (bit (row incomparable i) k)
   passed S r i k hi hk t =
       let p = chain-parts n small S f r z i k hz hi hk t in
-      record { u-i = vars-in _ vars n i ev hi (p .above-x); u-k = vars-in _ vars n k ev hk (p .above-y); apart-i = apart-in i k (le-trans hi small) (le-trans hk small) (p .incomparable) }
+      (vars-in _ vars n i ev hi (p .above-x), vars-in _ vars n k ev hk (p .above-y), apart-in i k (le-trans hi small) (le-trans hk small) (p .incomparable))
 
   pub none-apart : 16 ≤ x → (S : List Fact) → Ready n S f → (i k : Var) → i < n → k < n → ¬ Yes (isJoin (has f) chain-join z i k)
-  none-apart l S r i k hi hk t = let p = passed S r i k hi hk t in lx .none i (omega arith) (in-c i k (le-trans hi small) (p .u-i) (p .u-k) (p .apart-i))
+  none-apart l S r i k hi hk t = let p = passed S r i k hi hk t in lx .none i (omega arith) (in-c i k (le-trans hi small) (p .0) (p .1) (p .2))
 
   module _ (m : x < 16) (fits : row incomparable x < 65536) (y : ℕ) (ly : Lowest (bitAnd u (row incomparable x)) y) where
     x-at : Yes (bit u x) × Yes (bit g x)
@@ -237,5 +232,5 @@ module _ (n : ℕ) (small : n ≤ 16) (f : Facts) (vars : ℕ) (ev : vars ≡ 2 
         sym (firstOf-is-some n (isJoin (has f) chain-join) (join chain-join) z x y hz (x-n .1) (y-n .1)
         (parts-chain n small S f r z x y hz (x-n .1) (y-n .1) record { ordered = x<y S r; above-x = x-n .0; above-y = y-n .0; incomparable = apart-out x y m y-16 (y-at .1) })
         (before S r)
-        (λ i k l hk t. let p = passed S r i k (le-trans l (le-of-lt (x-n .1))) hk t in lx .none i l (in-c i k (omega arith) (p .u-i) (p .u-k) (p .apart-i)))
-        (λ k l t. let p = passed S r x k (x-n .1) (le-trans l (le-of-lt (y-n .1))) t in ly .none k l (both-in u (row incomparable x) k (p .u-k) (p .apart-i))))
+        (λ i k l hk t. let p = passed S r i k (le-trans l (le-of-lt (x-n .1))) hk t in lx .none i l (in-c i k (omega arith) (p .0) (p .1) (p .2)))
+        (λ k l t. let p = passed S r x k (x-n .1) (le-trans l (le-of-lt (y-n .1))) t in ly .none k l (both-in u (row incomparable x) k (p .1) (p .2))))

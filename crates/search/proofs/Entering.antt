@@ -9,7 +9,6 @@ use Rattle.meaning.specs.Settled.{Settled, given, Clash, differs, labels}
 use Rattle.meaning.specs.FixedSearch.{Join, join, IsJoin, first-alternative, second-alternative}
 use Rattle.meaning.specs.Closed.{Within}
 use Rattle.meaning.proofs.Least.{settled-least, settled-rules, settled-mono, settled-within, clash-mono}
-use Rattle.theory.specs.Search.{firstJoin}
 use Rattle.theory.proofs.Absent.{first-adds, second-adds}
 use Rattle.theory.proofs.Search.{first-join-found}
 use Rattle.tables.specs.Tables.{has, Ready}
@@ -56,30 +55,25 @@ enters-two n S p φ s = record {
 
 -- ---- the step from the first join found, for any S that the tables are ready for
 
+pub joined : {r : Found} {k l : coded.JoinKind} {z x y : Var} → r ≡ One k z x y → k ≡ l → joinOf r ≡ some (join (kindOf l) (z .0) (x .0) (y .0))
+unfolding joinOf
+joined e d = rw (e, d)
+
 module _ (n : ℕ) (f : Facts) (r : Found) (found : FoundOf n f r) where
   pub step-solved : r ≡ Nothing → StepOf n f Solved
   unfolding joinOf
   step-solved e S g = sym (found S g) ∙ ap joinOf e
 
   -- a join of any kind, with what its two alternatives enter
-  pub step-split : (T : List Fact) → Ready n T f → (k l : coded.JoinKind) (z x y : Var) → r ≡ One l z x y → l ≡ k → (p q : Below)
-      → ((S : List Fact) → IsJoin n S (join (kindOf k) (z .0) (x .0) (y .0))
-      → Enters n S p (first-alternative (join (kindOf k) (z .0) (x .0) (y .0))) × Enters n S q (second-alternative (join (kindOf k) (z .0) (x .0) (y .0))))
-      → StepOf n f (Split p q)
-  unfolding joinOf
-  step-split T t k l z x y e d p q enters =
+  pub step-split : (T : List Fact) → Ready n T f → (j : Join) → joinOf r ≡ some j → (p q : Below)
+      → ((S : List Fact) → IsJoin n S j → Enters n S p (first-alternative j) × Enters n S q (second-alternative j)) → StepOf n f (Split p q)
+  step-split T t j e p q enters =
       let a = first-adds n T (t .inside) j (is-join T t) .inside (fact p) (Memᴰ·append-left T (enters T (is-join T t) .0 .one)) in
       let b = second-adds n T (t .inside) j (is-join T t) .inside (fact q) (Memᴰ·append-left T (enters T (is-join T t) .1 .one)) in (
         record { upper = a .0; lower = a .1 },
         record { upper = b .0; lower = b .1 },
-        λ S g. record { join = j; is-first = is-first S g; first = enters S (is-join S g) .0; second = enters S (is-join S g) .1 },
+        λ S g. record { join = j; is-first = sym (found S g) ∙ e; first = enters S (is-join S g) .0; second = enters S (is-join S g) .1 },
       )
     where
-      j : Join
-      j = join (kindOf k) (z .0) (x .0) (y .0)
-
-      is-first : (S : List Fact) → Ready n S f → firstJoin n (has f) ≡ some j
-      is-first S g = sym (found S g) ∙ ap joinOf (e ∙ ap (λ (i : coded.JoinKind). One i z x y) d)
-
       is-join : (S : List Fact) → Ready n S f → IsJoin n S j
-      is-join S g = first-join-found n S (g .inside) (has f) (g .decides) j (is-first S g) .is-join
+      is-join S g = first-join-found n S (g .inside) (has f) (g .decides) j (sym (found S g) ∙ e) .is-join

@@ -18,8 +18,7 @@ enum-told-2 c = search needs
 returns : tie.Need-returns
 unfolding firstJoin
 returns c =
-    let a = c .before .before in
-    let f = a .before .before .before .before .args .f in
+    let a = c .before .before in let f = a .before .before .before .before .args .f in
     λ S w. other-kind _ _ 1 _ _ _ _ _ (next-kind _ _ 0 _ _ (no-kind _ _) refl (a .parent-join .ensures f S w)) (c .enum-told2 .given .1)
 
 chain-join-requires : tie.Need-chain-join-requires
@@ -28,8 +27,7 @@ chain-join-requires c κs = search needs
 returns-2 : tie.Need-returns-2
 unfolding firstJoin
 returns-2 c =
-    let a = c .before .before .before in
-    let f = a .before .before .before .before .args .f in
+    let a = c .before .before .before in let f = a .before .before .before .before .args .f in
     λ S w. next-kind _ _ 1 _ _ (next-kind _ _ 0 _ _ (no-kind _ _) refl (a .parent-join .ensures f S w)) (c .before .enum-told .given .1) (c .chain-join .ensures f S w)
 
 pub first-join-spec : {M : Type 1} → statement M

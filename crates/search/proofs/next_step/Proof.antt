@@ -1,7 +1,6 @@
 -- `search::next_step` meets its contract. Of a parent join the second alternative adds below(x, z), which is settled already.
 use borrow.Author.Needs.{needs}
-use Rattle.joins.specs.declared.JoinKind.the-variants.{Parent, Chain}
-use Rattle.search.proofs.Entering.{enters-one, enters-two, step-solved, step-split}
+use Rattle.search.proofs.Entering.{enters-one, enters-two, joined, step-solved, step-split}
 use Rattle.search.proofs.next_step.Statement.{statement}
 use Rattle.search.proofs.next_step.Tie as tie
 
@@ -25,16 +24,14 @@ returns c = step-solved _ _ _ (c .before .before .first-join .ensures) (c .enum-
 
 returns-2 : tie.Need-returns-2
 returns-2 c =
-    let e = c .before .before .before in
-    let j = e .before .before in
-    step-split _ _ _ (j .first-join .ensures) _ (j .before .pre .1 .1) Parent _ _ _ _ (e .found .given .1) (c .enum-told2 .given .1) _ _
+    let e = c .before .before .before in let j = e .before .before in
+    step-split _ _ _ (j .first-join .ensures) _ (j .before .pre .1 .1) _ (joined (e .found .given .1) (c .enum-told2 .given .1)) _ _
     (λ S q. (enters-one _ S _, enters-two _ S _ _ (q .above)))
 
 returns-3 : tie.Need-returns-3
 returns-3 c =
-    let e = c .before .before .before in
-    let j = e .before .before in
-    step-split _ _ _ (j .first-join .ensures) _ (j .before .pre .1 .1) Chain _ _ _ _ (e .found .given .1) (c .enum-told3 .given .1) _ _
+    let e = c .before .before .before in let j = e .before .before in
+    step-split _ _ _ (j .first-join .ensures) _ (j .before .pre .1 .1) _ (joined (e .found .given .1) (c .enum-told3 .given .1)) _ _
     (λ S q. (enters-one _ S _, enters-one _ S _))
 
 pub next-step-spec : {M : Type 1} → statement M
