@@ -1,10 +1,9 @@
 -- A join is read from the rows of z, x and y. With the parents of z all the same, any of them, y, tells whether x makes a parent join; of
 -- two variables that are incomparable the smaller is found first, so it is the x of a chain join.
-use mathlib.Core.Path.{_≡_, refl, sym, ap, _∙_, subst}
+use mathlib.Core.Path.{_≡_, refl, sym, _∙_, subst}
 use mathlib.Core.Logic.{_⊎_, ⊎-elim}
-use mathlib.Core.Bool.{Bool}
 use mathlib.Core.List.{List}
-use mathlib.Core.Option.{Option, none, some}
+use mathlib.Core.Option.{some}
 use Prim.Native.Nat.{ℕ, _+_, _-_, _^_, _<_, _≤_}
 use native.Mathlib.Nat.{le-trans, le-of-lt}
 use native.Mathlib.Decide.{decLt, ℕ-discrete}
@@ -15,27 +14,31 @@ use Rattle.meaning.specs.Constraint.{Fact, child, below}
 use Rattle.meaning.specs.Settled.{self-below, chain, one-parent}
 use Rattle.meaning.specs.Finite.{Yes}
 use Rattle.meaning.specs.ReadOff.{FactSet, same}
-use Rattle.meaning.specs.FixedSearch.{Join, parent-join, chain-join}
+use Rattle.meaning.specs.FixedSearch.{JoinKind, parent-join, chain-join, join}
 use Rattle.meaning.proofs.Tests.{clash, and-left, and-right, and-both, no-neg, is-lt, lt-yes}
-use Rattle.theory.specs.Find.{orElse}
-use Rattle.theory.specs.Search.{isParentJoin, isChainJoin, firstOf, firstJoin}
+use Rattle.theory.specs.Search.{isJoin, firstOf}
 use Rattle.rowbits.specs.Bit.{bit}
 use Rattle.tables.specs.Tables.{row, has, Ready}
 use Rattle.tables.specs.Rows.{Gathers, Lowest, meets, without}
 use Rattle.tables.specs.declared.Facts.{Facts}
 use Rattle.tables.proofs.Bits.{in-both, both-in, or-l, or-r, or-case, all-is, all-has, without-in, without-out, flip-has, flip-not, meets-in, meets-out}
 use Rattle.tables.proofs.Loops.{below-cases}
-use Rattle.joins.specs.Found.{Incomparable}
+use Rattle.joins.specs.Found.{joinOf, Incomparable, StageOf}
+use Rattle.joins.specs.declared.Found.the-variants.{Nothing}
 use Rattle.joins.proofs.Find.{firstOf-is-none, firstOf-is-some}
 
 -- no join at a z that was passed
-abbrev pub NoneBefore : (FactSet → Var → Var → Var → Bool) → ℕ → Facts → ℕ → Type 0
-NoneBefore p n f z = (S : List Fact) → Ready n S f → (k x y : Var) → k < z → x < n → y < n → ¬ Yes (p (has f) k x y)
+abbrev pub NoneBefore : JoinKind → ℕ → Facts → ℕ → Type 0
+NoneBefore j n f z = (S : List Fact) → Ready n S f → (k x y : Var) → k < z → x < n → y < n → ¬ Yes (isJoin (has f) j k x y)
 
-pub none-more : (p : FactSet → Var → Var → Var → Bool) (n : ℕ) (f : Facts) (z : ℕ) → NoneBefore p n f z
-    → ((S : List Fact) → Ready n S f → (x y : Var) → x < n → y < n → ¬ Yes (p (has f) z x y)) → NoneBefore p n f (z + 1)
-none-more p n f z before at S r k x y l hx hy =
-    ⊎-elim (λ e. subst (λ (i : ℕ). ¬ Yes (p (has f) i x y)) (sym e) (at S r x y hx hy)) (λ m. before S r k x y m hx hy) (below-cases l)
+pub none-more : (j : JoinKind) (n : ℕ) (f : Facts) (z : ℕ) → NoneBefore j n f z
+    → ((S : List Fact) → Ready n S f → (x y : Var) → x < n → y < n → ¬ Yes (isJoin (has f) j z x y)) → NoneBefore j n f (z + 1)
+none-more j n f z before at S r k x y l hx hy =
+    ⊎-elim (λ e. subst (λ (i : ℕ). ¬ Yes (isJoin (has f) j i x y)) (sym e) (at S r x y hx hy)) (λ m. before S r k x y m hx hy) (below-cases l)
+
+pub none-first : (j : JoinKind) (n : ℕ) (f : Facts) (z : ℕ) → n ≤ z → NoneBefore j n f z → StageOf j n f Nothing
+unfolding joinOf
+none-first j n f z l before S r = sym (firstOf-is-none n (isJoin (has f) j) (join j) (λ k x y hk. before S r k x y (le-trans hk l)))
 
 -- the members of a row that are variables
 vars-in : (a vars n i : ℕ) → vars ≡ 2 ^ n - 1 → i < n → Yes (bit a i) → Yes (bit (bitAnd a vars) i)
@@ -74,8 +77,8 @@ module _ (n : ℕ) (small : n ≤ 16) (S : List Fact) (f : Facts) (r : Ready n S
       not-below : ¬ Yes (bit (row (f .below) z) x)
       not-above : ¬ Yes (h (below x y))
 
-    parent-parts : Yes (isParentJoin h z x y) → ParentParts
-    unfolding isParentJoin same
+    parent-parts : Yes (isJoin h parent-join z x y) → ParentParts
+    unfolding isJoin same
     parent-parts u = record {
       parent = and-left _ u;
       above = above-is x z hx hz ∙ and-left _ (and-right _ u);
@@ -83,8 +86,8 @@ module _ (n : ℕ) (small : n ≤ 16) (S : List Fact) (f : Facts) (r : Ready n S
       not-above = λ t. clash t (and-right _ (and-right _ (and-right _ u)));
     }
 
-    parts-parent : ParentParts → Yes (isParentJoin h z x y)
-    unfolding isParentJoin same
+    parts-parent : ParentParts → Yes (isJoin h parent-join z x y)
+    unfolding isJoin same
     parts-parent p =
         and-both (p .parent) (and-both (sym (above-is x z hx hz) ∙ p .above)
         (and-both (no-neg (λ s. p .not-below (below-is z x ∙ and-right _ s))) (no-neg (p .not-above))))
@@ -97,8 +100,8 @@ module _ (n : ℕ) (small : n ≤ 16) (S : List Fact) (f : Facts) (r : Ready n S
       above-y : Yes (bit (row (f .above) z) y)
       incomparable : ¬ Yes (bit (bitOr (row (f .below) x) (row (f .above) x)) y)
 
-    chain-parts : Yes (isChainJoin h z x y) → ChainParts
-    unfolding isChainJoin
+    chain-parts : Yes (isJoin h chain-join z x y) → ChainParts
+    unfolding isJoin
     chain-parts u =
         let v = and-right _ u in record {
           ordered = is-lt (and-left _ u);
@@ -108,8 +111,8 @@ module _ (n : ℕ) (small : n ≤ 16) (S : List Fact) (f : Facts) (r : Ready n S
               (λ a. clash (sym (above-is y x hy hx) ∙ a) (and-right _ (and-right _ (and-right _ v)))) (or-case _ _ y t);
         }
 
-    parts-chain : ChainParts → Yes (isChainJoin h z x y)
-    unfolding isChainJoin
+    parts-chain : ChainParts → Yes (isJoin h chain-join z x y)
+    unfolding isJoin
     parts-chain p =
         and-both (lt-yes (p .ordered)) (and-both (sym (above-is x z hx hz) ∙ p .above-x) (and-both (sym (above-is y z hy hz) ∙ p .above-y)
         (and-both (no-neg (λ t. p .incomparable (or-l (row (f .below) x) (row (f .above) x) y (below-is x y ∙ t)))) (no-neg (λ t. p .incomparable (or-r (row (f .below) x) (row (f .above) x) y (above-is y x hy hx ∙ t)))))))
@@ -125,17 +128,17 @@ module _ (n : ℕ) (small : n ≤ 16) (S : List Fact) (f : Facts) (r : Ready n S
 
 module _ (n : ℕ) (small : n ≤ 16) (f : Facts) (vars : ℕ) (ev : vars ≡ 2 ^ n - 1) (z : Var) (hz : z < n)
     (y : ℕ) (ly : Lowest (bitAnd (row (f .parent) z) vars) y) where
-  passed-parent : (S : List Fact) (r : Ready n S f) (i k : Var) → i < n → k < n → Yes (isParentJoin (has f) z i k) → Yes (bit (bitAnd (row (f .parent) z) vars) k)
+  passed-parent : (S : List Fact) (r : Ready n S f) (i k : Var) → i < n → k < n → Yes (isJoin (has f) parent-join z i k) → Yes (bit (bitAnd (row (f .parent) z) vars) k)
   passed-parent S r i k hi hk u = vars-in _ vars n k ev hk (parent-is n small S f r k z hk hz ∙ parent-parts n small S f r z i k hz hi hk u .parent)
 
-  pub none-without-parent : 16 ≤ y → (S : List Fact) → Ready n S f → (i k : Var) → i < n → k < n → ¬ Yes (isParentJoin (has f) z i k)
+  pub none-without-parent : 16 ≤ y → (S : List Fact) → Ready n S f → (i k : Var) → i < n → k < n → ¬ Yes (isJoin (has f) parent-join z i k)
   none-without-parent l S r i k hi hk u = ly .none k (omega arith) (passed-parent S r i k hi hk u)
 
   module _ (l : y < 16) (x : ℕ) (lx : Lowest (without (bitAnd (row (f .above) z) vars) (bitOr (row (f .below) z) (row (f .above) y))) x) where
     y-in : Yes (bit (row (f .parent) z) y) × (y < n)
     y-in = vars-out _ vars n y ev (ly .this l)
 
-    passed-x : (S : List Fact) (r : Ready n S f) (i k : Var) → i < n → k < n → Yes (isParentJoin (has f) z i k)
+    passed-x : (S : List Fact) (r : Ready n S f) (i k : Var) → i < n → k < n → Yes (isJoin (has f) parent-join z i k)
         → Yes (bit (without (bitAnd (row (f .above) z) vars) (bitOr (row (f .below) z) (row (f .above) y))) i)
     passed-x S r i k hi hk u =
         let p = parent-parts n small S f r z i k hz hi hk u in
@@ -143,7 +146,7 @@ module _ (n : ℕ) (small : n ≤ 16) (f : Facts) (vars : ℕ) (ev : vars ≡ 2 
         (λ t. ⊎-elim (p .not-below) (λ a. p .not-above (any-parent n small S f r i y z k (sym (parent-is n small S f r y z (y-in .1) hz) ∙ y-in .0) (p .parent)
         (sym (above-is n small S f r i y hi (y-in .1)) ∙ a))) (or-case _ _ i t))
 
-    pub none-without-x : 16 ≤ x → (S : List Fact) → Ready n S f → (i k : Var) → i < n → k < n → ¬ Yes (isParentJoin (has f) z i k)
+    pub none-without-x : 16 ≤ x → (S : List Fact) → Ready n S f → (i k : Var) → i < n → k < n → ¬ Yes (isJoin (has f) parent-join z i k)
     none-without-x m S r i k hi hk u = lx .none i (omega arith) (passed-x S r i k hi hk u)
 
     module _ (m : x < 16) where
@@ -153,12 +156,9 @@ module _ (n : ℕ) (small : n ≤ 16) (f : Facts) (vars : ℕ) (ev : vars ≡ 2 
       x-in : Yes (bit (row (f .above) z) x) × (x < n)
       x-in = vars-out _ vars n x ev (x-out .0)
 
-      pub parent-named : (z < n) × (x < n) × (y < n)
-      parent-named = (hz, x-in .1, y-in .1)
-
-      pub parent-first : NoneBefore isParentJoin n f z → (S : List Fact) → Ready n S f → some (parent-join z x y) ≡ firstOf n (isParentJoin (has f)) parent-join
+      pub parent-first : NoneBefore parent-join n f z → (S : List Fact) → Ready n S f → some (join parent-join z x y) ≡ firstOf n (isJoin (has f) parent-join) (join parent-join)
       parent-first before S r =
-          sym (firstOf-is-some n (isParentJoin (has f)) parent-join z x y hz (x-in .1) (y-in .1)
+          sym (firstOf-is-some n (isJoin (has f) parent-join) (join parent-join) z x y hz (x-in .1) (y-in .1)
           (parts-parent n small S f r z x y hz (x-in .1) (y-in .1) record {
             parent = sym (parent-is n small S f r y z (y-in .1) hz) ∙ y-in .0;
             above = x-in .0;
@@ -187,18 +187,13 @@ module _ (n : ℕ) (small : n ≤ 16) (f : Facts) (vars : ℕ) (ev : vars ≡ 2 
   in-c : (i k : Var) → i < 16 → Yes (bit u i) → Yes (bit u k) → Yes (bit (row incomparable i) k) → Yes (bit (bitAnd u g) i)
   in-c i k hi ui uk p = both-in u g i ui (gp .to i hi (meets-in (row incomparable i) u k p uk))
 
-  record Passed (i k : Var) : Type 0 where
-    u-i : Yes (bit u i)
-    u-k : Yes (bit u k)
-    apart-i : Yes (bit (row incomparable i) k)
-
-  passed : (S : List Fact) → Ready n S f → (i k : Var) → i < n → k < n → Yes (isChainJoin (has f) z i k) → Passed i k
+  passed : (S : List Fact) → Ready n S f → (i k : Var) → i < n → k < n → Yes (isJoin (has f) chain-join z i k) → Yes (bit u i) × Yes (bit u k) × Yes (bit (row incomparable i) k)
   passed S r i k hi hk t =
       let p = chain-parts n small S f r z i k hz hi hk t in
-      record { u-i = vars-in _ vars n i ev hi (p .above-x); u-k = vars-in _ vars n k ev hk (p .above-y); apart-i = apart-in i k (le-trans hi small) (le-trans hk small) (p .incomparable) }
+      (vars-in _ vars n i ev hi (p .above-x), vars-in _ vars n k ev hk (p .above-y), apart-in i k (le-trans hi small) (le-trans hk small) (p .incomparable))
 
-  pub none-apart : 16 ≤ x → (S : List Fact) → Ready n S f → (i k : Var) → i < n → k < n → ¬ Yes (isChainJoin (has f) z i k)
-  none-apart l S r i k hi hk t = let p = passed S r i k hi hk t in lx .none i (omega arith) (in-c i k (le-trans hi small) (p .u-i) (p .u-k) (p .apart-i))
+  pub none-apart : 16 ≤ x → (S : List Fact) → Ready n S f → (i k : Var) → i < n → k < n → ¬ Yes (isJoin (has f) chain-join z i k)
+  none-apart l S r i k hi hk t = let p = passed S r i k hi hk t in lx .none i (omega arith) (in-c i k (le-trans hi small) (p .0) (p .1) (p .2))
 
   module _ (m : x < 16) (fits : row incomparable x < 65536) (y : ℕ) (ly : Lowest (bitAnd u (row incomparable x)) y) where
     x-at : Yes (bit u x) × Yes (bit g x)
@@ -220,9 +215,6 @@ module _ (n : ℕ) (small : n ≤ 16) (f : Facts) (vars : ℕ) (ev : vars ≡ 2 
     y-n : Yes (bit (row (f .above) z) y) × (y < n)
     y-n = vars-out _ vars n y ev (y-at .0)
 
-    pub chain-named : (z < n) × (x < n) × (y < n)
-    chain-named = (hz, x-n .1, y-n .1)
-
     -- the smaller of two that are incomparable is found first
     x<y : (S : List Fact) → Ready n S f → x < y
     x<y S r = go (decLt x y) (ℕ-discrete x y)
@@ -235,22 +227,10 @@ module _ (n : ℕ) (small : n ≤ 16) (f : Facts) (vars : ℕ) (ev : vars ≡ 2 
             absurd (lx .none y (omega arith) (in-c y x y-16 (y-at .0) (x-at .0)
             (apart-in y x y-16 m (apart-back n small S f r z x y hz (x-n .1) (y-n .1) (apart-out x y m y-16 (y-at .1))))))
 
-    pub chain-first : NoneBefore isChainJoin n f z → (S : List Fact) → Ready n S f → some (chain-join z x y) ≡ firstOf n (isChainJoin (has f)) chain-join
+    pub chain-first : NoneBefore chain-join n f z → (S : List Fact) → Ready n S f → some (join chain-join z x y) ≡ firstOf n (isJoin (has f) chain-join) (join chain-join)
     chain-first before S r =
-        sym (firstOf-is-some n (isChainJoin (has f)) chain-join z x y hz (x-n .1) (y-n .1)
+        sym (firstOf-is-some n (isJoin (has f) chain-join) (join chain-join) z x y hz (x-n .1) (y-n .1)
         (parts-chain n small S f r z x y hz (x-n .1) (y-n .1) record { ordered = x<y S r; above-x = x-n .0; above-y = y-n .0; incomparable = apart-out x y m y-16 (y-at .1) })
         (before S r)
-        (λ i k l hk t. let p = passed S r i k (le-trans l (le-of-lt (x-n .1))) hk t in lx .none i l (in-c i k (omega arith) (p .u-i) (p .u-k) (p .apart-i)))
-        (λ k l t. let p = passed S r x k (x-n .1) (le-trans l (le-of-lt (y-n .1))) t in ly .none k l (both-in u (row incomparable x) k (p .u-k) (p .apart-i))))
-
--- ---- no z is left
-
-pub none-first : (p : FactSet → Var → Var → Var → Bool) (j : Var → Var → Var → Join) (n : ℕ) (f : Facts) (z : ℕ) → n ≤ z → NoneBefore p n f z
-    → (S : List Fact) → Ready n S f → none ≡ firstOf n (p (has f)) j
-none-first p j n f z l before S r = sym (firstOf-is-none n (p (has f)) j (λ k x y hk. before S r k x y (le-trans hk l)))
-
--- parent joins come first
-pub parents-before : (n : ℕ) (f : Facts) (o : Option Join) → o ≡ firstOf n (isParentJoin (has f)) parent-join
-    → orElse o (firstOf n (isChainJoin (has f)) chain-join) ≡ firstJoin n (has f)
-unfolding firstJoin
-parents-before n f o e = ap (λ (p : Option Join). orElse p (firstOf n (isChainJoin (has f)) chain-join)) e
+        (λ i k l hk t. let p = passed S r i k (le-trans l (le-of-lt (x-n .1))) hk t in lx .none i l (in-c i k (omega arith) (p .0) (p .1) (p .2)))
+        (λ k l t. let p = passed S r x k (x-n .1) (le-trans l (le-of-lt (y-n .1))) t in ly .none k l (both-in u (row incomparable x) k (p .1) (p .2))))

@@ -1,2 +1,3 @@
 mod Find
 mod First
+mod Stages

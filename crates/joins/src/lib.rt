@@ -3,15 +3,19 @@ ghost use mathlib.Core.List.{List};
 ghost use Prim.Native.Nat.{_≤_};
 ghost use Rattle.meaning.specs.Constraint.{Fact};
 ghost use Rattle.tables.specs.Tables.{Ready};
-ghost use Rattle.joins.specs.Found.{Incomparable, ChainIn, FoundIn, FoundOf};
+ghost use Rattle.joins.specs.Found.{Incomparable, ParentIn, ChainIn, FoundOf};
 use ids::Var;
 use tables::Facts;
+
+pub enum JoinKind {
+    Parent,
+    Chain,
+}
 
 // A join by its kind and its variables, in the order z, x, y.
 pub enum Found {
     Nothing,
-    Parent(Var, Var, Var),
-    Chain(Var, Var, Var),
+    One(JoinKind, Var, Var, Var),
 }
 
 // The variables that are neither above nor below each.
@@ -25,6 +29,28 @@ fn incomparable_rows(below: [u16; 16], above: [u16; 16]) -> [u16; 16]
         a[x] = (v | w) ^ 65535;
     }
     a
+}
+
+// The first parent join. The parents of z are the same, so the lowest of them decides which x above z are above a parent.
+fn parent_join(parent: [u16; 16], below: [u16; 16], above: [u16; 16], n: usize) -> Found
+    requires { ⌜ n ≤ 16 ⌝ }
+    ensures { λ r. ⌜ ParentIn n parent below above r ⌝ }
+{
+    let vars = tables::all(n);
+    for z in 0..n {
+        let p = parent[z];
+        let y = tables::lowest(p & vars);
+        if y < 16 {
+            let u = above[z];
+            let b = below[z];
+            let a = above[y];
+            let x = tables::lowest(tables::except(u & vars, b | a));
+            if x < 16 {
+                return Found::One(JoinKind::Parent, Var(z as u8), Var(x as u8), Var(y as u8));
+            }
+        }
+    }
+    Found::Nothing
 }
 
 // The first chain join: two variables above z that are incomparable, found from the smaller one.
@@ -41,35 +67,14 @@ fn chain_join(below: [u16; 16], above: [u16; 16], n: usize) -> Found
         if x < 16 {
             let a = apart[x];
             let y = tables::lowest(u & a);
-            return Found::Chain(Var(z as u8), Var(x as u8), Var(y as u8));
+            return Found::One(JoinKind::Chain, Var(z as u8), Var(x as u8), Var(y as u8));
         }
     }
     Found::Nothing
 }
 
-// Parent joins, then chain joins. The parents of z are the same, so the lowest of them decides which x above z are above a parent.
-fn join_in(parent: [u16; 16], below: [u16; 16], above: [u16; 16], n: usize) -> Found
-    requires { ⌜ n ≤ 16 ⌝ }
-    ensures { λ r. ⌜ FoundIn n parent below above r ⌝ }
-{
-    let vars = tables::all(n);
-    for z in 0..n {
-        let p = parent[z];
-        let y = tables::lowest(p & vars);
-        if y < 16 {
-            let u = above[z];
-            let b = below[z];
-            let a = above[y];
-            let x = tables::lowest(tables::except(u & vars, b | a));
-            if x < 16 {
-                return Found::Parent(Var(z as u8), Var(x as u8), Var(y as u8));
-            }
-        }
-    }
-    chain_join(below, above, n)
-}
-
-// The rows that decide go on alone: a compiler that takes the body of a callee into its caller copies what the callee was passed.
+// The kinds in turn: one is asked where those before it have no join. The rows that decide go on alone: a compiler that takes the body of
+// a callee into its caller copies what the callee was passed.
 pub fn first_join(f: Facts, n: usize) -> Found
     requires { ⌜ n ≤ 16 ⌝ }
     requires { ⌜ ((S : List Fact) × Ready n S f) ⌝ }
@@ -78,5 +83,9 @@ pub fn first_join(f: Facts, n: usize) -> Found
     let parent = f.parent;
     let below = f.below;
     let above = f.above;
-    join_in(parent, below, above, n)
+    let found = parent_join(parent, below, above, n);
+    let Found::Nothing = found else {
+        return found;
+    };
+    chain_join(below, above, n)
 }

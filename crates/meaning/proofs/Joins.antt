@@ -1,14 +1,14 @@
 -- Laws of joins: the first is one, and one of its two alternatives holds wherever the facts do.
-use mathlib.Core.Path.{_≡_, refl, sym, _∙_}
+use mathlib.Core.Path.{_≡_, refl, sym, ap, _∙_}
 use mathlib.Core.Logic.{_⊎_, inl, inr, ⊎-elim}
 use mathlib.Core.List.{List, [], _∷_, _++_}
-use Prim.Native.Nat.{ℕ, _<_}
+use Prim.Native.Nat.{ℕ, zero, suc, _<_}
 use native.Mathlib.Decide.{decLt}
 use native.Mathlib.Omega.{arith}
-use lib.ListN.{length}
+use lib.ListN.{length, getD}
 use Rattle.meaning.specs.Tree.{Assignment, Tree, IsTree}
 use Rattle.meaning.specs.Constraint.{Fact, below}
-use Rattle.meaning.specs.FixedSearch.{Join, parent-join, chain-join, IsJoin, first-alternative, second-alternative, key, Earlier, here, later, FirstJoin}
+use Rattle.meaning.specs.FixedSearch.{JoinKind, parent-join, chain-join, joinKinds, kindNumber, Join, join, IsJoin, first-alternative, second-alternative, key, Earlier, here, later, FirstJoin}
 use Rattle.meaning.proofs.Trees.{above-same, above-child, ancestors-chain}
 use Rattle.meaning.proofs.Holds.{HoldsAll, holds-cons, settled-holds}
 
@@ -27,15 +27,31 @@ earlier-total (a ∷ s) (b ∷ t) e = go (decLt a b) (decLt b a) (earlier-total 
     go (no l) (no k) (inr (inl q)) = let d : a ≡ b = omega arith in inr (inl (later d q))
     go (no l) (no k) (inr (inr q)) = let d : b ≡ a = omega arith in inr (inr (later d q))
 
+-- the kind with a number: each kind stands at its place in the list of kinds
+abbrev pub kindAt : ℕ → JoinKind
+kindAt i = getD joinKinds i parent-join
+
+pub kind-at-number : (k : JoinKind) → kindAt (kindNumber k) ≡ k
+kind-at-number parent-join = refl
+kind-at-number chain-join = refl
+
+pub kind-number-small : (k : JoinKind) → kindNumber k < length joinKinds
+kind-number-small parent-join = omega arith
+kind-number-small chain-join = omega arith
+
+pub number-kind-at : (i : ℕ) → i < length joinKinds → kindNumber (kindAt i) ≡ i
+number-kind-at zero l = refl
+number-kind-at (suc zero) l = refl
+number-kind-at (suc (suc i)) l = absurd (omega arith)
+
 key-injective : (j k : Join) → key j ≡ key k → j ≡ k
-key-injective (parent-join z x y) (parent-join w u v) e = cc
-key-injective (parent-join z x y) (chain-join w u v) e = let d : _≡_ {A = ℕ} 0 1 = cc in absurd (omega arith)
-key-injective (chain-join z x y) (parent-join w u v) e = let d : _≡_ {A = ℕ} 0 1 = cc in absurd (omega arith)
-key-injective (chain-join z x y) (chain-join w u v) e = cc
+key-injective (join k u v w) (join l x y z) e =
+    let a : kindNumber k ≡ kindNumber l = cc in
+    let b : k ≡ l = sym (kind-at-number k) ∙ ap kindAt a ∙ kind-at-number l in
+    cc
 
 key-length : (j : Join) → length (key j) ≡ 4
-key-length (parent-join z x y) = refl
-key-length (chain-join z x y) = refl
+key-length (join k u v w) = refl
 
 pub first-join-unique : {n : ℕ} {S : List Fact} (j k : Join) → FirstJoin n S j → FirstJoin n S k → j ≡ k
 first-join-unique j k p q =
@@ -46,12 +62,12 @@ first-join-unique j k p q =
 
 module _ (n : ℕ) (t : Tree) (i : IsTree t) (a : Assignment) (S : List Fact) (m : HoldsAll n t a S) where
   pub alternative-holds : (j : Join) → IsJoin n S j → HoldsAll n t a (first-alternative j ++ S) ⊎ HoldsAll n t a (second-alternative j ++ S)
-  alternative-holds (parent-join z x y) q =
+  alternative-holds (join parent-join z x y) q =
       ⊎-elim
       (λ e. inr (holds-cons {f = below x z} (holds-cons {f = below z x} m (above-same t i (sym e))) (above-same t i e)))
       (λ u. inl (holds-cons {f = below x y} m u))
       (above-child t i (settled-holds n t i a S m (q .parent)) (settled-holds n t i a S m (q .above)))
-  alternative-holds (chain-join z x y) q =
+  alternative-holds (join chain-join z x y) q =
       ⊎-elim
       (λ u. inl (holds-cons {f = below x y} m u))
       (λ u. inr (holds-cons {f = below y x} m u))

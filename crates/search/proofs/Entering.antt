@@ -1,23 +1,24 @@
 -- A fact that is settled already changes nothing when it is given, so entering one below fact enters either alternative of a join.
-use mathlib.Core.Path.{_≡_, sym, ap, subst, _∙_}
+use mathlib.Core.Path.{_≡_, refl, sym, ap, subst, _∙_}
 use mathlib.Core.Logic.{⊎-elim}
-use mathlib.Core.List.{List, [], _∷_, List·Memᴰ·tail, List·Memᴰ·cases-cons}
+use mathlib.Core.List.{List, [], _∷_, Memᴰ·append-left, List·Memᴰ·head, List·Memᴰ·tail, List·Memᴰ·cases-cons}
 use mathlib.Core.Option.{some}
 use Prim.Native.Nat.{ℕ}
-use Rattle.meaning.specs.Constraint.{Fact, below}
+use Rattle.meaning.specs.Constraint.{Fact}
 use Rattle.meaning.specs.Settled.{Settled, given, Clash, differs, labels}
-use Rattle.meaning.specs.FixedSearch.{Join, parent-join, chain-join, IsJoin}
+use Rattle.meaning.specs.FixedSearch.{Join, join, IsJoin, first-alternative, second-alternative}
 use Rattle.meaning.specs.Closed.{Within}
 use Rattle.meaning.proofs.Least.{settled-least, settled-rules, settled-mono, settled-within, clash-mono}
-use Rattle.theory.specs.Search.{firstJoin}
+use Rattle.theory.proofs.Absent.{first-adds, second-adds}
 use Rattle.theory.proofs.Search.{first-join-found}
 use Rattle.tables.specs.Tables.{has, Ready}
 use Rattle.tables.specs.declared.Facts.{Facts}
-use Rattle.joins.specs.Found.{joinOf, FoundOf, Named as FoundNamed}
+use Rattle.joins.specs.Found.{kindOf, joinOf, FoundOf}
 use Rattle.joins.specs.declared.Found.{Found}
-use Rattle.joins.specs.declared.Found.the-variants.{Nothing, Parent, Chain}
+use Rattle.joins.specs.declared.Found.the-variants.{Nothing, One}
+use Rattle.joins.specs.declared.JoinKind as coded
 use Rattle.ids.specs.declared.Var.{Var}
-use Rattle.search.specs.Searching.{fact, Enters, Alternatives, StepOf}
+use Rattle.search.specs.Searching.{fact, Enters, StepOf}
 use Rattle.search.specs.declared.Below.{Below}
 use Rattle.search.specs.declared.Step.the-variants.{Solved, Split}
 
@@ -42,65 +43,37 @@ module _ (n : ℕ) (T : List Fact) (φ : Fact) (s : Settled n T φ) where
 
 -- the fact itself
 pub enters-one : (n : ℕ) (S : List Fact) (p : Below) → Enters n S p (fact p ∷ [])
-enters-one n S p = record { ready = λ r. r; clash = λ c. c }
+enters-one n S p = record { one = List·Memᴰ·head refl; ready = λ r. r; clash = λ c. c }
 
 -- and one that is settled already
 pub enters-two : (n : ℕ) (S : List Fact) (p : Below) (φ : Fact) → Settled n S φ → Enters n S p (φ ∷ fact p ∷ [])
-enters-two n S p φ s = record { ready = λ r. ready-more n (fact p ∷ S) φ there r; clash = λ c. clash-mono n (fact p ∷ S) (φ ∷ fact p ∷ S) (λ g m. List·Memᴰ·tail m) c }
-  where
-    there : Settled n (fact p ∷ S) φ
-    there = settled-mono n S (fact p ∷ S) (λ g m. List·Memᴰ·tail m) s
+enters-two n S p φ s = record {
+  one = List·Memᴰ·tail (List·Memᴰ·head refl);
+  ready = ready-more n (fact p ∷ S) φ (settled-mono n S (fact p ∷ S) (λ g m. List·Memᴰ·tail m) s);
+  clash = clash-mono n (fact p ∷ S) (φ ∷ fact p ∷ S) (λ g m. List·Memᴰ·tail m);
+}
 
-module _ (n : ℕ) (S : List Fact) (f : Facts) (r : Ready n S f) where
-  is-join : (j : Join) → firstJoin n (has f) ≡ some j → IsJoin n S j
-  is-join j e = first-join-found n S (r .inside) (has f) (r .decides) j e .is-join
+-- ---- the step from the first join found, for any S that the tables are ready for
 
-  pub parent-alternatives : (z x y : Var) → firstJoin n (has f) ≡ some (parent-join (z .0) (x .0) (y .0))
-      → Alternatives n S f (record { upper = x; lower = y }) (record { upper = z; lower = x })
-  parent-alternatives z x y e = record {
-    join = parent-join (z .0) (x .0) (y .0);
-    is-first = e;
-    first = enters-one n S (record { upper = x; lower = y });
-    second = enters-two n S (record { upper = z; lower = x }) (below (x .0) (z .0)) (is-join _ e .above);
-  }
-
-  pub chain-alternatives : (z x y : Var) → firstJoin n (has f) ≡ some (chain-join (z .0) (x .0) (y .0))
-      → Alternatives n S f (record { upper = x; lower = y }) (record { upper = y; lower = x })
-  chain-alternatives z x y e = record {
-    join = chain-join (z .0) (x .0) (y .0);
-    is-first = e;
-    first = enters-one n S (record { upper = x; lower = y });
-    second = enters-one n S (record { upper = y; lower = x });
-  }
-
--- ---- the step from the first join found
-
-join-of : {n : ℕ} {f : Facts} {r q : Found} → FoundOf n f r → r ≡ q → (S : List Fact) → Ready n S f → firstJoin n (has f) ≡ joinOf q
-join-of w e S g = sym (w .first S g) ∙ ap joinOf e
-
-named-as : {n : ℕ} {f : Facts} {r q : Found} → FoundOf n f r → r ≡ q → FoundNamed n q
-named-as {n} w e = subst (FoundNamed n) e (w .named)
-
-pub step-solved : (n : ℕ) (f : Facts) (r : Found) → FoundOf n f r → r ≡ Nothing → StepOf n f Solved
+pub joined : {r : Found} {k l : coded.JoinKind} {z x y : Var} → r ≡ One k z x y → k ≡ l → joinOf r ≡ some (join (kindOf l) (z .0) (x .0) (y .0))
 unfolding joinOf
-step-solved n f r w e S g = join-of w e S g
+joined e d = rw (e, d)
 
-pub step-parent : (n : ℕ) (f : Facts) (r : Found) (z x y : Var) → FoundOf n f r → r ≡ Parent z x y
-    → StepOf n f (Split (record { upper = x; lower = y }) (record { upper = z; lower = x }))
-unfolding joinOf
-step-parent n f r z x y w e =
-    let m = named-as w e in (
-      record { upper = m .1; lower = m .2 },
-      record { upper = m .0; lower = m .1 },
-      λ S g. parent-alternatives n S f g z x y (join-of w e S g),
-    )
+module _ (n : ℕ) (f : Facts) (r : Found) (found : FoundOf n f r) where
+  pub step-solved : r ≡ Nothing → StepOf n f Solved
+  unfolding joinOf
+  step-solved e S g = sym (found S g) ∙ ap joinOf e
 
-pub step-chain : (n : ℕ) (f : Facts) (r : Found) (z x y : Var) → FoundOf n f r → r ≡ Chain z x y
-    → StepOf n f (Split (record { upper = x; lower = y }) (record { upper = y; lower = x }))
-unfolding joinOf
-step-chain n f r z x y w e =
-    let m = named-as w e in (
-      record { upper = m .1; lower = m .2 },
-      record { upper = m .2; lower = m .1 },
-      λ S g. chain-alternatives n S f g z x y (join-of w e S g),
-    )
+  -- a join of any kind, with what its two alternatives enter
+  pub step-split : (T : List Fact) → Ready n T f → (j : Join) → joinOf r ≡ some j → (p q : Below)
+      → ((S : List Fact) → IsJoin n S j → Enters n S p (first-alternative j) × Enters n S q (second-alternative j)) → StepOf n f (Split p q)
+  step-split T t j e p q enters =
+      let a = first-adds n T (t .inside) j (is-join T t) .inside (fact p) (Memᴰ·append-left T (enters T (is-join T t) .0 .one)) in
+      let b = second-adds n T (t .inside) j (is-join T t) .inside (fact q) (Memᴰ·append-left T (enters T (is-join T t) .1 .one)) in (
+        record { upper = a .0; lower = a .1 },
+        record { upper = b .0; lower = b .1 },
+        λ S g. record { join = j; is-first = sym (found S g) ∙ e; first = enters S (is-join S g) .0; second = enters S (is-join S g) .1 },
+      )
+    where
+      is-join : (S : List Fact) → Ready n S f → IsJoin n S j
+      is-join S g = first-join-found n S (g .inside) (has f) (g .decides) j (sym (found S g) ∙ e) .is-join

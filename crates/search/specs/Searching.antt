@@ -2,7 +2,7 @@
 use mathlib.Core.Path.{_≡_}
 use mathlib.Core.Logic.{_≢_}
 use mathlib.Core.Bool.{true, false}
-use mathlib.Core.List.{List, _∷_, _++_}
+use mathlib.Core.List.{List, _∷_, _++_, List·Memᴰ}
 use mathlib.Core.Option.{none, some}
 use Prim.Native.Nat.{ℕ, _+_, _≤_, _<_}
 use Rattle.meaning.specs.Constraint.{Fact, below}
@@ -30,8 +30,9 @@ pub record PairInside (n : ℕ) (p : Below) : Type 0 where
   pub upper : p .upper .0 < n
   pub lower : p .lower .0 < n
 
--- entering p into the settled set of S is entering the facts A
+-- entering p into the settled set of S is entering the facts A, of which it is one
 pub record Enters (n : ℕ) (S : List Fact) (p : Below) (A : List Fact) : Type 0 where
+  pub one : List·Memᴰ (fact p) A
   pub ready : {g : Facts} → Ready n (fact p ∷ S) g → Ready n (A ++ S) g
   pub clash : Clash n (fact p ∷ S) → Clash n (A ++ S)
 

@@ -7,6 +7,7 @@ ghost use Rattle.tables.specs.Tables.{Ready};
 ghost use Rattle.search.specs.Searching.{StepOf, Line, tablesOf, reported, LineOf, SearchedOf};
 use ids::Var;
 use joins::Found;
+use joins::JoinKind;
 use tables::Facts;
 use tables::Settled;
 
@@ -46,14 +47,16 @@ fn next_step(f: Facts, n: usize) -> Step
     let found = joins::first_join(f, n);
     match found {
         Found::Nothing => Step::Solved,
-        Found::Parent(z, x, y) => Step::Split(
-            Below { upper: x, lower: y },
-            Below { upper: z, lower: x },
-        ),
-        Found::Chain(_, x, y) => Step::Split(
-            Below { upper: x, lower: y },
-            Below { upper: y, lower: x },
-        ),
+        Found::One(kind, z, x, y) => match kind {
+            JoinKind::Parent => Step::Split(
+                Below { upper: x, lower: y },
+                Below { upper: z, lower: x },
+            ),
+            JoinKind::Chain => Step::Split(
+                Below { upper: x, lower: y },
+                Below { upper: y, lower: x },
+            ),
+        },
     }
 }
 

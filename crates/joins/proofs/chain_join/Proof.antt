@@ -7,16 +7,15 @@ use mir.Val.{Fits}
 use mir.Syntax.{w16}
 use borrow.Author.Needs.{needs}
 use Rattle.meaning.specs.FixedSearch.{chain-join}
-use Rattle.theory.specs.Search.{isChainJoin}
 use Rattle.tables.specs.declared.Facts.{Facts}
 use Rattle.joins.specs.Found.{joinOf, Incomparable, withBelow}
-use Rattle.joins.proofs.First.{NoneBefore, none-more, none-apart, chain-named, chain-first, none-first}
+use Rattle.joins.proofs.First.{NoneBefore, none-more, none-first, none-apart, chain-first}
 use Rattle.joins.proofs.chain_join.Statement.{statement}
 use Rattle.joins.proofs.chain_join.Tie as tie
 
 abbrev Inv-loop : tie.InvT-loop
 Inv-loop n above vars incomparable z₀ z =
-    (z ≤ n) × ((below : List ℕ) → Incomparable below above incomparable → (f : Facts) → NoneBefore isChainJoin n (withBelow below above f) z)
+    (z ≤ n) × ((below : List ℕ) → Incomparable below above incomparable → (f : Facts) → NoneBefore chain-join n (withBelow below above f) z)
 
 abbrev μ-loop : tie.MeasureT-loop
 μ-loop n above vars incomparable z₀ z = n - z
@@ -51,14 +50,14 @@ array-read-a c = search needs
 lowest-requires-2 : tie.Need-lowest-requires-2 Inv-loop μ-loop
 lowest-requires-2 c κs = search needs
 
-cast-t26 : tie.Need-cast-t26 Inv-loop μ-loop
-cast-t26 c = search needs
+cast-t27 : tie.Need-cast-t27 Inv-loop μ-loop
+cast-t27 c = search needs
 
-cast-t28 : tie.Need-cast-t28 Inv-loop μ-loop
-cast-t28 c = search needs
+cast-t29 : tie.Need-cast-t29 Inv-loop μ-loop
+cast-t29 c = search needs
 
-cast-t30 : tie.Need-cast-t30 Inv-loop μ-loop
-cast-t30 c = search needs
+cast-t31 : tie.Need-cast-t31 Inv-loop μ-loop
+cast-t31 c = search needs
 
 returns : tie.Need-returns Inv-loop μ-loop
 unfolding joinOf
@@ -69,13 +68,8 @@ returns c =
     let s = r .before in
     let h : Fits w16 (getD (r .incomparable-rows .result) (l .lowest .result) 0) = search needs in
     λ f.
-    let g = withBelow (s .before .args .below) (s .before .args .t2) f in
-    record {
-      first = chain-first _ (s .before .pre) g _ (s .all .ensures) (r .incomparable-rows .result) (r .incomparable-rows .ensures) _ (i .loop-test .taken) _ (l .before .meeting .ensures) _ (l .lowest .ensures)
-          (c .before .if1 .taken) (h .fits) _ (c .lowest2 .ensures) (i .before .loop .inv .1 _ (r .incomparable-rows .ensures) f);
-      named = chain-named _ (s .before .pre) g _ (s .all .ensures) (r .incomparable-rows .result) (r .incomparable-rows .ensures) _ (i .loop-test .taken) _ (l .before .meeting .ensures) _ (l .lowest .ensures)
-          (c .before .if1 .taken) (h .fits) _ (c .lowest2 .ensures);
-    }
+    chain-first _ (s .before .pre) (withBelow (s .before .args .below) (s .before .args .t2) f) _ (s .all .ensures) (r .incomparable-rows .result) (r .incomparable-rows .ensures) _ (i .loop-test .taken) _ (l .before .meeting .ensures)
+    _ (l .lowest .ensures) (c .before .if1 .taken) (h .fits) _ (c .lowest2 .ensures) (i .before .loop .inv .1 _ (r .incomparable-rows .ensures) f)
 
 add-z : tie.Need-add-z Inv-loop μ-loop
 add-z c = search needs
@@ -91,16 +85,12 @@ loop-again c =
     let s = r .before in (
       search needs,
       λ below a f.
-          none-more isChainJoin _ _ _ (i .before .loop .inv .1 below a f)
+          none-more chain-join _ _ _ (i .before .loop .inv .1 below a f)
           (none-apart _ (s .before .pre) (withBelow below (s .before .args .t2) f) _ (s .all .ensures) (r .incomparable-rows .result) a _ (i .loop-test .taken) _ (l .before .meeting .ensures) _ (l .lowest .ensures) (c .if1 .left)),
     )
 
 returns-2 : tie.Need-returns-2 Inv-loop μ-loop
-unfolding joinOf
-returns-2 c = λ f. record {
-  first = none-first isChainJoin chain-join _ _ _ (c .loop-test .left) (c .before .loop .inv .1 _ (c .before .before .incomparable-rows .ensures) f);
-  named = tt;
-}
+returns-2 c = λ f. none-first chain-join _ _ _ (c .loop-test .left) (c .before .loop .inv .1 _ (c .before .before .incomparable-rows .ensures) f)
 
 pub chain-join-spec : {M : Type 1} → statement M
 chain-join-spec =
@@ -118,9 +108,9 @@ chain-join-spec =
     mul-a
     array-read-a
     lowest-requires-2
-    cast-t26
-    cast-t28
-    cast-t30
+    cast-t27
+    cast-t29
+    cast-t31
     returns
     add-z
     loop-less

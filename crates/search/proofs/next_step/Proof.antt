@@ -1,5 +1,6 @@
-use Rattle.search.proofs.Entering.{step-solved, step-parent, step-chain}
+-- `search::next_step` meets its contract. Of a parent join the second alternative adds below(x, z), which is settled already.
 use borrow.Author.Needs.{needs}
+use Rattle.search.proofs.Entering.{enters-one, enters-two, joined, step-solved, step-split}
 use Rattle.search.proofs.next_step.Statement.{statement}
 use Rattle.search.proofs.next_step.Tie as tie
 
@@ -12,17 +13,26 @@ enum-told c = search needs
 enum-known-found : tie.Need-enum-known-found
 enum-known-found c = search needs
 
-enum-known-found-2 : tie.Need-enum-known-found-2
-enum-known-found-2 c = search needs
+enum-told-2 : tie.Need-enum-told-2
+enum-told-2 c = search needs
+
+enum-told-3 : tie.Need-enum-told-3
+enum-told-3 c = search needs
 
 returns : tie.Need-returns
 returns c = step-solved _ _ _ (c .before .before .first-join .ensures) (c .enum-told .given .1)
 
 returns-2 : tie.Need-returns-2
-returns-2 c = step-parent _ _ _ _ _ _ (c .before .before .before .first-join .ensures) (c .before .found .given .1)
+returns-2 c =
+    let e = c .before .before .before in let j = e .before .before in
+    step-split _ _ _ (j .first-join .ensures) _ (j .before .pre .1 .1) _ (joined (e .found .given .1) (c .enum-told2 .given .1)) _ _
+    (λ S q. (enters-one _ S _, enters-two _ S _ _ (q .above)))
 
 returns-3 : tie.Need-returns-3
-returns-3 c = step-chain _ _ _ _ _ _ (c .before .before .before .first-join .ensures) (c .before .found2 .given .1)
+returns-3 c =
+    let e = c .before .before .before in let j = e .before .before in
+    step-split _ _ _ (j .first-join .ensures) _ (j .before .pre .1 .1) _ (joined (e .found .given .1) (c .enum-told3 .given .1)) _ _
+    (λ S q. (enters-one _ S _, enters-one _ S _))
 
 pub next-step-spec : {M : Type 1} → statement M
 next-step-spec =
@@ -31,7 +41,8 @@ next-step-spec =
     first-join-requires
     enum-told
     enum-known-found
-    enum-known-found-2
+    enum-told-2
+    enum-told-3
     returns
     returns-2
     returns-3)

@@ -1,22 +1,20 @@
--- `joins::join_in` meets its contract: the loop has passed no z with a parent join.
-use mathlib.Core.Path.{subst, _∙_}
+-- `joins::parent_join` meets its contract: the loop has passed no z with a parent join.
+use mathlib.Core.Path.{subst}
 use mathlib.Core.Logic.{⊎-elim}
 use Prim.Native.Nat.{ℕ, _≤_, _-_}
 use native.Mathlib.Nat.{not-suc-le-zero}
 use borrow.Author.Needs.{needs}
 use Rattle.meaning.specs.FixedSearch.{parent-join}
-use Rattle.theory.specs.Search.{isParentJoin}
-use Rattle.theory.specs.Find.{orElse}
 use Rattle.tables.specs.Rows.{Lowest}
 use Rattle.tables.specs.declared.Facts.{Facts}
 use Rattle.joins.specs.Found.{joinOf, withBelow, withParent}
-use Rattle.joins.proofs.First.{NoneBefore, none-more, none-without-parent, none-without-x, parent-named, parent-first, none-first, parents-before}
-use Rattle.joins.proofs.join_in.Statement.{statement}
-use Rattle.joins.proofs.join_in.Tie as tie
+use Rattle.joins.proofs.First.{NoneBefore, none-more, none-first, none-without-parent, none-without-x, parent-first}
+use Rattle.joins.proofs.parent_join.Statement.{statement}
+use Rattle.joins.proofs.parent_join.Tie as tie
 
 abbrev Inv-loop : tie.InvT-loop
 Inv-loop n parent below above vars z₀ z =
-    (z ≤ n) × ((f : Facts) → NoneBefore isParentJoin n (withParent parent (withBelow below above f)) z)
+    (z ≤ n) × ((f : Facts) → NoneBefore parent-join n (withParent parent (withBelow below above f)) z)
 
 abbrev μ-loop : tie.MeasureT-loop
 μ-loop n parent below above vars z₀ z = n - z
@@ -60,17 +58,17 @@ except-requires c κs = search needs
 lowest-requires-2 : tie.Need-lowest-requires-2 Inv-loop μ-loop
 lowest-requires-2 c κs = search needs
 
-cast-t32 : tie.Need-cast-t32 Inv-loop μ-loop
-cast-t32 c = search needs
+cast-t33 : tie.Need-cast-t33 Inv-loop μ-loop
+cast-t33 c = search needs
 
-cast-t34 : tie.Need-cast-t34 Inv-loop μ-loop
-cast-t34 c = search needs
+cast-t35 : tie.Need-cast-t35 Inv-loop μ-loop
+cast-t35 c = search needs
 
-cast-t36 : tie.Need-cast-t36 Inv-loop μ-loop
-cast-t36 c = search needs
+cast-t37 : tie.Need-cast-t37 Inv-loop μ-loop
+cast-t37 c = search needs
 
 returns : tie.Need-returns Inv-loop μ-loop
-unfolding joinOf orElse
+unfolding joinOf
 returns c =
     let t = c .before .before .before in
     let l = t .before in
@@ -78,12 +76,8 @@ returns c =
     let s = i .before .before .before in
     let x-is = subst (λ (k : ℕ). Lowest k (c .before .lowest2 .result)) (c .before .before .except .ensures) (c .before .lowest2 .ensures) in
     λ f.
-    let g = withParent (s .args .t1) (withBelow (s .args .t2) (s .args .t3) f) in
-    record {
-      first = λ S r. parents-before _ g _ (parent-first _ (s .pre) g _ (i .before .before .all .ensures) _ (i .loop-test .taken) _ (l .lowest .ensures)
-          (t .if1 .taken) _ x-is (c .if2 .taken) (i .before .loop .inv .1 f) S r);
-      named = parent-named _ (s .pre) g _ (i .before .before .all .ensures) _ (i .loop-test .taken) _ (l .lowest .ensures) (t .if1 .taken) _ x-is (c .if2 .taken);
-    }
+    parent-first _ (s .pre) (withParent (s .args .t1) (withBelow (s .args .t2) (s .args .t3) f)) _ (i .before .before .all .ensures) _ (i .loop-test .taken) _ (l .lowest .ensures)
+    (t .if1 .taken) _ x-is (c .if2 .taken) (i .before .loop .inv .1 f)
 
 add-z : tie.Need-add-z Inv-loop μ-loop
 add-z c = search needs
@@ -99,7 +93,7 @@ loop-again c =
       search needs,
       λ f.
           let g = withParent (s .args .t1) (withBelow (s .args .t2) (s .args .t3) f) in
-          none-more isParentJoin _ g _ (i .before .loop .inv .1 f)
+          none-more parent-join _ g _ (i .before .loop .inv .1 f)
           (⊎-elim
           (λ w. none-without-x _ (s .pre) g _ (i .before .before .all .ensures) _ (i .loop-test .taken) _ (l .lowest .ensures) (w .0 .taken) _
           (subst (λ (k : ℕ). Lowest k (w .2 .result)) (w .1 .ensures) (w .2 .ensures)) (w .3 .left))
@@ -107,22 +101,13 @@ loop-again c =
           (c .if1 .came)),
     )
 
-chain-join-requires : tie.Need-chain-join-requires Inv-loop μ-loop
-chain-join-requires c κs = search needs
-
 returns-2 : tie.Need-returns-2 Inv-loop μ-loop
-unfolding orElse
 returns-2 c = λ f.
-    let s = c .before .before .before .before in
-    let g = withParent (s .args .t1) (withBelow (s .args .t2) (s .args .t3) f) in
-    let chain = c .chain-join .ensures (withParent (s .args .t1) f) in
-    record {
-      first = λ S r. chain .first S r ∙ parents-before _ g _ (none-first isParentJoin parent-join _ g _ (c .before .loop-test .left) (c .before .before .loop .inv .1 f) S r);
-      named = chain .named;
-    }
+    let s = c .before .before .before in
+    none-first parent-join _ (withParent (s .args .t1) (withBelow (s .args .t2) (s .args .t3) f)) _ (c .loop-test .left) (c .before .loop .inv .1 f)
 
-pub join-in-spec : {M : Type 1} → statement M
-join-in-spec =
+pub parent-join-spec : {M : Type 1} → statement M
+parent-join-spec =
     tie.close
     (tie.spec
     Inv-loop
@@ -140,12 +125,11 @@ join-in-spec =
     array-read-a
     except-requires
     lowest-requires-2
-    cast-t32
-    cast-t34
-    cast-t36
+    cast-t33
+    cast-t35
+    cast-t37
     returns
     add-z
     loop-less
     loop-again
-    chain-join-requires
     returns-2)
