@@ -31,13 +31,15 @@ module _ (P : Fact → Type 0) (Up Down : Var → Type 0) where
   Wider (leaf x) = P (leaf x)
   Wider (label x l) = P (label x l)
 
-  pub wide-keeps : (φ : Fact) → P φ → Wider φ
-  wide-keeps (child x y) u = u
-  wide-keeps (below x y) u = inl u
-  wide-keeps (differ x y) u = u
-  wide-keeps (root x) u = u
-  wide-keeps (leaf x) u = u
-  wide-keeps (label x l) u = u
+  -- it is in every set that has P, and all of Up over all of Down
+  module _ (Q : Fact → Type 0) (has : (φ : Fact) → P φ → Q φ) (over : (x y : Var) → Up x → Down y → Q (below x y)) where
+    pub wide-least : (φ : Fact) → Wider φ → Q φ
+    wide-least (child x y) u = has _ u
+    wide-least (below x y) u = ⊎-elim (has _) (λ p. over x y (p .0) (p .1)) u
+    wide-least (differ x y) u = has _ u
+    wide-least (root x) u = has _ u
+    wide-least (leaf x) u = has _ u
+    wide-least (label x l) u = has _ u
 
 module _ (n : ℕ) (P : Fact → Type 0) (Up Down : Var → Type 0) (s : Sharing n P) (e : Ends P Up Down) where
   abbrev B : Var → Var → Type 0
