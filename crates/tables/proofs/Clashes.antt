@@ -15,6 +15,9 @@ use Rattle.tables.proofs.Labels.{label-is}
 pub record Free (P : Fact → Type 0) : Type 0 where
   pub apart : (x : Var) → ¬ P (differ x x)
 
+pub free-less : {P Q : Fact → Type 0} → ((φ : Fact) → Q φ → P φ) → Free P → Free Q
+free-less to h = record { apart = λ x u. h .apart x (to _ u) }
+
 module _ (n : ℕ) (S : List Fact) (f : Facts) (d : Decides n S (has f)) where
   pub free-clash : Free (λ φ. Yes (has f φ)) → ¬ Clash n S
   free-clash h (differs {x} c) = h .apart x (d .complete c)
