@@ -21,8 +21,8 @@ use Rattle.tables.specs.Rows.{meets}
 use Rattle.tables.specs.declared.Facts.{Facts}
 use Rattle.tables.proofs.Clashes.{free-clash, clash-free}
 use Rattle.tables.proofs.Groups.{sharing-same}
-use Rattle.merge.specs.Rows.{In, WithGap}
-use Rattle.merge.specs.Merging.{Awaits, held, waits, Held, Pending, MergedOf}
+use Rattle.merge.specs.Rows.{WithGap}
+use Rattle.merge.specs.Merging.{Awaits, held, waits, In, Held, Pending, MergedOf}
 use Rattle.tables.proofs.Bits.{or-case, or-l, or-r, one-is, one-has, meets-out, in-row}
 use Rattle.merge.proofs.Rounds.{none-left, narrow}
 

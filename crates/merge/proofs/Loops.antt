@@ -1,6 +1,6 @@
--- What the loops over one table know after some rows: the rows named gathered or compared, their labels, and a group spread over them.
+-- What the loops over one table know after some rows: the rows named gathered or compared, and their labels.
 use mathlib.Core.Path.{_≡_, refl, sym, _∙_, subst}
-use mathlib.Core.Logic.{_≢_, _⊎_, inl, inr, ⊎-elim}
+use mathlib.Core.Logic.{_≢_, _⊎_, ⊎-elim}
 use mathlib.Core.Bool.{Bool, true, false, false≢true, _&&_, not}
 use mathlib.Core.List.{List}
 use Prim.Native.Nat.{ℕ, _^_, _<_}
@@ -11,14 +11,13 @@ use lib.ListN.{set, length, length-set}
 use lib.Seq.{getD-set-same, getD-set-other}
 use lib.Bits.{bitOr, bitAnd, bitXor, and-le-l, or-lt}
 use Rattle.meaning.specs.Finite.{Yes}
-use Rattle.meaning.proofs.Tests.{yes-case, yes-eq, clash, is-eq, eq-yes, pick-yes, pick-no}
+use Rattle.meaning.proofs.Tests.{yes-case, clash, is-eq, eq-yes, pick-yes, pick-no}
 use Rattle.rowbits.specs.Bit.{bit}
-use Rattle.tables.specs.Tables.{row, Columns}
-use Rattle.tables.specs.Rows.{without, Lowest, Raised, Union}
+use Rattle.tables.specs.Tables.{row}
+use Rattle.tables.specs.Rows.{without, Lowest, Union}
 use Rattle.tables.proofs.Bits.{none-in, or-case, or-l, or-r, one-is, one-has, one-small, in-both, both-in, some-in, in-row, without-in, without-out}
 use Rattle.tables.proofs.Members.{Passed, passed-none, next-in, next-named, passed-more, passed-all}
-use Rattle.tables.proofs.Rises.{Rises, rises, raised-out, raised-keeps, raised-has}
-use Rattle.merge.specs.Rows.{WithGap, LabelOf, TwoLabels, Painted, Spread}
+use Rattle.merge.specs.Rows.{WithGap, LabelOf, TwoLabels, Painted}
 use Rattle.tables.proofs.Tested.{and-yes, yes-and, not-eq, eq-not, not-yes}
 
 -- ---- whether one of them lacks one
@@ -164,26 +163,3 @@ was-painted t rows l a rest w z = record {
       (λ y. passed-all _ rows rest (w .passed) z i y ∙ sym (pick-yes l (row t i) y))
       (λ y. w .kept i (λ u. clash u y) ∙ sym (pick-no l (row t i) (λ u. clash u y))) (yes-case (bit rows i));
 }
-
--- ---- a group spread over rows and columns
-
-pub was-spread : (t half r : List ℕ) (group along across : ℕ) → group < 65536 → across < 65536 → Raised t group along half → Raised half across group r
-    → Spread t group along across r
-was-spread t half r group along across small over h k = record {
-  out = λ i j u. ⊎-elim (λ v. ⊎-elim inl (λ w. inr (inl w)) (raised-out t group along half a i j v)) (λ v. inr (inr v)) (raised-out half across group r b i j u);
-  keeps = λ i j u. raised-keeps half across group r b i j (raised-keeps t group along half a i j u);
-  rows = λ i j u v. raised-keeps half across group r b i j (raised-has t group along half a i j u v);
-  columns = λ i j u v. raised-has half across group r b i j u v;
-}
-  where
-    a : Rises t group along half
-    a = rises small h
-
-    b : Rises half across group r
-    b = rises over k
-
-pub columns-spread : (t r : List ℕ) (group along across : ℕ) (t' r' : List ℕ) → Columns t r → Spread t group along across t' → Spread r group across along r' → Columns t' r'
-columns-spread t r group along across t' r' c h k x y lx ly =
-    yes-eq _ _
-    (λ u. ⊎-elim (λ a. h .keeps x y (sym (c x y lx ly) ∙ a)) (λ a. ⊎-elim (λ b. h .columns x y (b .1) (b .0)) (λ b. h .rows x y (b .1) (b .0)) a) (k .out y x u))
-    (λ u. ⊎-elim (λ a. k .keeps y x (c x y lx ly ∙ a)) (λ a. ⊎-elim (λ b. k .columns y x (b .1) (b .0)) (λ b. k .rows y x (b .1) (b .0)) a) (h .out x y u))

@@ -27,13 +27,12 @@ use Rattle.tables.proofs.Labels.{label-has}
 use Rattle.tables.proofs.Rises.{rises, raised-out, raised-in, raised-keeps, raised-has, columns-raised}
 use Rattle.tables.proofs.Wider.{Wide}
 use Rattle.merge.specs.declared.Round.{Round}
-use Rattle.merge.specs.Rows.{In, Gap, LabelOf, Painted, Spread}
-use Rattle.merge.specs.Merging.{held, waits, Held, Standing, Pending, lacking, UnifiedOf}
-use Rattle.merge.proofs.Loops.{columns-spread}
+use Rattle.merge.specs.Rows.{Gap, LabelOf, Painted}
+use Rattle.merge.specs.Merging.{held, waits, In, Held, Standing, Pending, lacking, UnifiedOf}
 use Rattle.merge.proofs.Glue.{Cut, Glued, Over, glued-sharing, glued-free, arrived, glued-parent}
 use Rattle.merge.proofs.Reach.{Reach, within, ends, cut, glue}
 use Rattle.merge.proofs.Masks.{reach, union-columns, columns-union}
-use Rattle.merge.proofs.ByTable.{Shares, two-out, two-in, two-over, one-out, one-in, label-out, label-in}
+use Rattle.merge.proofs.ByTable.{RaisedTwice, spread, columns-spread, Shares, two-out, two-in, two-over, one-out, one-in, label-out, label-in}
 
 -- g is f with u glued over w, where the group m has no clash: its parents, its children, what differs from it, and its label are
 -- given to all of it, and it to all of them
@@ -49,9 +48,9 @@ pub record Made (f : Facts) (u w m parents : ℕ) (g : Facts) : Type 0 where
   pub only : (i : Var) → In m i → row (f .label) i ≢ 0 → row (f .label) i ≡ shown
   pub below : Raised (f .below) u w (g .below)
   pub above : Raised (f .above) w u (g .above)
-  pub child : Spread (f .child) m children parents (g .child)
-  pub parent : Spread (f .parent) m parents children (g .parent)
-  pub differ : Spread (f .differ) m others others (g .differ)
+  pub child : RaisedTwice (f .child) m children parents (g .child)
+  pub parent : RaisedTwice (f .parent) m parents children (g .parent)
+  pub differ : RaisedTwice (f .differ) m others others (g .differ)
   pub root : g .root ≡ gained (meets (f .root) m) (f .root) m
   pub leaf : g .leaf ≡ gained (meets (f .leaf) m) (f .leaf) m
   pub label : Painted (f .label) m shown (g .label)
@@ -121,7 +120,7 @@ module _ (n : ℕ) (T : List Fact) (f : Facts) (x u w : ℕ) (p : Pending n T x 
       is-along = q .is-children;
       from = union-columns (f .child) (f .parent) m parents small (p .standing .mirrored .parents) (q .is-parents);
       to = λ i k y v. columns-union (f .child) (f .parent) m parents small (p .standing .mirrored .parents) (q .is-parents) i (le-trans (inside-of (child i k) v .0) (p .standing .few)) (k, y, v);
-      spreads = q .child;
+      spreads = spread small (q .is-parents .small) (q .child);
     }
 
     shares-differ : Shares n P u w s c (f .differ) (g .differ) (q .others) (q .others)
@@ -134,7 +133,7 @@ module _ (n : ℕ) (T : List Fact) (f : Facts) (x u w : ℕ) (p : Pending n T x 
       is-along = q .is-others;
       from = λ i y. let k = q .is-others .from i y in (k .0, k .1, s .differ-back (k .0) i (k .2));
       to = λ i k y v. q .is-others .to k i y (s .differ-back i k v);
-      spreads = q .differ;
+      spreads = spread small (q .is-others .small) (q .differ);
     }
 
     has-glued : (φ : Fact) → Held g φ → Glued P (In u) (In w) φ
@@ -181,7 +180,7 @@ module _ (n : ℕ) (T : List Fact) (f : Facts) (x u w : ℕ) (p : Pending n T x 
       sharing = sharing-same n (Glued P (In u) (In w)) (Held g) glued-has has-glued (glued-sharing n P (In u) (In w) s c);
       free = free-less has-glued (glued-free n P (In u) (In w) s c (p .standing .free) (λ i j a b. apart-in i j (both-in u w i (a .0) (a .1)) (both-in u w j (b .0) (b .1))));
       mirrored = record {
-        parents = columns-spread (f .child) (f .parent) m (q .children) parents (g .child) (g .parent) (p .standing .mirrored .parents) (q .child) (q .parent);
+        parents = columns-spread (f .child) (f .parent) m (q .children) parents (g .child) (g .parent) (p .standing .mirrored .parents) (shares-child .spreads) (spread small (q .is-children .small) (q .parent));
         ancestors = columns-raised (f .below) (f .above) u w (g .below) (g .above) (p .standing .mirrored .ancestors) (rises up-small (q .below)) (rises down-small (q .above));
       };
     }

@@ -8,8 +8,8 @@ use Rattle.tables.specs.Tables.{has}
 use Rattle.tables.specs.declared.Facts.{Facts}
 use Rattle.tables.proofs.Bits.{none-in}
 use Rattle.merge.specs.declared.Round.{Round}
-use Rattle.merge.specs.Rows.{In, Gap, WithGap}
-use Rattle.merge.specs.Merging.{Awaits, held, waits, Held, Pending, UnifiedOf, RoundOf}
+use Rattle.merge.specs.Rows.{Gap, WithGap}
+use Rattle.merge.specs.Merging.{Awaits, held, waits, In, Held, Pending, UnifiedOf, RoundOf}
 
 -- ---- what is still apart has to become the same, and nothing else
 

@@ -15,12 +15,15 @@ use Rattle.tables.specs.declared.Facts.{Facts}
 use Rattle.tables.proofs.Clashes.{Free}
 use Rattle.merge.specs.declared.Round.{Round}
 use Rattle.tables.specs.declared.Settled.{Settled as Result}
-use Rattle.merge.specs.Rows.{In, Gap}
+use Rattle.merge.specs.Rows.{Gap}
 
 -- a fact that is held, or that two variables of X wait for
 pub data Awaits (X : Var → Type 0) (P : Fact → Type 0) : Fact → Type 0 where
   held : {φ : Fact} → P φ → Awaits X P φ
   waits : {x y : Var} → X x → X y → Awaits X P (below x y)
+
+abbrev pub In : ℕ → Var → Type 0
+In row x = Yes (bit row x)
 
 abbrev pub Held : Facts → Fact → Type 0
 Held f φ = Yes (has f φ)

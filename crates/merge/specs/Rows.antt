@@ -1,6 +1,6 @@
 -- What the helpers on rows compute: unions and gaps of the rows named by a row, and their labels.
 use mathlib.Core.Path.{_≡_}
-use mathlib.Core.Logic.{_≢_, _⊎_}
+use mathlib.Core.Logic.{_≢_}
 use mathlib.Core.Bool.{Bool, true, false}
 use mathlib.Core.List.{List}
 use Prim.Native.Nat.{ℕ}
@@ -33,13 +33,3 @@ pub record TwoLabels (t : List ℕ) (rows l : ℕ) (r : Bool) : Type 0 where
 
 pub record Painted (t : List ℕ) (rows l : ℕ) (r : List ℕ) : Type 0 where
   pub paints : (i : ℕ) → row r i ≡ pick (bit rows i) l (row t i)
-
-abbrev pub In : ℕ → ℕ → Type 0
-In row x = Yes (bit row x)
-
--- the rows of the group with `along`, and the rows of `across` with the group
-pub record Spread (t : List ℕ) (group along across : ℕ) (r : List ℕ) : Type 0 where
-  pub out : (i j : ℕ) → In (row r i) j → In (row t i) j ⊎ (In group i × In along j) ⊎ (In across i × In group j)
-  pub keeps : (i j : ℕ) → In (row t i) j → In (row r i) j
-  pub rows : (i j : ℕ) → In group i → In along j → In (row r i) j
-  pub columns : (i j : ℕ) → In across i → In group j → In (row r i) j

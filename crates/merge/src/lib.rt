@@ -4,7 +4,7 @@ ghost use mathlib.Core.Bool.{true};
 ghost use Prim.Native.Nat.{_<_, _≤_, _^_};
 ghost use lib.Bits.{bitOr};
 ghost use Rattle.tables.specs.Rows.{Union};
-ghost use Rattle.merge.specs.Rows.{WithGap, LabelOf, TwoLabels, Painted, Spread};
+ghost use Rattle.merge.specs.Rows.{WithGap, LabelOf, TwoLabels, Painted};
 ghost use Rattle.merge.specs.Merging.{UnifiedOf, RoundOf, Joining, MergedOf};
 use ids::Var;
 use tables::Facts;
@@ -104,13 +104,6 @@ fn paint(t: [u8; 16], rows: u16, l: u8) -> [u8; 16]
     a
 }
 
-// The rows of the group with `along`, and the rows of `across` with the group.
-fn spread(t: [u16; 16], group: u16, along: u16, across: u16) -> [u16; 16]
-    ensures { λ r. ⌜ Spread t group along across r ⌝ }
-{
-    tables::raise(tables::raise(t, group, along), across, group)
-}
-
 // The tables after a step, and the variables that have yet to become the same.
 struct Round {
     clash: bool,
@@ -157,9 +150,9 @@ fn unify(f: Facts, x: u16, lower: u16, upper: u16) -> Round
     let parents = tables::union_rows(parent, group);
     let new_below = tables::raise(below, up, down);
     let new_above = tables::raise(above, down, up);
-    let new_child = spread(child, group, children, parents);
-    let new_parent = spread(parent, group, parents, children);
-    let new_differ = spread(differ, group, others, others);
+    let new_child = tables::raise(tables::raise(child, group, children), parents, group);
+    let new_parent = tables::raise(tables::raise(parent, group, parents), children, group);
+    let new_differ = tables::raise(tables::raise(differ, group, others), others, group);
     let new_label = paint(label, group, shown);
     let root = tables::gain(tables::meet(f.root, group), f.root, group);
     let leaf = tables::gain(tables::meet(f.leaf, group), f.leaf, group);

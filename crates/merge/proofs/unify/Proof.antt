@@ -80,17 +80,26 @@ raise-requires c κs = search needs
 raise-requires-2 : tie.Need-raise-requires-2
 raise-requires-2 c κs = search needs
 
-spread-requires : tie.Need-spread-requires
-spread-requires c κs = search needs
+raise-requires-3 : tie.Need-raise-requires-3
+raise-requires-3 c κs = search needs
 
-spread-requires-2 : tie.Need-spread-requires-2
-spread-requires-2 c κs = search needs
+raise-requires-4 : tie.Need-raise-requires-4
+raise-requires-4 c κs = search needs
 
-spread-requires-3 : tie.Need-spread-requires-3
-spread-requires-3 c κs = search needs
+raise-requires-5 : tie.Need-raise-requires-5
+raise-requires-5 c κs = search needs
+
+raise-requires-6 : tie.Need-raise-requires-6
+raise-requires-6 c κs = search needs
+
+raise-requires-7 : tie.Need-raise-requires-7
+raise-requires-7 c κs = search needs
+
+raise-requires-8 : tie.Need-raise-requires-8
+raise-requires-8 c κs = search needs
 
 paint-requires : tie.Need-paint-requires
-paint-requires c κs = c .before .before .before .before .before .before .before .before .before .label-of .ensures
+paint-requires c κs = c .before .before .before .before .before .before .before .before .before .before .before .before .label-of .ensures
 
 meet-requires-3 : tie.Need-meet-requires-3
 meet-requires-3 c κs = search needs
@@ -111,9 +120,9 @@ returns-3 c =
     let root-met = root .before in
     let label = root-met .before in
     let differ = label .before in
-    let parent = differ .before in
-    let child = parent .before in
-    let above = child .before in
+    let parent = differ .before .before in
+    let child = parent .before .before in
+    let above = child .before .before in
     let below = above .before in
     let parents = below .before in
     let children = parents .before in
@@ -141,9 +150,9 @@ returns-3 c =
       only = test .two-labels .ensures .one (free .if2 .left);
       below = below .raise .ensures;
       above = above .raise2 .ensures;
-      child = child .spread .ensures;
-      parent = parent .spread2 .ensures;
-      differ = differ .spread3 .ensures;
+      child = record { half = _; first = child .before .raise3 .ensures; last = child .raise4 .ensures };
+      parent = record { half = _; first = parent .before .raise5 .ensures; last = parent .raise6 .ensures };
+      differ = record { half = _; first = differ .before .raise7 .ensures; last = differ .raise8 .ensures };
       root = rw (root .gain .ensures, root-met .meet3 .ensures);
       leaf = rw (c .gain2 .ensures, leaf-met .meet4 .ensures);
       label = label .paint .ensures;
@@ -168,9 +177,12 @@ unify-spec =
     union-rows-requires-4
     raise-requires
     raise-requires-2
-    spread-requires
-    spread-requires-2
-    spread-requires-3
+    raise-requires-3
+    raise-requires-4
+    raise-requires-5
+    raise-requires-6
+    raise-requires-7
+    raise-requires-8
     paint-requires
     meet-requires-3
     gain-requires
