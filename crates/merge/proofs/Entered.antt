@@ -23,7 +23,8 @@ use Rattle.tables.proofs.Clashes.{free-clash, clash-free}
 use Rattle.tables.proofs.Groups.{sharing-same}
 use Rattle.merge.specs.Rows.{WithGap}
 use Rattle.merge.specs.Merging.{Awaits, held, waits, In, Held, Pending, MergedOf}
-use Rattle.tables.proofs.Bits.{or-case, or-l, or-r, one-is, one-has, meets-out, in-row}
+use Rattle.tables.proofs.Bits.{or-l, or-r, one-has, meets-out, in-row}
+use Rattle.merge.proofs.Loops.{two-case}
 use Rattle.merge.proofs.Rounds.{none-left, narrow}
 
 -- ---- below(a,b) entered
@@ -46,16 +47,10 @@ module _ (n : ℕ) (S : List Fact) (a b : Var) where
     abbrev pair : ℕ
     pair = bitOr (2 ^ a) (2 ^ b)
 
-    a-or-b : (i : Var) → In pair i → (i ≡ a) ⊎ (i ≡ b)
-    a-or-b i u = ⊎-elim (λ y. inl (one-is a i y)) (λ y. inr (one-is b i y)) (or-case (2 ^ a) (2 ^ b) i u)
-
-    by-two : (Q : Var → Type 0) → Q a → Q b → (i : Var) → In pair i → Q i
-    by-two Q p q i u = ⊎-elim (λ e. subst Q (sym e) p) (λ e. subst Q (sym e) q) (a-or-b i u)
-
     together : (i j : Var) → In pair i → In pair j → Settled n (below a b ∷ S) (below i j)
     together i j u v =
-        by-two (λ i. Settled n (below a b ∷ S) (below i j)) (by-two (λ j. Settled n (below a b ∷ S) (below a j)) (self-below ha) entered j v)
-        (by-two (λ j. Settled n (below a b ∷ S) (below b j)) back (self-below hb) j v) i u
+        two-case (λ i. Settled n (below a b ∷ S) (below i j)) a b (two-case (λ j. Settled n (below a b ∷ S) (below a j)) a b (self-below ha) entered j v)
+        (two-case (λ j. Settled n (below a b ∷ S) (below b j)) a b back (self-below hb) j v) i u
 
     start-complete : (φ : Fact) → List·Memᴰ φ (below a b ∷ S) → Awaits (In pair) (Held f) φ
     start-complete φ m =
