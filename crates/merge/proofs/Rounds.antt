@@ -1,5 +1,6 @@
 -- A round meets its contract: after a group is made, its parents have yet to become the same, or, where they are the same, nothing has.
-use mathlib.Core.Path.{_≡_, sym, subst}
+use mathlib.Core.Path.{_≡_, sym, _∙_, subst}
+use mathlib.Core.Bool.{true, false≢true}
 use mathlib.Core.List.{List}
 use Prim.Native.Nat.{ℕ}
 use native.Mathlib.Decide.{ℕ-discrete}
@@ -36,9 +37,12 @@ narrow n T f x r a p = go (ℕ-discrete r 0)
 
 -- ---- the contract
 
-pub round-parents : (f : Facts) (x : ℕ) (r : Round) → UnifiedOf f x r → (next : ℕ) → WithGap (r .facts .below) (r .next) next
-    → RoundOf f x (record { clash = r .clash; next = next; facts = r .facts })
-round-parents f x r u next a = record {
-  unified = record { clashes = u .clashes; goes-on = λ e n T p. narrow n T (r .facts) (r .next) next a (u .goes-on e n T p); falls = u .falls };
-  gap = λ z. let h = a .some z in subst (Gap (r .facts .below)) (sym (h .0)) (h .1);
-}
+module _ (f : Facts) (x : ℕ) (r : Round) (u : UnifiedOf f x r) where
+  pub round-refused : r .clash ≡ true → RoundOf f x r
+  round-refused t = record { unified = u; gap = λ e. absurd (false≢true (sym e ∙ t)) }
+
+  pub round-parents : (next : ℕ) → WithGap (r .facts .below) (r .next) next → RoundOf f x (record { clash = r .clash; next = next; facts = r .facts })
+  round-parents next a = record {
+    unified = record { clashes = u .clashes; goes-on = λ e n T p. narrow n T (r .facts) (r .next) next a (u .goes-on e n T p); falls = u .falls };
+    gap = λ e z. let h = a .some z in subst (Gap (r .facts .below)) (sym (h .0)) (h .1);
+  }

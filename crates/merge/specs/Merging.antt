@@ -58,7 +58,7 @@ pub record UnifiedOf (f : Facts) (x : ℕ) (r : Round) : Type 0 where
 
 pub record RoundOf (f : Facts) (x : ℕ) (r : Round) : Type 0 where
   pub unified : UnifiedOf f x r
-  pub gap : r .next ≢ 0 → Gap (r .facts .below) (r .next)
+  pub gap : r .clash ≡ false → r .next ≢ 0 → Gap (r .facts .below) (r .next)
 
 -- settled tables of some S, where below(b,a) follows from below(a,b)
 abbrev pub Joining : ℕ → Facts → Var → Var → Type 0

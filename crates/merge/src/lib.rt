@@ -178,6 +178,9 @@ fn next_round(f: Facts, x: u16, lower: u16, upper: u16) -> Round
     ensures { λ r. ⌜ RoundOf f x r ⌝ }
 {
     let mut r = unify(f, x, lower, upper);
+    if r.clash {
+        return r;
+    }
     let below = r.facts.below;
     r.next = with_gap(below, r.next);
     r

@@ -72,7 +72,7 @@ loop-again : tie.Need-loop-again Inv-loop μ-loop
 loop-again c =
     let e = c .before .before .before .before .before in
     let u = e .before in
-    ((λ T p. u .next-round .ensures .unified .goes-on (e .if1 .left) _ T (u .before .before .loop .inv .0 T p)), λ z. (u .next-round .ensures .gap z, c .before .union-rows .ensures, c .union-rows2 .ensures))
+    ((λ T p. u .next-round .ensures .unified .goes-on (e .if1 .left) _ T (u .before .before .loop .inv .0 T p)), λ z. (u .next-round .ensures .gap (e .if1 .left) z, c .before .union-rows .ensures, c .union-rows2 .ensures))
 
 returns-2 : tie.Need-returns-2 Inv-loop μ-loop
 returns-2 c =
