@@ -9,7 +9,7 @@ use native.Mathlib.Nat.{le-trans}
 use lib.Bits.{bitOr}
 use Rattle.meaning.specs.Tree.{Var}
 use Rattle.meaning.specs.Constraint.{Fact, below, leaf}
-use Rattle.meaning.specs.Settled.{Settled, given, chain, leaf-below, self-below, one-parent, Clash, differs, labels}
+use Rattle.meaning.specs.Settled.{Settled, given, chain, leaf-below, self-below, one-parent, Clash}
 use Rattle.meaning.specs.Finite.{Yes}
 use Rattle.meaning.specs.ReadOff.{Decides}
 use Rattle.meaning.proofs.Least.{settled-mono, settled-rules}
@@ -19,11 +19,13 @@ use Rattle.rowbits.specs.Bit.{bit}
 use Rattle.tables.specs.Tables.{row, has, Ready}
 use Rattle.tables.specs.Rows.{meets}
 use Rattle.tables.specs.declared.Facts.{Facts}
-use Rattle.tables.proofs.Labels.{label-is}
+use Rattle.tables.proofs.Clashes.{free-clash, clash-free}
+use Rattle.tables.proofs.Groups.{sharing-same}
 use Rattle.merge.specs.Rows.{WithGap}
 use Rattle.merge.specs.Merging.{Awaits, held, waits, In, Held, Pending, MergedOf}
-use Rattle.tables.proofs.Bits.{or-case, or-l, or-r, one-is, one-has, meets-out, in-row}
-use Rattle.merge.proofs.Rounds.{sharing-same, none-left, narrow}
+use Rattle.tables.proofs.Bits.{or-l, or-r, one-has, meets-out, in-row}
+use Rattle.merge.proofs.Loops.{two-case}
+use Rattle.merge.proofs.Rounds.{none-left, narrow}
 
 -- ---- below(a,b) entered
 
@@ -45,20 +47,10 @@ module _ (n : ℕ) (S : List Fact) (a b : Var) where
     abbrev pair : ℕ
     pair = bitOr (2 ^ a) (2 ^ b)
 
-    a-or-b : (i : Var) → In pair i → (i ≡ a) ⊎ (i ≡ b)
-    a-or-b i u = ⊎-elim (λ y. inl (one-is a i y)) (λ y. inr (one-is b i y)) (or-case (2 ^ a) (2 ^ b) i u)
-
-    by-two : (Q : Var → Type 0) → Q a → Q b → (i : Var) → In pair i → Q i
-    by-two Q p q i u = ⊎-elim (λ e. subst Q (sym e) p) (λ e. subst Q (sym e) q) (a-or-b i u)
-
     together : (i j : Var) → In pair i → In pair j → Settled n (below a b ∷ S) (below i j)
     together i j u v =
-        by-two (λ i. Settled n (below a b ∷ S) (below i j)) (by-two (λ j. Settled n (below a b ∷ S) (below a j)) (self-below ha) entered j v)
-        (by-two (λ j. Settled n (below a b ∷ S) (below b j)) back (self-below hb) j v) i u
-
-    start-sound : (φ : Fact) → Awaits (In pair) (Held f) φ → Settled n (below a b ∷ S) φ
-    start-sound φ (held u) = more (r .decides .sound u)
-    start-sound φ (waits {x = i} {y = j} u v) = together i j u v
+        two-case (λ i. Settled n (below a b ∷ S) (below i j)) a b (two-case (λ j. Settled n (below a b ∷ S) (below a j)) a b (self-below ha) entered j v)
+        (two-case (λ j. Settled n (below a b ∷ S) (below b j)) a b back (self-below hb) j v) i u
 
     start-complete : (φ : Fact) → List·Memᴰ φ (below a b ∷ S) → Awaits (In pair) (Held f) φ
     start-complete φ m =
@@ -67,14 +59,17 @@ module _ (n : ℕ) (S : List Fact) (a b : Var) where
 
     pub start : Pending n (below a b ∷ S) pair f
     start = record {
-      few = few;
-      inside = λ φ m. ⊎-elim (λ e. subst (Within n) (sym e) (ha, hb)) (r .inside φ) (List·Memᴰ·cases-cons m);
-      sound = start-sound;
+      standing = record {
+        few = few;
+        inside = λ φ m. ⊎-elim (λ e. subst (Within n) (sym e) (ha, hb)) (r .inside φ) (List·Memᴰ·cases-cons m);
+        sound = λ φ u. more (r .decides .sound u);
+        sharing = sharing-same n (Settled n S) (Held f) (λ φ h. r .decides .complete h) (λ φ u. r .decides .sound u) (settled-rules n S .sharing);
+        free = clash-free n S f (r .decides) (r .free);
+        mirrored = r .mirrored;
+      };
+      due = together;
       complete = start-complete;
-      sharing = sharing-same n (Settled n S) (Held f) (λ φ h. r .decides .complete h) (λ φ u. r .decides .sound u) (settled-rules n S .sharing);
       one-parent = λ x y z u v. held (r .decides .complete (one-parent (r .decides .sound u) (r .decides .sound v)));
-      no-self-differ = λ x u. r .free (differs (r .decides .sound u));
-      mirrored = r .mirrored;
     }
 
 -- ---- nothing has to become the same any more
@@ -82,15 +77,11 @@ module _ (n : ℕ) (S : List Fact) (a b : Var) where
 module _ (n : ℕ) (T : List Fact) (f : Facts) (p : Pending n T 0 f) where
   done-decides : Decides n T (has f)
   done-decides =
-      rules-decide n T (has f) (λ φ u. p .sound φ (held u)) (λ φ m. none-left f φ (p .complete φ m))
-      (record { sharing = p .sharing; one-parent = λ x y z u v. none-left f (below x y) (p .one-parent x y z u v) })
-
-  done-free : ¬ Clash n T
-  done-free (differs {x} c) = p .no-self-differ x (done-decides .complete c)
-  done-free (labels {x} {l} {m} c d z) = z (sym (label-is f x l (done-decides .complete c) .0) ∙ label-is f x m (done-decides .complete d) .0)
+      rules-decide n T (has f) (p .standing .sound) (λ φ m. none-left f φ (p .complete φ m))
+      (record { sharing = p .standing .sharing; one-parent = λ x y z u v. none-left f (below x y) (p .one-parent x y z u v) })
 
   pub done : Ready n T f
-  done = record { inside = p .inside; free = done-free; decides = done-decides; mirrored = p .mirrored }
+  done = record { inside = p .standing .inside; free = free-clash n T f done-decides (p .standing .free); decides = done-decides; mirrored = p .standing .mirrored }
 
 -- ---- the contract
 

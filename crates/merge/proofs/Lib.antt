@@ -3,6 +3,7 @@ mod Loops
 mod Glue
 mod Reach
 mod Masks
-mod Shared
+mod ByTable
+mod Making
 mod Rounds
 pub mod Entered

@@ -1,10 +1,10 @@
--- What the loops over one table know after some rows: rows changed, the rows named gathered or compared, and their labels.
+-- What the loops over one table know after some rows: the rows named gathered or compared, and their labels.
 use mathlib.Core.Path.{_≡_, refl, sym, _∙_, subst}
 use mathlib.Core.Logic.{_≢_, _⊎_, ⊎-elim}
 use mathlib.Core.Bool.{Bool, true, false, false≢true, _&&_, not}
 use mathlib.Core.List.{List}
-use Prim.Native.Nat.{ℕ, _^_, _<_, _≤_}
-use native.Mathlib.Decide.{decLt, ℕ-discrete}
+use Prim.Native.Nat.{ℕ, _^_, _<_}
+use native.Mathlib.Decide.{ℕ-discrete}
 use native.Mathlib.Omega.{arith}
 use lib.Dec.{eqb}
 use lib.ListN.{set, length, length-set}
@@ -20,49 +20,44 @@ use Rattle.tables.proofs.Members.{Passed, passed-none, next-in, next-named, pas
 use Rattle.merge.specs.Rows.{WithGap, LabelOf, TwoLabels, Painted}
 use Rattle.tables.proofs.Tested.{and-yes, yes-and, not-eq, eq-not, not-yes}
 
--- ---- rows changed
-
--- where only the rows named change, and no row is named past the last, one equation holds of every row
-pub all-rows : (new : Bool → ℕ → ℕ) → ((v : ℕ) → new false v ≡ v) → (rows : ℕ) → rows < 65536 → (t r : List ℕ)
-    → ((i : ℕ) → i < 16 → row r i ≡ new (bit rows i) (row t i)) → ((i : ℕ) → 16 ≤ i → row r i ≡ row t i) → (i : ℕ) → row r i ≡ new (bit rows i) (row t i)
-all-rows new same rows small t r within beyond i = go (decLt i 16)
-  where
-    out : (b : Bool) → bit rows i ≡ b → 16 ≤ i → row t i ≡ new b (row t i)
-    out true e l = absurd (let k = in-row rows i small e in omega arith)
-    out false e l = sym (same (row t i))
-
-    go : Dec (i < 16) → row r i ≡ new (bit rows i) (row t i)
-    go (yes l) = within i l
-    go (no l) = beyond i (omega arith) ∙ out (bit rows i) refl (omega arith)
-
 -- ---- whether one of them lacks one
 
 abbrev pub Whole : List ℕ → ℕ → ℕ → Type 0
 Whole t rows i = (j : ℕ) → Yes (bit rows j) → Yes (bit (row t i) j)
 
-pub is-whole : (t : List ℕ) (rows x : ℕ) → rows < 65536 → without rows (row t x) ≡ 0 → Whole t rows x
-is-whole t rows x small z j v =
+-- all of the rows named is in v
+all-in : (rows v : ℕ) → rows < 65536 → without rows v ≡ 0 → (j : ℕ) → Yes (bit rows j) → Yes (bit v j)
+all-in rows v small z j u =
     ⊎-elim (λ y. y)
-    (λ y. none-in j (subst (λ (k : ℕ). Yes (bit k j)) z (without-in rows (row t x) j (in-row rows j small v) v (λ q. clash q y))))
-    (yes-case (bit (row t x) j))
+    (λ y. none-in j (subst (λ (k : ℕ). Yes (bit k j)) z (without-in rows v j (in-row rows j small u) u (λ q. clash q y)))) (yes-case (bit v j))
+
+-- one of the rows named is not in v
+one-out : (rows v : ℕ) → rows < 65536 → without rows v ≢ 0 → (j : ℕ) × Yes (bit rows j) × (¬ Yes (bit v j))
+unfolding without
+one-out rows v small z =
+    let s : bitAnd rows (bitXor v 65535) < 65536 = let l = and-le-l rows (bitXor v 65535) in omega arith in
+    let w = some-in _ s z in
+    let o = without-out rows v (w .0) (in-row _ (w .0) s (w .1)) (w .1) in
+    (w .0, o .0, o .1)
+
+pub is-whole : (t : List ℕ) (rows x : ℕ) → rows < 65536 → without rows (row t x) ≡ 0 → Whole t rows x
+is-whole t rows x small z = all-in rows (row t x) small z
+
+has-gap : (t : List ℕ) (rows i j : ℕ) → Yes (bit rows i) → Yes (bit rows j) → ¬ Yes (bit (row t i) j) → WithGap t rows rows
+has-gap t rows i j u v m = record {
+  none = λ e. none-in i (subst (λ (k : ℕ). Yes (bit k i)) e u);
+  some = λ _. (refl, record { at = i; lacks = j; at-in = u; lacks-in = v; missing = m });
+}
 
 pub is-apart : (t : List ℕ) (rows x : ℕ) → rows < 65536 → Yes (bit rows x) → without rows (row t x) ≢ 0 → WithGap t rows rows
-unfolding without
-is-apart t rows x small u z =
-    let s : bitAnd rows (bitXor (row t x) 65535) < 65536 = let l = and-le-l rows (bitXor (row t x) 65535) in omega arith in
-    let w = some-in _ s z in
-    let k = without-out rows (row t x) (w .0) (in-row _ (w .0) s (w .1)) (w .1) in
-    record {
-      none = λ e. none-in x (subst (λ (k : ℕ). Yes (bit k x)) e u);
-      some = λ _. (refl, record { at = x; lacks = w .0; at-in = u; lacks-in = k .0; missing = k .1 });
-    }
+is-apart t rows x small u z = let w = one-out rows (row t x) small z in has-gap t rows x (w .0) u (w .1) (w .2)
 
 pub not-apart : (t : List ℕ) (rows rest : ℕ) → Passed (Whole t rows) rows rest → rest ≡ 0 → WithGap t rows 0
 not-apart t rows rest w z = record { none = λ _ i j u v. passed-all _ rows rest w z i u j v; some = λ n. absurd (n refl) }
 
 -- ---- two rows
 
-two-case : (Q : ℕ → Type 0) (a b : ℕ) → Q a → Q b → (i : ℕ) → Yes (bit (bitOr (2 ^ a) (2 ^ b)) i) → Q i
+pub two-case : (Q : ℕ → Type 0) (a b : ℕ) → Q a → Q b → (i : ℕ) → Yes (bit (bitOr (2 ^ a) (2 ^ b)) i) → Q i
 two-case Q a b p q i u =
     ⊎-elim (λ y. subst Q (sym (one-is a i y)) p) (λ y. subst Q (sym (one-is b i y)) q) (or-case (2 ^ a) (2 ^ b) i u)
 
@@ -88,33 +83,15 @@ module _ (t : List ℕ) (a b : ℕ) (ha : a < 16) (hb : b < 16) where
 
   pub not-apart-two : without two (bitAnd (row t a) (row t b)) ≡ 0 → WithGap t two 0
   not-apart-two z = record {
-    none = λ _ i j u v. two-case (λ k. Yes (bit (row t k) j)) a b (both j v .0) (both j v .1) i u;
+    none = λ _ i j u v. let h = in-both (row t a) (row t b) j (all-in two _ two-small z j v) in two-case (λ k. Yes (bit (row t k) j)) a b (h .0) (h .1) i u;
     some = λ n. absurd (n refl);
   }
-    where
-      both : (j : ℕ) → Yes (bit two j) → Yes (bit (row t a) j) × Yes (bit (row t b) j)
-      both j v = in-both (row t a) (row t b) j
-          (⊎-elim (λ y. y)
-          (λ y. none-in j (subst (λ (k : ℕ). Yes (bit k j)) z (without-in two (bitAnd (row t a) (row t b)) j (in-row two j two-small v) v (λ q. clash q y))))
-          (yes-case (bit (bitAnd (row t a) (row t b)) j)))
 
   pub is-apart-two : without two (bitAnd (row t a) (row t b)) ≢ 0 → WithGap t two two
-  unfolding without
   is-apart-two z =
-      let l = and-le-l two (bitXor (bitAnd (row t a) (row t b)) 65535) in
-      let k = two-small in
-      let s : bitAnd two (bitXor (bitAnd (row t a) (row t b)) 65535) < 65536 = omega arith in
-      let w = some-in _ s z in
-      let o = without-out two (bitAnd (row t a) (row t b)) (w .0) (in-row _ (w .0) s (w .1)) (w .1) in
-      record {
-        none = λ e. none-in a (subst (λ (k : ℕ). Yes (bit k a)) e a-in);
-        some = λ _. (
-          refl,
-          ⊎-elim
-              (λ y. record { at = b; lacks = w .0; at-in = b-in; lacks-in = o .0; missing = λ q. o .1 (both-in (row t a) (row t b) (w .0) y q) })
-              (λ y. record { at = a; lacks = w .0; at-in = a-in; lacks-in = o .0; missing = λ q. clash q y }) (yes-case (bit (row t a) (w .0))),
-        );
-      }
+      let w = one-out two _ two-small z in
+      ⊎-elim (λ y. has-gap t two b (w .0) b-in (w .1) (λ q. w .2 (both-in (row t a) (row t b) (w .0) y q))) (λ y. has-gap t two a (w .0) a-in (w .1) (λ q. clash q y))
+      (yes-case (bit (row t a) (w .0)))
 
 -- ---- labels
 

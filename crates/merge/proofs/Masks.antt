@@ -16,7 +16,7 @@ use Rattle.tables.specs.Tables.{row, has, Columns}
 use Rattle.tables.specs.declared.Facts.{Facts}
 use Rattle.tables.specs.Rows.{meets, Union}
 use Rattle.tables.proofs.Bits.{or-case, or-l, or-r, none-in, meets-in, meets-out, in-row}
-use Rattle.merge.specs.Merging.{In, Held, held, waits, Pending}
+use Rattle.merge.specs.Merging.{In, Held, Pending}
 use Rattle.merge.proofs.Reach.{Above, Reach}
 
 in-pick : (t : Bool) (w i : ℕ) → In (pick t w 0) i → Yes t × In w i
@@ -45,10 +45,10 @@ columns-union t r rows a small c u i l y = u .to (y .0) i (y .1) (c i (y .0) l (
 
 module _ (n : ℕ) (T : List Fact) (x : ℕ) (small : x < 65536) (f : Facts) (p : Pending n T x f) where
   in-table : (i j : Var) → Held f (below i j) → i < 16
-  in-table i j u = le-trans (settled-within n T (p .inside) (p .sound (below i j) (held u)) .0) (p .few)
+  in-table i j u = le-trans (settled-within n T (p .standing .inside) (p .standing .sound (below i j) u) .0) (p .standing .few)
 
   itself : (i : Var) → In x i → Held f (below i i)
-  itself i u = p .sharing .self-below i (settled-within n T (p .inside) (p .sound (below i i) (waits u u)) .0)
+  itself i u = p .standing .sharing .self-below i (settled-within n T (p .standing .inside) (p .due i i u u) .0)
 
   -- x with the unions of its rows of below and of above, and what is above a leaf's group
   module _ (w near far : ℕ) (uw : Union (f .below) x w) (un : Union (f .above) x near)
@@ -58,11 +58,11 @@ module _ (n : ℕ) (T : List Fact) (x : ℕ) (small : x < 65536) (f : Facts) (p 
 
     near-is : (i : Var) → In (bitOr x near) i → Above (Held f) (In x) i
     unfolding has
-    near-is i u = ⊎-elim (λ y. (i, y, itself i y)) (union-columns (f .below) (f .above) x near small (p .mirrored .ancestors) un i) (or-case x near i u)
+    near-is i u = ⊎-elim (λ y. (i, y, itself i y)) (union-columns (f .below) (f .above) x near small (p .standing .mirrored .ancestors) un i) (or-case x near i u)
 
     is-near : (i : Var) → Above (Held f) (In x) i → In (bitOr x near) i
     unfolding has
-    is-near i a = or-r x near i (columns-union (f .below) (f .above) x near small (p .mirrored .ancestors) un i (in-table i (a .0) (a .2)) a)
+    is-near i a = or-r x near i (columns-union (f .below) (f .above) x near small (p .standing .mirrored .ancestors) un i (in-table i (a .0) (a .2)) a)
 
     pub reach : Reach (Held f) (In x) (In (bitOr (bitOr x near) far)) (In (bitOr x w))
     unfolding has
@@ -70,13 +70,13 @@ module _ (n : ℕ) (T : List Fact) (x : ℕ) (small : x < 65536) (f : Facts) (p 
       down-is = λ i u. ⊎-elim (λ y. (i, y, itself i y)) (uw .from i) (or-case x w i u);
       is-down = λ i a. or-r x w i (uw .to (a .0) i (a .1) (a .2));
       up-is = λ i u. ⊎-elim (λ y. inl (near-is i y))
-          (λ y. let a = union-columns (f .below) (f .above) _ far far-small (p .mirrored .ancestors) uf i y in
+          (λ y. let a = union-columns (f .below) (f .above) _ far far-small (p .standing .mirrored .ancestors) uf i y in
           let b = in-pick _ (bitOr x w) (a .0) (a .1) in
           let e = meets-out _ _ (or-lt 16 x near small (un .small)) (b .0) in
           inr ((e .0, near-is (e .0) (e .1), e .2), (a .0, b .1, a .2)))
           (or-case (bitOr x near) far i u);
       is-up = λ i a. or-l (bitOr x near) far i (is-near i a);
       far-up = λ i l a. or-r (bitOr x near) far i
-          (columns-union (f .below) (f .above) _ far far-small (p .mirrored .ancestors) uf i (in-table i (a .0) (a .2))
+          (columns-union (f .below) (f .above) _ far far-small (p .standing .mirrored .ancestors) uf i (in-table i (a .0) (a .2))
           (a .0, pick-in _ _ (a .0) (meets-in _ _ (l .0) (is-near (l .0) (l .1)) (l .2)) (a .1), a .2));
     }

@@ -8,7 +8,6 @@ use Rattle.meaning.specs.Constraint.{Fact, below, leaf}
 use Rattle.meaning.specs.Settled.{Settled, chain, leaf-below}
 use Rattle.meaning.specs.Closed.{Within, Inside, Sharing}
 use Rattle.meaning.proofs.Least.{settled-within}
-use Rattle.merge.specs.Merging.{Awaits, held, waits}
 use Rattle.merge.proofs.Glue.{Cut}
 
 module _ (P : Fact → Type 0) (X : Var → Type 0) where
@@ -31,12 +30,12 @@ pub record Reach (P : Fact → Type 0) (X Up Down : Var → Type 0) : Type 0 whe
   pub far-up : (x : Var) → Leafy P X → Above P Down x → Up x
 
 module _ (n : ℕ) (T : List Fact) (inside : Inside n T) (P : Fact → Type 0) (X Up Down : Var → Type 0) (s : Sharing n P)
-    (sound : (φ : Fact) → Awaits X P φ → Settled n T φ) (r : Reach P X Up Down) where
+    (sound : (φ : Fact) → P φ → Settled n T φ) (due : (x y : Var) → X x → X y → Settled n T (below x y)) (r : Reach P X Up Down) where
   pub within : (φ : Fact) → P φ → Within n φ
-  within φ u = settled-within n T inside (sound φ (held u))
+  within φ u = settled-within n T inside (sound φ u)
 
   itself : {x : Var} → X x → P (below x x)
-  itself u = s .self-below _ (settled-within n T inside (sound _ (waits u u)) .0)
+  itself u = s .self-below _ (settled-within n T inside (due _ _ u u) .0)
 
   leafy : {x : Var} → P (leaf x) → Up x → Leafy P X
   leafy {x} l u = ⊎-elim (λ a. (x, a, l)) (λ a. a .0) (r .up-is x u)
@@ -47,10 +46,12 @@ module _ (n : ℕ) (T : List Fact) (inside : Inside n T) (P : Fact → Type 0) (
 
   pub cut : Cut P Up Down
   cut = record {
-    up = λ x y a u. ⊎-elim
-        (λ b. r .is-up x (b .0, b .1, s .chain _ _ _ a (b .2)))
-        (λ b. r .far-up x (b .0) (b .1 .0, b .1 .1, s .chain _ _ _ a (b .1 .2))) (r .up-is y u);
-    down = λ x y u a. let b = r .down-is x u in r .is-down y (b .0, b .1, s .chain _ _ _ (b .2) a);
+    ends = record {
+      up = λ x y a u. ⊎-elim
+          (λ b. r .is-up x (b .0, b .1, s .chain _ _ _ a (b .2)))
+          (λ b. r .far-up x (b .0) (b .1 .0, b .1 .1, s .chain _ _ _ a (b .1 .2))) (r .up-is y u);
+      down = λ x y u a. let b = r .down-is x u in r .is-down y (b .0, b .1, s .chain _ _ _ (b .2) a);
+    };
     leaf-up = λ x y l u v. r .far-up y (leafy l u) (y, v, s .self-below y (within _ (r .down-is y v .2) .1));
     leaf-down = λ x l u. ⊎-elim
         (λ b. r .is-down x (b .0, b .1, s .leaf-below _ _ l (b .2)))
@@ -58,11 +59,11 @@ module _ (n : ℕ) (T : List Fact) (inside : Inside n T) (P : Fact → Type 0) (
   }
 
   near-glue : {x y : Var} → Above P X x → Down y → Settled n T (below x y)
-  near-glue {x} {y} a v = let b = r .down-is y v in chain (sound _ (held (a .2))) (chain (sound _ (waits (a .1) (b .1))) (sound _ (held (b .2))))
+  near-glue {x} {y} a v = let b = r .down-is y v in chain (sound _ (a .2)) (chain (due _ _ (a .1) (b .1)) (sound _ (b .2)))
 
   -- a leaf at or above X is the same as all that is below it
   pub glue : (x y : Var) → Up x → Down y → Settled n T (below x y)
   glue x y u v =
       ⊎-elim (λ a. near-glue a v)
-      (λ a. chain (sound _ (held (a .1 .2))) (chain (leaf-below (sound _ (held (a .0 .2))) (near-glue (a .0 .1) (a .1 .1))) (near-glue (a .0 .1) v)))
+      (λ a. chain (sound _ (a .1 .2)) (chain (leaf-below (sound _ (a .0 .2)) (near-glue (a .0 .1) (a .1 .1))) (near-glue (a .0 .1) v)))
       (r .up-is x u)

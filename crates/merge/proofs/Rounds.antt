@@ -1,225 +1,16 @@
--- A round meets its contract. Where its tests find a clash, the given facts have one; elsewhere its tables are those of the glued facts, and
--- only the parents of the group that it made have yet to become the same.
-use mathlib.Core.Path.{_≡_, refl, sym, subst}
-use mathlib.Core.Logic.{_≢_, _⊎_, inl, ⊎-elim}
-use mathlib.Core.Bool.{true, false, false≢true}
+-- A round meets its contract: after a group is made, its parents have yet to become the same, or, where they are the same, nothing has.
+use mathlib.Core.Path.{_≡_, sym, _∙_, subst}
+use mathlib.Core.Bool.{true, false≢true}
 use mathlib.Core.List.{List}
-use Prim.Native.Nat.{ℕ, _<_, _≤_}
-use native.Mathlib.Nat.{le-trans}
+use Prim.Native.Nat.{ℕ}
 use native.Mathlib.Decide.{ℕ-discrete}
-use native.Mathlib.Omega.{arith}
-use lib.Bits.{bitOr, bitAnd, and-le-r, or-lt}
-use Rattle.meaning.specs.Tree.{Var}
-use Rattle.meaning.specs.Constraint.{Fact, child, below, differ, root, leaf, label}
-use Rattle.meaning.specs.Settled.{Settled, Clash, differs, labels, one-parent, same-child, same-differ, same-label}
-use Rattle.meaning.specs.Finite.{Yes, neg, pick, one}
-use Rattle.meaning.specs.Closed.{Within, Sharing}
-use Rattle.meaning.proofs.Finite.{sum-le, sum-lt, one-le, one-lt}
-use Rattle.meaning.proofs.Tests.{clash, no-neg}
-use Rattle.rowbits.specs.Bit.{bit}
-use Rattle.tables.specs.Tables.{row, has}
-use Rattle.tables.specs.Rows.{gained, meets, Raised, Union}
+use Rattle.meaning.specs.Constraint.{Fact, below}
+use Rattle.tables.specs.Tables.{has}
 use Rattle.tables.specs.declared.Facts.{Facts}
-use Rattle.tables.proofs.Bits.{in-both, both-in, none-in, meets-in, meets-out, in-row, or-l}
-use Rattle.tables.proofs.Labels.{label-has}
-use Rattle.merge.specs.Rows.{Gap, WithGap, LabelOf, Painted}
-use Rattle.merge.specs.Merging.{Awaits, held, waits, In, Held, Pending, lacking, RoundOf}
-use Rattle.merge.proofs.Glue.{Cut, Twin, Glued, Over, glued-sharing, glued-apart, arrived, glued-parent, glued-sound}
-use Rattle.merge.proofs.Reach.{Reach, within, ends, cut, glue}
-use Rattle.merge.proofs.Masks.{reach, union-columns, columns-union}
-use Rattle.merge.proofs.Shared.{rises, raised-out, raised-in, raised-keeps, raised-has, columns-raised, Shares, two-out, two-in, two-over, one-out, one-in, label-out, label-in}
-
--- a set of facts and another one that has the same
-pub sharing-same : (n : ℕ) (P Q : Fact → Type 0) → ((φ : Fact) → P φ → Q φ) → ((φ : Fact) → Q φ → P φ) → Sharing n P → Sharing n Q
-sharing-same n P Q to from s = record {
-  child-below = λ x y a. to _ (s .child-below x y (from _ a));
-  child-differ = λ x y a. to _ (s .child-differ x y (from _ a));
-  self-below = λ x l. to _ (s .self-below x l);
-  chain = λ x y z a b. to _ (s .chain x y z (from _ a) (from _ b));
-  root-below = λ x y a l. to _ (s .root-below x y (from _ a) l);
-  leaf-below = λ x y a b. to _ (s .leaf-below x y (from _ a) (from _ b));
-  differ-back = λ x y a. to _ (s .differ-back x y (from _ a));
-  same-parent = λ x y u a b c. to _ (s .same-parent x y u (from _ a) (from _ b) (from _ c));
-  same-child = λ x y u a b c. to _ (s .same-child x y u (from _ a) (from _ b) (from _ c));
-  same-differ = λ x y u a b c. to _ (s .same-differ x y u (from _ a) (from _ b) (from _ c));
-  same-root = λ x u a b c. to _ (s .same-root x u (from _ a) (from _ b) (from _ c));
-  same-leaf = λ x u a b c. to _ (s .same-leaf x u (from _ a) (from _ b) (from _ c));
-  same-label = λ x u l a b c. to _ (s .same-label x u l (from _ a) (from _ b) (from _ c));
-}
-
--- g is f with u glued over w, where the group m has no clash: its parents, its children, what differs from it, and its label are
--- given to all of it, and it to all of them
-pub record Made (f : Facts) (u w m parents : ℕ) (g : Facts) : Type 0 where
-  pub is-parents : Union (f .parent) m parents
-  pub children : ℕ
-  pub is-children : Union (f .child) m children
-  pub others : ℕ
-  pub is-others : Union (f .differ) m others
-  pub apart : ¬ Yes (meets others m)
-  pub shown : ℕ
-  pub is-shown : LabelOf (f .label) m shown
-  pub only : (i : Var) → In m i → row (f .label) i ≢ 0 → row (f .label) i ≡ shown
-  pub below : Raised (f .below) u w (g .below)
-  pub above : Raised (f .above) w u (g .above)
-  pub child-half : List ℕ
-  pub child-first : Raised (f .child) m children child-half
-  pub child : Raised child-half parents m (g .child)
-  pub parent-half : List ℕ
-  pub parent-first : Raised (f .parent) children m parent-half
-  pub parent : Raised parent-half m parents (g .parent)
-  pub differ-half : List ℕ
-  pub differ-first : Raised (f .differ) m others differ-half
-  pub differ : Raised differ-half others m (g .differ)
-  pub root : g .root ≡ gained (meets (f .root) m) (f .root) m
-  pub leaf : g .leaf ≡ gained (meets (f .leaf) m) (f .leaf) m
-  pub label : Painted (f .label) m shown (g .label)
-
-module _ (n : ℕ) (T : List Fact) (f : Facts) (x u w : ℕ) (p : Pending n T x f) (r : Reach (Held f) (In x) (In u) (In w)) where
-  abbrev P : Fact → Type 0
-  P = Held f
-
-  abbrev m : ℕ
-  m = bitAnd u w
-
-  s : Sharing n P
-  s = p .sharing
-
-  c : Cut P (In u) (In w)
-  c = cut n T (p .inside) P (In x) (In u) (In w) s (p .sound) r
-
-  inside-of : (φ : Fact) → P φ → Within n φ
-  inside-of = within n T (p .inside) P (In x) (In u) (In w) s (p .sound) r
-
-  settled : (φ : Fact) → P φ → Settled n T φ
-  settled φ a = p .sound φ (held a)
-
-  over-down : (i j : Var) → In u i → In w j → Settled n T (below i j)
-  over-down = glue n T (p .inside) P (In x) (In u) (In w) s (p .sound) r
-
-  -- the group is settled to be one
-  one-group : (i j : Var) → In m i → In m j → Settled n T (below i j)
-  one-group i j a b = over-down i j (in-both u w i a .0) (in-both u w j b .1)
-
-  -- ---- a clash
-
-  pub clash-differs : (d : ℕ) → Union (f .differ) m d → Yes (meets d m) → Clash n T
-  unfolding has
-  clash-differs d ud y =
-      let j = meets-out d m (ud .small) y in
-      let i = ud .from (j .0) (j .1) in
-      differs (same-differ (one-group (i .0) (j .0) (i .1) (j .2)) (one-group (j .0) (i .0) (j .2) (i .1)) (settled (differ (i .0) (j .0)) (i .2)))
-
-  pub clash-labels : (l : ℕ) → LabelOf (f .label) m l → (i : Var) → In m i → row (f .label) i ≢ 0 → row (f .label) i ≢ l → Clash n T
-  clash-labels l lo i a z k =
-      let e : l ≢ 0 = λ q. z (lo .none q i a) in
-      let j = lo .some e in
-      labels (settled _ (label-has f i _ refl z)) (same-label (one-group (j .0) i (j .1) a) (one-group i (j .0) a (j .1)) (settled _ (label-has f (j .0) l (j .2) e))) k
-
-  -- ---- the tables
-
-  twin : (i : Var) → i < n → Twin P (In u) (In w) i i
-  twin i l = record { to = inl (s .self-below i l); fro = inl (s .self-below i l) }
-
-  module _ (up-small : u < 65536) (down-small : w < 65536) (root-small : f .root < 65536) (leaf-small : f .leaf < 65536) (parents : ℕ) (g : Facts) (q : Made f u w m parents g) where
-    small : m < 65536
-    small = let h = and-le-r u w in omega arith
-
-    -- no two variables of the group differ
-    apart-in : (i j : Var) → In m i → In m j → ¬ P (differ i j)
-    unfolding has
-    apart-in i j a b y = q .apart (meets-in (q .others) m j (q .is-others .to i j a y) b)
-
-    shares-child : Shares n P u w s c (f .child) (g .child) parents
-    unfolding has
-    shares-child = record {
-      to-left = λ i j k y z v. s .same-parent i j k y z v;
-      to-right = λ i j k y z v. s .same-child i j k y z v;
-      selves = λ i j v. let h = inside-of (child i j) v in (twin i (h .0), twin j (h .1));
-      apart = λ i j y z v. apart-in i j y z (s .child-differ i j v);
-      along = q .children;
-      is-along = q .is-children;
-      from = union-columns (f .child) (f .parent) m parents small (p .mirrored .parents) (q .is-parents);
-      to = λ i k y v. columns-union (f .child) (f .parent) m parents small (p .mirrored .parents) (q .is-parents) i (le-trans (inside-of (child i k) v .0) (p .few)) (k, y, v);
-      half = q .child-half;
-      rows = rises small (q .child-first);
-      columns = rises (q .is-parents .small) (q .child);
-    }
-
-    shares-differ : Shares n P u w s c (f .differ) (g .differ) (q .others)
-    unfolding has
-    shares-differ = record {
-      to-left = λ i j k y z v. s .same-differ i j k y z v;
-      to-right = λ i j k y z v. s .differ-back k i (s .same-differ j i k y z (s .differ-back i j v));
-      selves = λ i j v. let h = inside-of (differ i j) v in (twin i (h .0), twin j (h .1));
-      apart = apart-in;
-      along = q .others;
-      is-along = q .is-others;
-      from = λ i y. let k = q .is-others .from i y in (k .0, k .1, s .differ-back (k .0) i (k .2));
-      to = λ i k y v. q .is-others .to k i y (s .differ-back i k v);
-      half = q .differ-half;
-      rows = rises small (q .differ-first);
-      columns = rises (q .is-others .small) (q .differ);
-    }
-
-    has-glued : (φ : Fact) → Held g φ → Glued P (In u) (In w) φ
-    unfolding has
-    has-glued (child i j) y = two-out n P u w s c _ _ _ shares-child i j y
-    has-glued (below i j) y = raised-out (f .below) u w (g .below) (rises up-small (q .below)) i j y
-    has-glued (differ i j) y = two-out n P u w s c _ _ _ shares-differ i j y
-    has-glued (root i) y = one-out n P u w s c (f .root) root-small (λ i k. s .same-root i k) (λ i v. twin i (inside-of (root i) v)) i (subst (λ (k : ℕ). In k i) (q .root) y)
-    has-glued (leaf i) y = one-out n P u w s c (f .leaf) leaf-small (λ i k. s .same-leaf i k) (λ i v. twin i (inside-of (leaf i) v)) i (subst (λ (k : ℕ). In k i) (q .leaf) y)
-    has-glued (label i l) y =
-        label-out n P u w s c (f .label) l (λ i k. s .same-label i k l) (λ i v. twin i (inside-of (label i l) v)) (q .shown) (q .is-shown) (q .only) (g .label) (q .label) i y
-
-    glued-has : (φ : Fact) → Glued P (In u) (In w) φ → Held g φ
-    unfolding has
-    glued-has (child i j) y = two-in n P u w s c _ _ _ shares-child i j y
-    glued-has (below i j) y = raised-in (f .below) u w (g .below) (rises up-small (q .below)) i j y
-    glued-has (differ i j) y = two-in n P u w s c _ _ _ shares-differ i j y
-    glued-has (root i) y = subst (λ (k : ℕ). In k i) (sym (q .root)) (one-in n P u w s c (f .root) root-small (λ i k. s .same-root i k) (λ i v. twin i (inside-of (root i) v)) i y)
-    glued-has (leaf i) y = subst (λ (k : ℕ). In k i) (sym (q .leaf)) (one-in n P u w s c (f .leaf) leaf-small (λ i k. s .same-leaf i k) (λ i v. twin i (inside-of (leaf i) v)) i y)
-    glued-has (label i l) y =
-        label-in n P u w s c (f .label) l (λ i k. s .same-label i k l) (λ i v. twin i (inside-of (label i l) v)) (q .shown) (q .is-shown) (q .only) (g .label) (q .label) i y
-
-    over : (i : Var) → Over P (In u) (In w) i → In parents i
-    unfolding has
-    over i o = two-over n P u w s c _ _ _ shares-child i (o .it) (both-in u w (o .it) (o .mid .0) (o .mid .1)) (glued-has (child i (o .it)) (o .holds))
-
-    -- two parents of the group
-    awaited : (i j : Var) → In parents i → In parents j → Settled n T (below i j)
-    unfolding has
-    awaited i j y z =
-        let k = shares-child .from i y in
-        let l = shares-child .from j z in
-        one-parent (settled (child i (k .0)) (k .2))
-        (same-child (one-group (l .0) (k .0) (l .1) (k .1)) (one-group (k .0) (l .0) (k .1) (l .1)) (settled (child j (l .0)) (l .2)))
-
-    glued-settled : (φ : Fact) → Awaits (In parents) (Held g) φ → Settled n T φ
-    glued-settled φ (held y) = glued-sound n T P (In u) (In w) settled over-down φ (has-glued φ y)
-    glued-settled φ (waits {x = i} {y = j} y z) = awaited i j y z
-
-    x-ends : (i : Var) → In x i → In u i × In w i
-    x-ends = ends n T (p .inside) P (In x) (In u) (In w) s (p .sound) r
-
-    pub made-pending : Pending n T parents g
-    made-pending = record {
-      few = p .few;
-      inside = p .inside;
-      sound = glued-settled;
-      complete = λ φ h. held (glued-has φ (arrived n P (In u) (In w) s c inside-of (In x) x-ends φ (p .complete φ h)));
-      sharing = sharing-same n (Glued P (In u) (In w)) (Held g) glued-has has-glued (glued-sharing n P (In u) (In w) s c);
-      one-parent = λ i j k y z. ⊎-elim (λ h. held (glued-has (below i j) h)) (λ h. waits (over i (h .0)) (over j (h .1)))
-          (glued-parent n P (In u) (In w) s c inside-of (In x) x-ends (p .one-parent) i j k (has-glued (child i k) y) (has-glued (child j k) z));
-      no-self-differ = λ i y. glued-apart n P (In u) (In w) s c (p .no-self-differ)
-          (λ i j a b. apart-in i j (both-in u w i (a .0) (a .1)) (both-in u w j (b .0) (b .1))) i (has-glued (differ i i) y);
-      mirrored = record {
-        parents = columns-raised _ _ parents m _ _
-            (columns-raised (f .child) (f .parent) m (q .children) (q .child-half) (q .parent-half) (p .mirrored .parents)
-            (rises small (q .child-first)) (rises (q .is-children .small) (q .parent-first)))
-            (rises (q .is-parents .small) (q .child)) (rises small (q .parent));
-        ancestors = columns-raised (f .below) (f .above) u w (g .below) (g .above) (p .mirrored .ancestors) (rises up-small (q .below)) (rises down-small (q .above));
-      };
-    }
+use Rattle.tables.proofs.Bits.{none-in}
+use Rattle.merge.specs.declared.Round.{Round}
+use Rattle.merge.specs.Rows.{Gap, WithGap}
+use Rattle.merge.specs.Merging.{Awaits, held, waits, In, Held, Pending, UnifiedOf, RoundOf}
 
 -- ---- what is still apart has to become the same, and nothing else
 
@@ -238,67 +29,20 @@ narrow n T f x r a p = go (ℕ-discrete r 0)
     go : Dec (r ≡ 0) → Pending n T r f
     go (no z) = subst (λ (k : ℕ). Pending n T k f) (sym (a .some z .0)) p
     go (yes e) = record {
-      few = p .few;
-      inside = p .inside;
-      sound = λ φ y. p .sound φ (held (none-left f φ (subst (λ (k : ℕ). Awaits (In k) (Held f) φ) e y)));
+      standing = p .standing;
+      due = λ i j y z. none-in i (subst (λ (k : ℕ). In k i) e y);
       complete = λ φ h. held (all-there e φ (p .complete φ h));
-      sharing = p .sharing;
       one-parent = λ i j k y z. held (all-there e (below i j) (p .one-parent i j k y z));
-      no-self-differ = p .no-self-differ;
-      mirrored = p .mirrored;
     }
 
--- a gap among the rows that were raised over each other is filled
-fewer : (t : List ℕ) (x u w : ℕ) (r : List ℕ) → x < 65536 → u < 65536 → ((i : ℕ) → In x i → In u i × In w i) → Raised t u w r → Gap t x → lacking r < lacking t
-unfolding lacking
-fewer t x u w r small up-small ends h g =
-    sum-lt 16 _ _ (λ i _. sum-le 16 _ _ (λ j _. less i j)) (g .at) (in-row x (g .at) small (g .at-in))
-    (sum-lt 16 _ _ (λ j _. less (g .at) j) (g .lacks) (in-row x (g .lacks) small (g .lacks-in))
-    (one-lt _ _ (no-neg (λ z. clash (raised-has t u w r (rises up-small h) (g .at) (g .lacks) (ends (g .at) (g .at-in) .0) (ends (g .lacks) (g .lacks-in) .1)) z)) (no-neg (g .missing))))
-  where
-    less : (i j : ℕ) → one (neg (bit (row r i) j)) ≤ one (neg (bit (row t i) j))
-    less i j = one-le _ _ (λ z. no-neg (λ y. clash (raised-keeps t u w r (rises up-small h) i j y) z))
+-- ---- the contract
 
--- ---- the round
+module _ (f : Facts) (x : ℕ) (r : Round) (u : UnifiedOf f x r) where
+  pub round-refused : r .clash ≡ true → RoundOf f x r
+  round-refused t = record { unified = u; gap = λ e. absurd (false≢true (sym e ∙ t)) }
 
-module _ (f : Facts) (x w near far far-of : ℕ) (small : x < 65536) (uw : Union (f .below) x w) (un : Union (f .above) x near) (uf : Union (f .above) far-of far)
-    (is-far-of : far-of ≡ pick (meets (bitOr x near) (f .leaf)) (bitOr x w) 0) where
-  abbrev U : ℕ
-  U = bitOr (bitOr x near) far
-
-  abbrev D : ℕ
-  D = bitOr x w
-
-  abbrev M : ℕ
-  M = bitAnd U D
-
-  up-small : U < 65536
-  up-small = or-lt 16 (bitOr x near) far (or-lt 16 x near small (un .small)) (uf .small)
-
-  reached : (n : ℕ) (T : List Fact) → Pending n T x f → Reach (Held f) (In x) (In U) (In D)
-  reached n T p = reach n T x small f p w near far uw un (subst (λ (k : ℕ). Union (f .above) k far) is-far-of uf)
-
-  clashing : ((n : ℕ) (T : List Fact) → Pending n T x f → Clash n T) → RoundOf f x (record { clash = true; next = 0; facts = f })
-  clashing h = record {
-    clashes = λ _. h;
-    goes-on = λ e. absurd (false≢true (sym e));
-    gap = λ z. absurd (z refl);
-    falls = λ e. absurd (false≢true (sym e));
-  }
-
-  pub round-differs : (d : ℕ) → Union (f .differ) M d → Yes (meets d M) → RoundOf f x (record { clash = true; next = 0; facts = f })
-  round-differs d ud h = clashing (λ n T p. clash-differs n T f x U D p (reached n T p) d ud h)
-
-  pub round-labels : (l : ℕ) → LabelOf (f .label) M l → ((i : Var) × In M i × (row (f .label) i ≢ 0) × (row (f .label) i ≢ l))
-      → RoundOf f x (record { clash = true; next = 0; facts = f })
-  round-labels l lo y = clashing (λ n T p. clash-labels n T f x U D p (reached n T p) l lo (y .0) (y .1) (y .2) (y .3))
-
-  pub round-well : f .root < 65536 → f .leaf < 65536 → (parents : ℕ) (g : Facts) → Made f U D M parents g → (next : ℕ) → WithGap (g .below) parents next
-      → RoundOf f x (record { clash = false; next = next; facts = g })
-  round-well root-small leaf-small parents g q next a = record {
-    clashes = λ e. absurd (false≢true e);
-    goes-on = λ _ n T p. narrow n T g parents next a
-        (made-pending n T f x U D p (reached n T p) up-small (or-lt 16 x w small (uw .small)) root-small leaf-small parents g q);
-    gap = λ z. let h = a .some z in subst (λ (k : ℕ). Gap (g .below) k) (sym (h .0)) (h .1);
-    falls = λ _. fewer (f .below) x U D (g .below) small up-small (λ i y. (or-l (bitOr x near) far i (or-l x near i y), or-l x w i y)) (q .below);
+  pub round-parents : (next : ℕ) → WithGap (r .facts .below) (r .next) next → RoundOf f x (record { clash = r .clash; next = next; facts = r .facts })
+  round-parents next a = record {
+    unified = record { clashes = u .clashes; goes-on = λ e n T p. narrow n T (r .facts) (r .next) next a (u .goes-on e n T p); falls = u .falls };
+    gap = λ e z. let h = a .some z in subst (Gap (r .facts .below)) (sym (h .0)) (h .1);
   }

@@ -6,12 +6,13 @@ use mathlib.Core.List.{List, _∷_, List·Memᴰ}
 use Prim.Native.Nat.{ℕ, _<_, _≤_}
 use Rattle.rowbits.specs.Bit.{bit}
 use Rattle.meaning.specs.Tree.{Var}
-use Rattle.meaning.specs.Constraint.{Fact, child, below, differ, leaf}
+use Rattle.meaning.specs.Constraint.{Fact, child, below}
 use Rattle.meaning.specs.Settled.{Settled, Clash}
 use Rattle.meaning.specs.Finite.{Yes, neg, sum, one}
 use Rattle.meaning.specs.Closed.{Sharing, Inside}
 use Rattle.tables.specs.Tables.{row, has, Mirrored, Ready}
 use Rattle.tables.specs.declared.Facts.{Facts}
+use Rattle.tables.proofs.Clashes.{Free}
 use Rattle.merge.specs.declared.Round.{Round}
 use Rattle.tables.specs.declared.Settled.{Settled as Result}
 use Rattle.merge.specs.Rows.{Gap}
@@ -27,28 +28,37 @@ In row x = Yes (bit row x)
 abbrev pub Held : Facts → Fact → Type 0
 Held f φ = Yes (has f φ)
 
--- The tables hold what is settled of T, and are closed but for this: the variables of x have yet to become the same, among them any two
--- parents of one variable that are not.
-pub record Pending (n : ℕ) (T : List Fact) (x : ℕ) (f : Facts) : Type 0 where
+-- What holds before and after each step: the tables hold only what is settled of T, have no clash, and are closed under every rule but that of
+-- one parent.
+pub record Standing (n : ℕ) (T : List Fact) (f : Facts) : Type 0 where
   pub few : n ≤ 16
   pub inside : Inside n T
-  pub sound : (φ : Fact) → Awaits (In x) (Held f) φ → Settled n T φ
-  pub complete : (φ : Fact) → List·Memᴰ φ T → Awaits (In x) (Held f) φ
+  pub sound : (φ : Fact) → Held f φ → Settled n T φ
   pub sharing : Sharing n (Held f)
-  pub one-parent : (x₁ x₂ y : Var) → Held f (child x₁ y) → Held f (child x₂ y) → Awaits (In x) (Held f) (below x₁ x₂)
-  pub no-self-differ : (y : Var) → ¬ Held f (differ y y)
+  pub free : Free (Held f)
   pub mirrored : Mirrored f
+
+-- What is still missing: the variables of x have yet to become the same, among them any two parents of one variable that are not.
+pub record Pending (n : ℕ) (T : List Fact) (x : ℕ) (f : Facts) : Type 0 where
+  pub standing : Standing n T f
+  pub due : (i j : Var) → In x i → In x j → Settled n T (below i j)
+  pub complete : (φ : Fact) → List·Memᴰ φ T → Awaits (In x) (Held f) φ
+  pub one-parent : (i j k : Var) → Held f (child i k) → Held f (child j k) → Awaits (In x) (Held f) (below i j)
 
 -- how many pairs a table lacks
 unfoldable pub lacking : List ℕ → ℕ
 lacking t = sum 16 (λ i. sum 16 (λ j. one (neg (bit (row t i) j))))
 
-pub record RoundOf (f : Facts) (x : ℕ) (r : Round) : Type 0 where
+-- the variables of x became the same, and what is missing now are those of r .next
+pub record UnifiedOf (f : Facts) (x : ℕ) (r : Round) : Type 0 where
   pub clashes : r .clash ≡ true → (n : ℕ) (T : List Fact) → Pending n T x f → Clash n T
   pub goes-on : r .clash ≡ false → (n : ℕ) (T : List Fact) → Pending n T x f → Pending n T (r .next) (r .facts)
-  pub gap : r .next ≢ 0 → Gap (r .facts .below) (r .next)
   -- with each group that is merged below lacks less
   pub falls : r .clash ≡ false → Gap (f .below) x → lacking (r .facts .below) < lacking (f .below)
+
+pub record RoundOf (f : Facts) (x : ℕ) (r : Round) : Type 0 where
+  pub unified : UnifiedOf f x r
+  pub gap : r .clash ≡ false → r .next ≢ 0 → Gap (r .facts .below) (r .next)
 
 -- settled tables of some S, where below(b,a) follows from below(a,b)
 abbrev pub Joining : ℕ → Facts → Var → Var → Type 0

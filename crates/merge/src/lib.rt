@@ -1,9 +1,11 @@
 // Entering below(a, b) where it makes variables the same: their group is merged by rows, then that of its parents, and so on upwards.
+ghost use mathlib.Core.Path.{_≡_};
+ghost use mathlib.Core.Bool.{true};
 ghost use Prim.Native.Nat.{_<_, _≤_, _^_};
 ghost use lib.Bits.{bitOr};
 ghost use Rattle.tables.specs.Rows.{Union};
 ghost use Rattle.merge.specs.Rows.{WithGap, LabelOf, TwoLabels, Painted};
-ghost use Rattle.merge.specs.Merging.{RoundOf, Joining, MergedOf};
+ghost use Rattle.merge.specs.Merging.{UnifiedOf, RoundOf, Joining, MergedOf};
 use ids::Var;
 use tables::Facts;
 use tables::Settled;
@@ -102,18 +104,28 @@ fn paint(t: [u8; 16], rows: u16, l: u8) -> [u8; 16]
     a
 }
 
-// The tables after a round, and the variables that have to become the same in the next one.
+// The tables after a step, and the variables that have yet to become the same.
 struct Round {
     clash: bool,
     next: u16,
     facts: Facts,
 }
 
-// One round: the variables of x become the same. All that is at or above one of them and at or below one becomes one group, and shares every
-// fact; a leaf at or above x is the same as all below it, so that these join the group. The parents of the group are left to the next round.
+fn refused(f: Facts) -> Round
+    ensures { λ r. ⌜ r .clash ≡ true ⌝ }
+{
+    Round {
+        clash: true,
+        next: 0,
+        facts: f,
+    }
+}
+
+// The variables of x become the same. All that is at or above one of them and at or below one becomes one group, and shares every fact; a
+// leaf at or above x is the same as all below it, so that these join the group. Then the parents of the group have yet to become the same.
 fn unify(f: Facts, x: u16, lower: u16, upper: u16) -> Round
     requires { ⌜ Union (f .below) x lower × Union (f .above) x upper ⌝ }
-    ensures { λ r. ⌜ RoundOf f x r ⌝ }
+    ensures { λ r. ⌜ UnifiedOf f x r ⌝ }
 {
     let below = f.below;
     let above = f.above;
@@ -128,34 +140,25 @@ fn unify(f: Facts, x: u16, lower: u16, upper: u16) -> Round
     let group = up & down;
     let others = tables::union_rows(differ, group);
     if tables::meet(others, group) {
-        return Round {
-            clash: true,
-            next: 0,
-            facts: f,
-        };
+        return refused(f);
     }
     let shown = label_of(label, group);
     if two_labels(label, group, shown) {
-        return Round {
-            clash: true,
-            next: 0,
-            facts: f,
-        };
+        return refused(f);
     }
     let children = tables::union_rows(child, group);
     let parents = tables::union_rows(parent, group);
     let new_below = tables::raise(below, up, down);
     let new_above = tables::raise(above, down, up);
     let new_child = tables::raise(tables::raise(child, group, children), parents, group);
-    let new_parent = tables::raise(tables::raise(parent, children, group), group, parents);
+    let new_parent = tables::raise(tables::raise(parent, group, parents), children, group);
     let new_differ = tables::raise(tables::raise(differ, group, others), others, group);
     let new_label = paint(label, group, shown);
     let root = tables::gain(tables::meet(f.root, group), f.root, group);
     let leaf = tables::gain(tables::meet(f.leaf, group), f.leaf, group);
-    let next = with_gap(new_below, parents);
     Round {
         clash: false,
-        next,
+        next: parents,
         facts: Facts {
             child: new_child,
             parent: new_parent,
@@ -167,6 +170,20 @@ fn unify(f: Facts, x: u16, lower: u16, upper: u16) -> Round
             leaf,
         },
     }
+}
+
+// One round: the variables of x become the same, and the next one is for the parents of their group, if they are not the same.
+fn next_round(f: Facts, x: u16, lower: u16, upper: u16) -> Round
+    requires { ⌜ Union (f .below) x lower × Union (f .above) x upper ⌝ }
+    ensures { λ r. ⌜ RoundOf f x r ⌝ }
+{
+    let mut r = unify(f, x, lower, upper);
+    if r.clash {
+        return r;
+    }
+    let below = r.facts.below;
+    r.next = with_gap(below, r.next);
+    r
 }
 
 // Settled tables with below(a, b), settled again, where below(b, a) follows from it. With a clash they come back as they went in.
@@ -184,7 +201,7 @@ pub fn enter_same(f: Facts, n: usize, a: Var, b: Var) -> Settled
     let mut lower = union_two(below, i, j);
     let mut upper = union_two(above, i, j);
     while x != 0 {
-        let r = unify(g, x, lower, upper);
+        let r = next_round(g, x, lower, upper);
         if r.clash {
             return Settled {
                 clash: true,

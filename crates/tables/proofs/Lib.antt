@@ -4,3 +4,7 @@ pub mod Tested
 pub mod Loops
 pub mod Labels
 pub mod Members
+pub mod Rises
+pub mod Groups
+pub mod Wider
+pub mod Clashes

@@ -16,6 +16,9 @@ use Rattle.enter.proofs.enter_below.Tie as tie
 above-small : (c : tie.Start) (i : ℕ) → getD (c .args .f .above) i 0 < 65536
 above-small c i = let h : Fits w16 (getD (c .args .f .above) i 0) = search needs in h .fits
 
+below-small : (c : tie.Start) (i : ℕ) → getD (c .args .f .below) i 0 < 65536
+below-small c i = let h : Fits w16 (getD (c .args .f .below) i 0) = search needs in h .fits
+
 cast-i : tie.Need-cast-i
 cast-i c = search needs
 
@@ -65,7 +68,7 @@ returns-2 c =
     let m = c .before .before .before in
     let s = m .before .before .before .before .before .before in
     let o = or-no _ _ (c .before .before .if1 .left) in
-    entered-well _ _ _ _ _ (λ S q. raised-ready _ (s .pre .0 .2) S _ _ _ (s .pre .0 .0) (s .pre .0 .1) q _ _ (c .before .raise .ensures) (c .raise2 .ensures)
+    entered-well _ _ _ _ _ (λ S q. raised-ready _ (s .pre .0 .2) S _ _ _ (s .pre .0 .0) (s .pre .0 .1) q (above-small s _) (below-small s _) _ _ (c .before .raise .ensures) (c .raise2 .ensures)
     (λ u. false≢true (sym (o .0) ∙ m .before .has .ensures ∙ u))
     (λ k u v. false≢true (sym (o .1) ∙ m .meet .ensures ∙ meets-in _ _ k u v)))
 

@@ -45,8 +45,8 @@ loop-holds c = (
       (subst (Gap _) (sym (h .0)) (h .1), union-at _ _ _ _ (h .0) (c .before .union-two .ensures), union-at _ _ _ _ (h .0) (c .union-two2 .ensures)),
 )
 
-unify-requires : tie.Need-unify-requires Inv-loop μ-loop
-unify-requires c κs = let h = c .before .loop .inv .1 (c .loop-test .taken) in (h .1, h .2)
+next-round-requires : tie.Need-next-round-requires Inv-loop μ-loop
+next-round-requires c κs = let h = c .before .loop .inv .1 (c .loop-test .taken) in (h .1, h .2)
 
 returns : tie.Need-returns Inv-loop μ-loop
 returns c =
@@ -54,7 +54,7 @@ returns c =
     let l = u .before .before in
     let a = l .before .before .before in
     let s = a .before .before .before .before .before in
-    merged-clash _ _ _ _ (s .pre .0 .2) (s .pre .0 .0) (s .pre .0 .1) _ (a .two-with-gap .ensures) (λ T p. u .unify .ensures .clashes (c .if1 .taken) _ T (l .loop .inv .0 T p))
+    merged-clash _ _ _ _ (s .pre .0 .2) (s .pre .0 .0) (s .pre .0 .1) _ (a .two-with-gap .ensures) (λ T p. u .next-round .ensures .unified .clashes (c .if1 .taken) _ T (l .loop .inv .0 T p))
 
 union-rows-requires : tie.Need-union-rows-requires Inv-loop μ-loop
 union-rows-requires c κs = search needs
@@ -66,13 +66,13 @@ loop-less : tie.Need-loop-less Inv-loop μ-loop
 loop-less c =
     let e = c .before .before .before .before .before in
     let u = e .before in
-    u .unify .ensures .falls (e .if1 .left) (u .before .before .loop .inv .1 (u .before .loop-test .taken) .0)
+    u .next-round .ensures .unified .falls (e .if1 .left) (u .before .before .loop .inv .1 (u .before .loop-test .taken) .0)
 
 loop-again : tie.Need-loop-again Inv-loop μ-loop
 loop-again c =
     let e = c .before .before .before .before .before in
     let u = e .before in
-    ((λ T p. u .unify .ensures .goes-on (e .if1 .left) _ T (u .before .before .loop .inv .0 T p)), λ z. (u .unify .ensures .gap z, c .before .union-rows .ensures, c .union-rows2 .ensures))
+    ((λ T p. u .next-round .ensures .unified .goes-on (e .if1 .left) _ T (u .before .before .loop .inv .0 T p)), λ z. (u .next-round .ensures .gap (e .if1 .left) z, c .before .union-rows .ensures, c .union-rows2 .ensures))
 
 returns-2 : tie.Need-returns-2 Inv-loop μ-loop
 returns-2 c =
@@ -94,7 +94,7 @@ enter-same-spec =
     union-two-requires
     union-two-requires-2
     loop-holds
-    unify-requires
+    next-round-requires
     returns
     union-rows-requires
     union-rows-requires-2

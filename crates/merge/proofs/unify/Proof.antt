@@ -1,10 +1,10 @@
--- `merge::unify` meets its contract: what its helpers ensure is what a round has to have made (proofs/Rounds.antt).
+-- `merge::unify` meets its contract: what its helpers ensure is what has to be made (proofs/Making.antt).
 use Prim.Native.Nat.{_<_}
 use mathlib.Core.Path.{sym, _∙_}
 use mir.Val.{Fits}
 use mir.Syntax.{w16}
 use Rattle.tables.proofs.Tested.{not-yes}
-use Rattle.merge.proofs.Rounds.{round-differs, round-labels, round-well}
+use Rattle.merge.proofs.Making.{unify-differs, unify-labels, unify-well}
 use borrow.Author.Needs.{needs}
 use Rattle.merge.proofs.unify.Statement.{statement}
 use Rattle.merge.proofs.unify.Tie as tie
@@ -33,16 +33,19 @@ union-rows-requires-2 c κs = search needs
 meet-requires-2 : tie.Need-meet-requires-2
 meet-requires-2 c κs = search needs
 
+refused-requires : tie.Need-refused-requires
+refused-requires c κs = search needs
+
 returns : tie.Need-returns
 returns c =
-    let differing = c .before in
+    let differing = c .before .before in
     let others = differing .before in
     let far = others .before in
     let leafy = far .before in
     let met = leafy .before in
     let s = met .before .before .before .before .before .before .before in
-    round-differs _ _ _ _ _ _ (x-small s) (s .pre .0) (s .pre .1) (far .union-rows .ensures) (rw (leafy .when .ensures, met .meet .ensures))
-    _ (others .union-rows2 .ensures) (sym (differing .meet2 .ensures) ∙ c .if1 .taken)
+    unify-differs _ _ _ _ _ _ (x-small s) (s .pre .0) (s .pre .1) (far .union-rows .ensures) (rw (leafy .when .ensures, met .meet .ensures))
+    _ (others .union-rows2 .ensures) (sym (differing .meet2 .ensures) ∙ c .before .if1 .taken) _ (c .refused .ensures)
 
 label-of-requires : tie.Need-label-of-requires
 label-of-requires c κs = search needs
@@ -50,18 +53,20 @@ label-of-requires c κs = search needs
 two-labels-requires : tie.Need-two-labels-requires
 two-labels-requires c κs = c .label-of .ensures
 
+refused-requires-2 : tie.Need-refused-requires-2
+refused-requires-2 c κs = search needs
+
 returns-2 : tie.Need-returns-2
 returns-2 c =
-    let test = c .before in
+    let test = c .before .before in
     let shown = test .before in
-    let differing = shown .before .before in
-    let others = differing .before in
+    let others = shown .before .before .before in
     let far = others .before in
     let leafy = far .before in
     let met = leafy .before in
     let s = met .before .before .before .before .before .before .before in
-    round-labels _ _ _ _ _ _ (x-small s) (s .pre .0) (s .pre .1) (far .union-rows .ensures) (rw (leafy .when .ensures, met .meet .ensures))
-    _ (shown .label-of .ensures) (test .two-labels .ensures .two (c .if2 .taken))
+    unify-labels _ _ _ _ _ _ (x-small s) (s .pre .0) (s .pre .1) (far .union-rows .ensures) (rw (leafy .when .ensures, met .meet .ensures))
+    _ (shown .label-of .ensures) (test .two-labels .ensures .two (c .before .if2 .taken)) _ (c .refused2 .ensures)
 
 union-rows-requires-3 : tie.Need-union-rows-requires-3
 union-rows-requires-3 c κs = search needs
@@ -108,23 +113,16 @@ meet-requires-4 c κs = search needs
 gain-requires-2 : tie.Need-gain-requires-2
 gain-requires-2 c κs = search needs
 
-with-gap-requires : tie.Need-with-gap-requires
-with-gap-requires c κs = search needs
-
 returns-3 : tie.Need-returns-3
 returns-3 c =
-    let leaf = c .before in
-    let leaf-met = leaf .before in
+    let leaf-met = c .before in
     let root = leaf-met .before in
     let root-met = root .before in
     let label = root-met .before in
     let differ = label .before in
-    let differ-first = differ .before in
-    let parent = differ-first .before in
-    let parent-first = parent .before in
-    let child = parent-first .before in
-    let child-first = child .before in
-    let above = child-first .before in
+    let parent = differ .before .before in
+    let child = parent .before .before in
+    let above = child .before .before in
     let below = above .before in
     let parents = below .before in
     let children = parents .before in
@@ -138,7 +136,7 @@ returns-3 c =
     let leafy = far .before in
     let met = leafy .before in
     let s = met .before .before .before .before .before .before .before in
-    round-well _ _ _ _ _ _ (x-small s) (s .pre .0) (s .pre .1) (far .union-rows .ensures) (rw (leafy .when .ensures, met .meet .ensures))
+    unify-well _ _ _ _ _ _ (x-small s) (s .pre .0) (s .pre .1) (far .union-rows .ensures) (rw (leafy .when .ensures, met .meet .ensures))
     (root-small s) (leaf-small s) _ _
     (record {
       is-parents = parents .union-rows4 .ensures;
@@ -152,20 +150,13 @@ returns-3 c =
       only = test .two-labels .ensures .one (free .if2 .left);
       below = below .raise .ensures;
       above = above .raise2 .ensures;
-      child-half = _;
-      child-first = child-first .raise3 .ensures;
-      child = child .raise4 .ensures;
-      parent-half = _;
-      parent-first = parent-first .raise5 .ensures;
-      parent = parent .raise6 .ensures;
-      differ-half = _;
-      differ-first = differ-first .raise7 .ensures;
-      differ = differ .raise8 .ensures;
+      child = record { half = _; first = child .before .raise3 .ensures; last = child .raise4 .ensures };
+      parent = record { half = _; first = parent .before .raise5 .ensures; last = parent .raise6 .ensures };
+      differ = record { half = _; first = differ .before .raise7 .ensures; last = differ .raise8 .ensures };
       root = rw (root .gain .ensures, root-met .meet3 .ensures);
-      leaf = rw (leaf .gain2 .ensures, leaf-met .meet4 .ensures);
+      leaf = rw (c .gain2 .ensures, leaf-met .meet4 .ensures);
       label = label .paint .ensures;
     })
-    _ (c .with-gap .ensures)
 
 pub unify-spec : {M : Type 1} → statement M
 unify-spec =
@@ -176,9 +167,11 @@ unify-spec =
     union-rows-requires
     union-rows-requires-2
     meet-requires-2
+    refused-requires
     returns
     label-of-requires
     two-labels-requires
+    refused-requires-2
     returns-2
     union-rows-requires-3
     union-rows-requires-4
@@ -195,5 +188,4 @@ unify-spec =
     gain-requires
     meet-requires-4
     gain-requires-2
-    with-gap-requires
     returns-3)

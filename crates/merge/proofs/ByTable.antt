@@ -1,8 +1,7 @@
 -- The tables of a round are those of the glued facts, table by table: a table of two variables, a row of one, and the labels.
 -- The group, which shares every fact afterwards, is what both masks have, u and w.
-use mathlib.Core.Path.{_≡_, refl, sym, _∙_, subst}
+use mathlib.Core.Path.{_≡_, sym, _∙_, subst}
 use mathlib.Core.Logic.{_≢_, _⊎_, inl, inr, ⊎-elim}
-use mathlib.Core.Bool.{false}
 use mathlib.Core.List.{List}
 use Prim.Native.Nat.{ℕ, _<_}
 use lib.Dec.{eqb}
@@ -14,47 +13,57 @@ use Rattle.meaning.proofs.Tests.{clash, yes-case, yes-eq, and-left, and-right, 
 use Rattle.rowbits.specs.Bit.{bit}
 use Rattle.tables.specs.Tables.{row, Columns}
 use Rattle.tables.specs.Rows.{gained, meets, Raised, Union}
-use Rattle.tables.proofs.Helpers.{gain-off}
 use Rattle.tables.proofs.Bits.{in-both, both-in, gained-up, gained-has, gained-case, meets-in, meets-out}
+use Rattle.tables.proofs.Groups.{Twin, One, Two, own, pair}
+use Rattle.tables.proofs.Rises.{Rises, rises, raised-out, raised-keeps, raised-has}
+use Rattle.tables.proofs.Wider.{Wide}
 use Rattle.merge.specs.Rows.{LabelOf, Painted}
 use Rattle.merge.specs.Merging.{In}
 use Rattle.meaning.specs.Closed.{Sharing}
-use Rattle.merge.proofs.Loops.{all-rows}
-use Rattle.merge.proofs.Glue.{Cut, Twin, One, Two, mid-twin, twin-cases}
+use Rattle.merge.proofs.Glue.{Cut, mid-twin, twin-cases}
 
--- ---- a raised table
+-- ---- a table raised twice: the rows of the group with `along`, and the rows of `across` with the group
 
-pub record Rises (t : List ℕ) (rows by : ℕ) (r : List ℕ) : Type 0 where
-  pub at : (i : ℕ) → row r i ≡ gained (bit rows i) (row t i) by
+pub record RaisedTwice (t : List ℕ) (group along across : ℕ) (r : List ℕ) : Type 0 where
+  pub half : List ℕ
+  pub first : Raised t group along half
+  pub last : Raised half across group r
 
-pub rises : {t : List ℕ} {rows by : ℕ} {r : List ℕ} → rows < 65536 → Raised t rows by r → Rises t rows by r
-rises {t} {rows} {by} {r} small h = record { at = all-rows (λ b v. gained b v by) (λ v. sym (gain-off false v by refl)) rows small t r (h .within) (h .beyond) }
+pub record Spread (t : List ℕ) (group along across : ℕ) (r : List ℕ) : Type 0 where
+  pub out : (i j : ℕ) → In (row r i) j → In (row t i) j ⊎ (In group i × In along j) ⊎ (In across i × In group j)
+  pub keeps : (i j : ℕ) → In (row t i) j → In (row r i) j
+  pub rows : (i j : ℕ) → In group i → In along j → In (row r i) j
+  pub columns : (i j : ℕ) → In across i → In group j → In (row r i) j
 
-pub raised-out : (t : List ℕ) (rows by : ℕ) (r : List ℕ) → Rises t rows by r → (i j : ℕ) → Yes (bit (row r i) j) → Yes (bit (row t i) j) ⊎ (In rows i × In by j)
-raised-out t rows by r h i j u = gained-case (bit rows i) (row t i) by j (subst (λ (k : ℕ). Yes (bit k j)) (h .at i) u)
+pub spread : {t : List ℕ} {group along across : ℕ} {r : List ℕ} → group < 65536 → across < 65536 → RaisedTwice t group along across r → Spread t group along across r
+spread {t} {group} {along} {across} {r} small over h = record {
+  out = λ i j u. ⊎-elim (λ v. ⊎-elim inl (λ w. inr (inl w)) (raised-out t group along (h .half) a i j v)) (λ v. inr (inr v)) (raised-out (h .half) across group r b i j u);
+  keeps = λ i j u. raised-keeps (h .half) across group r b i j (raised-keeps t group along (h .half) a i j u);
+  rows = λ i j u v. raised-keeps (h .half) across group r b i j (raised-has t group along (h .half) a i j u v);
+  columns = λ i j u v. raised-has (h .half) across group r b i j u v;
+}
+  where
+    a : Rises t group along (h .half)
+    a = rises small (h .first)
 
-pub raised-keeps : (t : List ℕ) (rows by : ℕ) (r : List ℕ) → Rises t rows by r → (i j : ℕ) → Yes (bit (row t i) j) → Yes (bit (row r i) j)
-raised-keeps t rows by r h i j u = subst (λ (k : ℕ). Yes (bit k j)) (sym (h .at i)) (gained-up (bit rows i) (row t i) by .kept j u)
+    b : Rises (h .half) across group r
+    b = rises over (h .last)
 
-pub raised-has : (t : List ℕ) (rows by : ℕ) (r : List ℕ) → Rises t rows by r → (i j : ℕ) → In rows i → In by j → Yes (bit (row r i) j)
-raised-has t rows by r h i j u v = subst (λ (k : ℕ). Yes (bit k j)) (sym (h .at i)) (gained-has (bit rows i) (row t i) by j u v)
-
-pub raised-in : (t : List ℕ) (rows by : ℕ) (r : List ℕ) → Rises t rows by r → (i j : ℕ) → Yes (bit (row t i) j) ⊎ (In rows i × In by j) → Yes (bit (row r i) j)
-raised-in t rows by r h i j y = ⊎-elim (raised-keeps t rows by r h i j) (λ z. raised-has t rows by r h i j (z .0) (z .1)) y
-
--- a table and its columns stay so if both are raised
-pub columns-raised : (t r : List ℕ) (rows by : ℕ) (t' r' : List ℕ) → Columns t r → Rises t rows by t' → Rises r by rows r' → Columns t' r'
-columns-raised t r rows by t' r' c h k x y lx ly =
+pub columns-spread : (t r : List ℕ) (group along across : ℕ) (t' r' : List ℕ) → Columns t r → Spread t group along across t' → Spread r group across along r' → Columns t' r'
+columns-spread t r group along across t' r' c h k x y lx ly =
     yes-eq _ _
-    (λ u. ⊎-elim (λ a. raised-keeps t rows by t' h x y (sym (c x y lx ly) ∙ a)) (λ a. raised-has t rows by t' h x y (a .1) (a .0)) (raised-out r by rows r' k y x u))
-    (λ u. ⊎-elim (λ a. raised-keeps r by rows r' k y x (c x y lx ly ∙ a)) (λ a. raised-has r by rows r' k y x (a .1) (a .0)) (raised-out t rows by t' h x y u))
+    (λ u. ⊎-elim (λ a. h .keeps x y (sym (c x y lx ly) ∙ a)) (λ a. ⊎-elim (λ b. h .columns x y (b .1) (b .0)) (λ b. h .rows x y (b .1) (b .0)) a) (k .out y x u))
+    (λ u. ⊎-elim (λ a. k .keeps y x (c x y lx ly ∙ a)) (λ a. ⊎-elim (λ b. k .columns y x (b .1) (b .0)) (λ b. k .rows y x (b .1) (b .0)) a) (h .out x y u))
 
 module _ (n : ℕ) (P : Fact → Type 0) (u w : ℕ) (s : Sharing n P) (c : Cut P (In u) (In w)) where
   abbrev G : Var → Type 0
   G = In (bitAnd u w)
 
+  abbrev B : Var → Var → Type 0
+  B = Wide P (In u) (In w)
+
   abbrev W : Var → Var → Type 0
-  W = Twin P (In u) (In w)
+  W = Twin B
 
   together : (i j : Var) → G i → G j → W i j
   together i j a b = mid-twin n P (In u) (In w) s c (in-both u w i a) (in-both u w j b)
@@ -68,48 +77,38 @@ module _ (n : ℕ) (P : Fact → Type 0) (u w : ℕ) (s : Sharing n P) (c : Cut 
   R t i j = Yes (bit (row t i) j)
 
   -- q is the table t so shared: the rows that hold one of the group are `across`
-  pub record Shares (t q : List ℕ) (across : ℕ) : Type 0 where
+  pub record Shares (t q : List ℕ) (along across : ℕ) : Type 0 where
     pub to-left : (i j k : Var) → P (below i k) → P (below k i) → R t i j → R t k j
     pub to-right : (i j k : Var) → P (below j k) → P (below k j) → R t i j → R t i k
     pub selves : (i j : Var) → R t i j → W i i × W j j
     pub apart : (i j : Var) → G i → G j → ¬ R t i j
-    pub along : ℕ
     pub is-along : Union t (bitAnd u w) along
     pub from : (i : Var) → In across i → (k : Var) × G k × R t i k
     pub to : (i k : Var) → G k → R t i k → In across i
-    pub half : List ℕ
-    pub rows : Rises t (bitAnd u w) along half
-    pub columns : Rises half across (bitAnd u w) q
+    pub spreads : Spread t (bitAnd u w) along across q
 
-  module _ (t q : List ℕ) (across : ℕ) (h : Shares t q across) where
-    out : (i j : Var) → Yes (bit (row q i) j) → R t i j ⊎ (G i × In (h .along) j) ⊎ (In across i × G j)
-    out i j y = ⊎-elim (λ y. ⊎-elim inl (λ y. inr (inl y)) (raised-out t _ (h .along) (h .half) (h .rows) i j y)) (λ y. inr (inr y)) (raised-out (h .half) across _ q (h .columns) i j y)
-
-    up : (i j : Var) → Yes (bit (row (h .half) i) j) → Yes (bit (row q i) j)
-    up i j y = raised-keeps (h .half) across _ q (h .columns) i j y
-
-    pub two-out : (i j : Var) → Yes (bit (row q i) j) → Two P (In u) (In w) (R t) i j
+  module _ (t q : List ℕ) (along across : ℕ) (h : Shares t q along across) where
+    pub two-out : (i j : Var) → Yes (bit (row q i) j) → Two B (R t) i j
     two-out i j y =
         ⊎-elim
-        (λ y. record { left = i; right = j; left-twin = h .selves i j y .0; right-twin = h .selves i j y .1; holds = y })
+        (λ y. pair (h .selves i j y .0) (h .selves i j y .1) y)
         (λ y. ⊎-elim
         (λ y. let k = h .is-along .from j (y .1) in
         record { left = k .0; right = j; left-twin = together (k .0) i (k .1) (y .0); right-twin = h .selves (k .0) j (k .2) .1; holds = k .2 })
         (λ y. let k = h .from i (y .0) in
         record { left = i; right = k .0; left-twin = h .selves i (k .0) (k .2) .0; right-twin = together (k .0) j (k .1) (y .1); holds = k .2 })
         y)
-        (out i j y)
+        (h .spreads .out i j y)
 
-    pub two-in : (i j : Var) → Two P (In u) (In w) (R t) i j → Yes (bit (row q i) j)
+    pub two-in : (i j : Var) → Two B (R t) i j → Yes (bit (row q i) j)
     two-in i j a =
         ⊎-elim
         (λ x. let y = h .to-left (a .left) (a .right) i (x .0) (x .1) (a .holds) in ⊎-elim
-        (λ z. up i j (raised-keeps t _ (h .along) (h .half) (h .rows) i j (h .to-right i (a .right) j (z .0) (z .1) y)))
-        (λ z. raised-has (h .half) across _ q (h .columns) i j (h .to i (a .right) (z .0) y) (z .1))
+        (λ z. h .spreads .keeps i j (h .to-right i (a .right) j (z .0) (z .1) y))
+        (λ z. h .spreads .columns i j (h .to i (a .right) (z .0) y) (z .1))
         (cases (a .right) j (a .right-twin)))
         (λ x. ⊎-elim
-        (λ z. up i j (raised-has t _ (h .along) (h .half) (h .rows) i j (x .1)
-        (h .is-along .to (a .left) j (x .0) (h .to-right (a .left) (a .right) j (z .0) (z .1) (a .holds)))))
+        (λ z. h .spreads .rows i j (x .1) (h .is-along .to (a .left) j (x .0) (h .to-right (a .left) (a .right) j (z .0) (z .1) (a .holds))))
         (λ z. absurd (h .apart (a .left) (a .right) (x .0) (z .0) (a .holds)))
         (cases (a .right) j (a .right-twin)))
         (cases (a .left) i (a .left-twin))
@@ -119,18 +118,18 @@ module _ (n : ℕ) (P : Fact → Type 0) (u w : ℕ) (s : Sharing n P) (c : Cut 
     two-over i j g y =
         ⊎-elim (λ y. h .to i j g y)
         (λ y. ⊎-elim (λ y. let k = h .is-along .from j (y .1) in absurd (h .apart (k .0) j (k .1) g (k .2))) (λ y. y .0) y)
-        (out i j y)
+        (h .spreads .out i j y)
 
   -- ---- a row of variables: the group is added if it is met
 
   module _ (t : ℕ) (small : t < 65536) (to-twin : (i k : Var) → P (below i k) → P (below k i) → In t i → In t k) (self : (i : Var) → In t i → W i i) where
-    pub one-out : (i : Var) → In (gained (meets t (bitAnd u w)) t (bitAnd u w)) i → One P (In u) (In w) (In t) i
+    pub one-out : (i : Var) → In (gained (meets t (bitAnd u w)) t (bitAnd u w)) i → One B (In t) i
     one-out i y =
-        ⊎-elim (λ y. record { it = i; twin = self i y; holds = y })
+        ⊎-elim (λ y. own (self i y) y)
         (λ y. let k = meets-out t (bitAnd u w) small (y .0) in record { it = k .0; twin = together (k .0) i (k .2) (y .1); holds = k .1 })
         (gained-case _ t (bitAnd u w) i y)
 
-    pub one-in : (i : Var) → One P (In u) (In w) (In t) i → In (gained (meets t (bitAnd u w)) t (bitAnd u w)) i
+    pub one-in : (i : Var) → One B (In t) i → In (gained (meets t (bitAnd u w)) t (bitAnd u w)) i
     one-in i a =
         ⊎-elim (λ x. gained-up _ t (bitAnd u w) .kept i (to-twin (a .it) i (x .0) (x .1) (a .holds)))
         (λ x. gained-has _ t (bitAnd u w) i (meets-in t (bitAnd u w) (a .it) (a .holds) (x .0)) (x .1))
@@ -156,19 +155,19 @@ module _ (n : ℕ) (P : Fact → Type 0) (u w : ℕ) (s : Sharing n P) (c : Cut 
     outer : (i : Var) → Yes (neg (bit (bitAnd u w) i)) → row r i ≡ row t i
     outer i g = h .paints i ∙ pick-no l (row t i) (λ q. clash q g)
 
-    pub label-out : (i : Var) → L r v i → One P (In u) (In w) (L t v) i
+    pub label-out : (i : Var) → L r v i → One B (L t v) i
     label-out i y =
         ⊎-elim
         (λ g. let z = subst Is (inner i g) y in
         let k = lo .some (not-zero l z) in
         record { it = k .0; twin = together (k .0) i (k .1) g; holds = subst Is (sym (k .2)) z })
-        (λ g. let z = subst Is (outer i g) y in record { it = i; twin = self i z; holds = z })
+        (λ g. let z = subst Is (outer i g) y in own (self i z) z)
         (yes-case (bit (bitAnd u w) i))
 
     shared : (i k : Var) → G i → G k → L t v k → L r v i
     shared i k a b z = subst Is (sym (inner i a)) (subst Is (one k b (not-zero _ z)) z)
 
-    pub label-in : (i : Var) → One P (In u) (In w) (L t v) i → L r v i
+    pub label-in : (i : Var) → One B (L t v) i → L r v i
     label-in i a =
         ⊎-elim
         (λ x. let z = to-twin (a .it) i (x .0) (x .1) (a .holds) in
