@@ -6,7 +6,7 @@ use Prim.Native.Nat.{ℕ, _+_, _-_, _^_, _<_, _≤_}
 use native.Mathlib.Nat.{le-trans, not-suc-le-zero}
 use native.Mathlib.Decide.{decLt}
 use native.Mathlib.Omega.{arith}
-use lib.Bits.{bitOr, bitAnd}
+use lib.Bits.{bitOr}
 use Rattle.meaning.specs.Constraint.{Fact, child, below, root}
 use Rattle.meaning.specs.Settled.{Settled, child-below, self-below, chain, root-below}
 use Rattle.meaning.specs.Finite.{Yes}
@@ -15,13 +15,10 @@ use Rattle.tables.specs.Tables.{row}
 use Rattle.tables.specs.Rows.{Up, gained, without}
 use Rattle.tables.proofs.Loops.{below-cases, Rowing}
 use Rattle.tables.proofs.Bits.{or-l, or-r, or-case, up-or, up-self, up-trans, all-is, all-has, gained-up, gained-has, gained-case, one-is, one-has, without-in}
-use Rattle.settle.specs.Rows.{Lifted, Chained, Common, firstRow}
+use Rattle.settle.specs.Rows.{Lifted, Chained, firstRow}
 
 pub lifted : (t : List ℕ) (y x : ℕ) (r : List ℕ) → 16 ≤ x → x ≤ 16 → Rowing (λ k v. gained (bit v y) v (row t y)) 16 t x r → Lifted t y r
 lifted t y x r h h2 w = record { within = λ k l. w .done k (le-trans l h); beyond = λ k l. w .rest k (le-trans h2 l) }
-
-pub commons : (t u : List ℕ) (x : ℕ) (r : List ℕ) → 16 ≤ x → Rowing (λ k v. bitAnd v (row u k)) 16 t x r → Common t u r
-commons t u x r h w = record { rows = λ k l. w .done k (le-trans l h) }
 
 -- ---- the rows of below
 

@@ -19,13 +19,13 @@ use Rattle.meaning.specs.Closed.{Rules, Within}
 use Rattle.meaning.proofs.Least.{settled-within}
 use Rattle.theory.proofs.Closure.{rules-decide}
 use Rattle.rowbits.specs.Bit.{bit}
-use Rattle.tables.specs.Rows.{Transposed, Gathers, meets}
+use Rattle.tables.specs.Rows.{Transposed, Common, Gathers, meets}
 use Rattle.tables.specs.Tables.{row, has, Columns, Sound, Seeded, Ready}
 use Rattle.tables.specs.declared.Facts.{Facts}
 use Rattle.tables.proofs.Bits.{or-case, or-l, or-r, in-both, both-in, in-row, one-has, meets-in, meets-out}
 use Rattle.tables.proofs.Loops.{transposed-columns}
 use Rattle.tables.proofs.Labels.{label-has, label-is}
-use Rattle.settle.specs.Rows.{Chained, Common, Grouped}
+use Rattle.settle.specs.Rows.{Chained, Grouped}
 use Rattle.settle.specs.Pass.{weight, PassOf}
 use Rattle.settle.proofs.Taking.{Source, Taking, Taken}
 use Rattle.settle.proofs.Passing.{RowOf, Passing}
@@ -61,13 +61,13 @@ module _ {n : ℕ} {f : Facts} {B U E : List ℕ} {groups : ℕ} (o : Start n f 
 
   E-B : (x y : ℕ) → x < 16 → Yes (bit (row E x) y) → Yes (bit (row B x) y) × Yes (bit (row B y) x)
   E-B x y h u =
-      let q = in-both (row B x) (row U x) y (subst (λ (k : ℕ). Yes (bit k y)) (o .common .rows x h) u) in
+      let q = in-both (row B x) (row U x) y (subst (λ (k : ℕ). Yes (bit k y)) (o .common .rows x) u) in
       (q .0, o .columns .columns x h .from y (q .1))
 
   B-E : (x y : ℕ) → Yes (bit (row B x) y) → Yes (bit (row B y) x) → Yes (bit (row E x) y)
   B-E x y u v =
       let q = B-in x y u in
-      subst (λ (k : ℕ). Yes (bit k y)) (sym (o .common .rows x (in-16 (q .0))))
+      subst (λ (k : ℕ). Yes (bit k y)) (sym (o .common .rows x))
       (both-in (row B x) (row U x) y u (o .columns .columns x (in-16 (q .0)) .to y (in-16 (q .1)) v))
 
   E-self : (x : ℕ) → x < n → Yes (bit (row E x) x)

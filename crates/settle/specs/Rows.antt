@@ -5,7 +5,7 @@ use mathlib.Core.Logic.{_≢_}
 use mathlib.Core.List.{List}
 use Prim.Native.Nat.{ℕ, _-_, _^_, _<_, _≤_}
 use lib.Dec.{eqb}
-use lib.Bits.{bitOr, bitAnd}
+use lib.Bits.{bitOr}
 use Rattle.meaning.specs.Finite.{Yes, _and_, neg}
 use Rattle.meaning.specs.Constraint.{Fact, child, below, root}
 use Rattle.meaning.specs.Settled.{Settled}
@@ -20,10 +20,6 @@ firstRow b c roots x n = gained (bit roots x) (bitOr (bitOr b c) (2 ^ x)) (2 ^ n
 -- two labels on one variable
 unfoldable pub clashing : ℕ → ℕ → Bool
 clashing l m = neg (eqb l 0) and neg (eqb m 0) and neg (eqb l m)
-
--- what two tables have in common
-pub record Common (t u r : List ℕ) : Type 0 where
-  pub rows : (x : ℕ) → x < 16 → row r x ≡ bitAnd (row t x) (row u x)
 
 -- r has every variable that is in the row of another one
 pub record Grouped (same : List ℕ) (r : ℕ) : Type 0 where

@@ -6,7 +6,7 @@ ghost use Rattle.tables.specs.Tables.{Seeded};
 ghost use Prim.Native.Nat.{_<_, _≤_};
 ghost use Rattle.meaning.specs.Finite.{pick};
 ghost use lib.Dec.{eqb};
-ghost use Rattle.settle.specs.Rows.{firstRow, clashing, Common, Grouped, Chained};
+ghost use Rattle.settle.specs.Rows.{firstRow, clashing, Grouped, Chained};
 ghost use Rattle.settle.specs.Pass.{PassOf};
 ghost use Rattle.settle.specs.Settling.{SettledOf};
 use tables::Facts;
@@ -59,19 +59,6 @@ fn chain_rows(below: [u16; 16], child: [u16; 16], root: u16, n: usize) -> [u16; 
     a
 }
 
-// What two tables have in common.
-fn common(t: [u16; 16], u: [u16; 16]) -> [u16; 16]
-    ensures { λ r. ⌜ Common t u r ⌝ }
-{
-    let mut a = t;
-    for x in 0usize..16 {
-        let v = a[x];
-        let w = u[x];
-        a[x] = v & w;
-    }
-    a
-}
-
 // The variables that are in the row of another one.
 fn grouped(same: [u16; 16]) -> u16
     ensures { λ r. ⌜ Grouped same r ⌝ }
@@ -104,7 +91,7 @@ fn pass(f: Facts, n: usize) -> Passed
     let labels = f.label;
     let belows = chain_rows(start, childs, f.root, n);
     let above = tables::transpose(belows);
-    let same = common(belows, above);
+    let same = tables::common(belows, above);
     let groups = grouped(same);
     let root = f.root | tables::meeting(same, f.root);
     let leaf = f.leaf | tables::meeting(same, f.leaf);
