@@ -44,10 +44,6 @@ pub record RowsOf (rows : ℕ → ℕ) (r : List ℕ) : Type 0 where
   pub within : (x : ℕ) → x < 16 → row r x ≡ rows x
   pub beyond : (x : ℕ) → 16 ≤ x → row r x ≡ 0
 
--- each row with the other table's
-pub record United (t more r : List ℕ) : Type 0 where
-  pub rows : (x : ℕ) → row r x ≡ bitOr (row t x) (row more x)
-
 -- row x and column x of a kind
 abbrev pub bothWays : List ℕ → List ℕ → ℕ → ℕ → ℕ
 bothWays rows columns kind x = bitOr (kindRow rows kind x) (kindRow columns kind x)

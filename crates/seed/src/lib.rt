@@ -3,7 +3,7 @@ ghost use mathlib.Core.Path.{_≡_};
 ghost use Prim.Native.Nat.{ℕ, _%_, _<_};
 ghost use Rattle.constraints.specs.Judgement.{judgement};
 ghost use Rattle.constraints.specs.declared.Judgement.the-variants.{Accepted};
-ghost use Rattle.seed.specs.Seeds.{labelled, secondLabel, noFacts, kindRow, RowsOf, United, TogetherOf, SeedsOf};
+ghost use Rattle.seed.specs.Seeds.{labelled, secondLabel, noFacts, kindRow, RowsOf, TogetherOf, SeedsOf};
 use tables::Facts;
 
 // The tables, or a clash: two labels on one variable, which no tables hold.
@@ -65,18 +65,6 @@ fn table(rows: [u16; 256], kind: usize) -> [u16; 16]
     a
 }
 
-fn either(t: [u16; 16], more: [u16; 16]) -> [u16; 16]
-    ensures { λ r. ⌜ United t more r ⌝ }
-{
-    let mut a = t;
-    for x in 0usize..16 {
-        let v = a[x];
-        let w = more[x];
-        a[x] = v | w;
-    }
-    a
-}
-
 // The tables, from the rows and columns by kind: 1 child, 2 below, 3 strictly below, 4 same, 5 differ; 6 root and 7 leaf, which have 0
 // for y.
 fn put_together(rows: [u16; 256], columns: [u16; 256], label: [u8; 16]) -> Facts
@@ -86,15 +74,18 @@ fn put_together(rows: [u16; 256], columns: [u16; 256], label: [u8; 16]) -> Facts
     let leaf = columns[112];
     let child = table(rows, 1);
     let parent = table(columns, 1);
-    let below = either(
+    let below = tables::either(
         table(rows, 2),
-        either(table(rows, 3), either(table(rows, 4), table(columns, 4))),
+        tables::either(
+            table(rows, 3),
+            tables::either(table(rows, 4), table(columns, 4)),
+        ),
     );
-    let differ = either(
-        either(child, parent),
-        either(
-            either(table(rows, 3), table(columns, 3)),
-            either(table(rows, 5), table(columns, 5)),
+    let differ = tables::either(
+        tables::either(child, parent),
+        tables::either(
+            tables::either(table(rows, 3), table(columns, 3)),
+            tables::either(table(rows, 5), table(columns, 5)),
         ),
     );
     Facts {

@@ -6,22 +6,19 @@ use Prim.Native.Nat.{ℕ, _+_, _-_, _^_, _<_, _≤_}
 use native.Mathlib.Nat.{le-trans, not-suc-le-zero}
 use native.Mathlib.Decide.{decLt}
 use native.Mathlib.Omega.{arith}
-use lib.Bits.{bitOr, bitAnd}
+use lib.Bits.{bitOr}
 use Rattle.meaning.specs.Constraint.{Fact, child, below, root}
 use Rattle.meaning.specs.Settled.{Settled, child-below, self-below, chain, root-below}
 use Rattle.meaning.specs.Finite.{Yes}
 use Rattle.rowbits.specs.Bit.{bit}
 use Rattle.tables.specs.Tables.{row}
-use Rattle.tables.specs.Rows.{Up, gained, without}
+use Rattle.tables.specs.Rows.{Up, gained, without, Gathers, meets}
 use Rattle.tables.proofs.Loops.{below-cases, Rowing}
-use Rattle.tables.proofs.Bits.{or-l, or-r, or-case, up-or, up-self, up-trans, all-is, all-has, gained-up, gained-has, gained-case, one-is, one-has, without-in}
-use Rattle.settle.specs.Rows.{Lifted, Chained, Common, firstRow}
+use Rattle.tables.proofs.Bits.{or-l, or-r, or-case, up-or, up-self, up-trans, all-is, all-has, gained-up, gained-has, gained-case, one-is, one-has, without-in, in-row, meets-in, meets-out}
+use Rattle.settle.specs.Rows.{Lifted, Chained, WholeGroups, firstRow}
 
 pub lifted : (t : List ℕ) (y x : ℕ) (r : List ℕ) → 16 ≤ x → x ≤ 16 → Rowing (λ k v. gained (bit v y) v (row t y)) 16 t x r → Lifted t y r
 lifted t y x r h h2 w = record { within = λ k l. w .done k (le-trans l h); beyond = λ k l. w .rest k (le-trans h2 l) }
-
-pub commons : (t u : List ℕ) (x : ℕ) (r : List ℕ) → 16 ≤ x → Rowing (λ k v. bitAnd v (row u k)) 16 t x r → Common t u r
-commons t u x r h w = record { rows = λ k l. w .done k (le-trans l h) }
 
 -- ---- the rows of below
 
@@ -149,4 +146,11 @@ grouping-more same x a one r eo er g = record {
       (λ e. or-r a r y (subst (λ (i : ℕ). Yes (bit i y)) (sym er) (without-in (row same x) one y hy
       (subst (λ (i : ℕ). Yes (bit (row same i) y)) e u) (λ o. ne (one-is x y (subst (λ (i : ℕ). Yes (bit i y)) eo o) ∙ sym e)))))
       (λ l. or-l a r y (g .has k y l hy ne u)) (below-cases h);
+}
+
+pub whole : (same : List ℕ) (t m : ℕ) → ((i : ℕ) → row same i < 65536) → m < 65536 → Gathers (λ y. meets (row same y) t) m → WholeGroups same t (bitOr t m)
+whole same t m small ms g = record {
+  kept = or-l t m;
+  from = λ x u. ⊎-elim inl (λ v. let q = meets-out (row same x) t (small x) (g .from x v) in inr (in-row m x ms v, q .0, q .1, q .2)) (or-case t m x u);
+  to = λ x j h u v. or-r t m x (g .to x h (meets-in (row same x) t j u v));
 }

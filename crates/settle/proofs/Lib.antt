@@ -3,3 +3,4 @@ mod Chain
 mod Taking
 mod Passing
 mod Final
+mod Ending

@@ -1,3 +1,4 @@
 pub mod Rows
-pub mod Pass
+pub mod Shares
+pub mod Steps
 pub mod Settling

@@ -1,17 +1,19 @@
 -- What the helpers of a pass compute.
-use mathlib.Core.Bool.{Bool}
+use mathlib.Core.Bool.{Bool, true, false}
 use mathlib.Core.Path.{_≡_}
-use mathlib.Core.Logic.{_≢_}
+use mathlib.Core.Logic.{_≢_, _⊎_}
 use mathlib.Core.List.{List}
 use Prim.Native.Nat.{ℕ, _-_, _^_, _<_, _≤_}
 use lib.Dec.{eqb}
-use lib.Bits.{bitOr, bitAnd}
+use lib.Bits.{bitOr}
 use Rattle.meaning.specs.Finite.{Yes, _and_, neg}
 use Rattle.meaning.specs.Constraint.{Fact, child, below, root}
 use Rattle.meaning.specs.Settled.{Settled}
 use Rattle.rowbits.specs.Bit.{bit}
 use Rattle.tables.specs.Tables.{row}
-use Rattle.tables.specs.Rows.{Up, gained}
+use Rattle.tables.specs.Rows.{Up, gained, Transposed, Common}
+use Rattle.settle.specs.declared.Groups.{Groups}
+use Rattle.settle.specs.declared.Joined.{Joined}
 
 -- a row of below by the rules that look at no other row: itself, its children, and all if it is a root
 unfoldable pub firstRow : ℕ → ℕ → ℕ → ℕ → ℕ → ℕ
@@ -20,10 +22,6 @@ firstRow b c roots x n = gained (bit roots x) (bitOr (bitOr b c) (2 ^ x)) (2 ^ n
 -- two labels on one variable
 unfoldable pub clashing : ℕ → ℕ → Bool
 clashing l m = neg (eqb l 0) and neg (eqb m 0) and neg (eqb l m)
-
--- what two tables have in common
-pub record Common (t u r : List ℕ) : Type 0 where
-  pub rows : (x : ℕ) → x < 16 → row r x ≡ bitAnd (row t x) (row u x)
 
 -- r has every variable that is in the row of another one
 pub record Grouped (same : List ℕ) (r : ℕ) : Type 0 where
@@ -45,3 +43,26 @@ pub record Chained (n : ℕ) (t children : List ℕ) (roots : ℕ) (r : List ℕ
   pub parent : (x y : ℕ) → x < n → Yes (bit (row children x) y) → Yes (bit (row r x) y)
   pub rooted : (x y : ℕ) → x < n → Yes (bit roots x) → y < n → Yes (bit (row r x) y)
   pub chained : (x y z : ℕ) → x < n → y < n → Yes (bit (row r x) y) → Yes (bit (row r y) z) → Yes (bit (row r x) z)
+
+pub record GroupsOf (n : ℕ) (t children : List ℕ) (roots : ℕ) (r : Groups) : Type 0 where
+  pub chained : Chained n t children roots (r .below)
+  pub columns : Transposed (r .below) (r .above)
+  pub common : Common (r .below) (r .above) (r .same)
+  pub grouped : Grouped (r .same) (r .several)
+
+-- a row with the whole group of each of its variables
+pub record WholeGroups (same : List ℕ) (t r : ℕ) : Type 0 where
+  pub kept : (x : ℕ) → Yes (bit t x) → Yes (bit r x)
+  pub from : (x : ℕ) → Yes (bit r x) → Yes (bit t x) ⊎ ((x < 16) × (j : ℕ) × Yes (bit (row same x) j) × Yes (bit t j))
+  pub to : (x j : ℕ) → x < 16 → Yes (bit (row same x) j) → Yes (bit t j) → Yes (bit r x)
+
+-- x has become the same as a leaf above it, or as another parent of a child
+abbrev pub Joins : List ℕ → ℕ → List ℕ → List ℕ → ℕ → ℕ → Type 0
+Joins above leaf children parents x y = (Yes (bit (row above x) y) × Yes (bit leaf y)) ⊎ ((z : ℕ) × Yes (bit (row children x) z) × Yes (bit (row parents z) y))
+
+pub record JoinedOf (n : ℕ) (t above : List ℕ) (leaf : ℕ) (children parents : List ℕ) (r : Joined) : Type 0 where
+  pub up : (x : ℕ) → Up (row t x) (row (r .below) x)
+  pub from : (x y : ℕ) → Yes (bit (row (r .below) x) y) → Yes (bit (row t x) y) ⊎ ((x < n) × Joins above leaf children parents x y)
+  pub to : (x y : ℕ) → x < n → Joins above leaf children parents x y → Yes (bit (row (r .below) x) y)
+  pub still : r .more ≡ false → (x : ℕ) → row (r .below) x ≡ row t x
+  pub moved : r .more ≡ true → (x : ℕ) × (x < n) × (row t x < row (r .below) x)

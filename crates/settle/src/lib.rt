@@ -6,8 +6,9 @@ ghost use Rattle.tables.specs.Tables.{Seeded};
 ghost use Prim.Native.Nat.{_<_, _≤_};
 ghost use Rattle.meaning.specs.Finite.{pick};
 ghost use lib.Dec.{eqb};
-ghost use Rattle.settle.specs.Rows.{firstRow, clashing, Common, Grouped, Chained};
-ghost use Rattle.settle.specs.Pass.{PassOf};
+ghost use Rattle.settle.specs.Rows.{firstRow, clashing, Grouped, Chained, GroupsOf, WholeGroups, JoinedOf};
+ghost use Rattle.settle.specs.Shares.{NoShare, WithRows, WithGroup, SharedOf};
+ghost use Rattle.settle.specs.Steps.{SteppedOf, PassRules};
 ghost use Rattle.settle.specs.Settling.{SettledOf};
 use tables::Facts;
 use tables::Settled;
@@ -59,19 +60,6 @@ fn chain_rows(below: [u16; 16], child: [u16; 16], root: u16, n: usize) -> [u16; 
     a
 }
 
-// What two tables have in common.
-fn common(t: [u16; 16], u: [u16; 16]) -> [u16; 16]
-    ensures { λ r. ⌜ Common t u r ⌝ }
-{
-    let mut a = t;
-    for x in 0usize..16 {
-        let v = a[x];
-        let w = u[x];
-        a[x] = v & w;
-    }
-    a
-}
-
 // The variables that are in the row of another one.
 fn grouped(same: [u16; 16]) -> u16
     ensures { λ r. ⌜ Grouped same r ⌝ }
@@ -84,101 +72,228 @@ fn grouped(same: [u16; 16]) -> u16
     a
 }
 
-struct Passed {
+// The rows of below chained, their columns, the group of each variable, and the variables that are not alone in theirs.
+struct Groups {
+    below: [u16; 16],
+    above: [u16; 16],
+    same: [u16; 16],
+    several: u16,
+}
+
+fn find_groups(start: [u16; 16], child: [u16; 16], root: u16, n: usize) -> Groups
+    requires { ⌜ n ≤ 16 ⌝ }
+    ensures { λ r. ⌜ GroupsOf n start child root r ⌝ }
+{
+    let below = chain_rows(start, child, root, n);
+    let above = tables::transpose(below);
+    let same = tables::common(below, above);
+    Groups {
+        below,
+        above,
+        same,
+        several: grouped(same),
+    }
+}
+
+// A row with the whole group of each of its variables.
+fn whole_groups(same: [u16; 16], row: u16) -> u16
+    ensures { λ r. ⌜ WholeGroups same row r ⌝ }
+{
+    row | tables::meeting(same, row)
+}
+
+// What a variable takes from its group.
+struct Share {
+    child: u16,
+    parent: u16,
+    differ: u16,
+    label: u8,
+}
+
+fn no_share() -> Share
+    ensures { λ r. ⌜ NoShare r ⌝ }
+{
+    Share {
+        child: 0,
+        parent: 0,
+        differ: 0,
+        label: 0,
+    }
+}
+
+fn with_rows(s: Share, child: u16, parent: u16, differ: u16, label: u8) -> Share
+    ensures { λ r. ⌜ WithRows s child parent differ label r ⌝ }
+{
+    Share {
+        child: s.child | child,
+        parent: s.parent | parent,
+        differ: s.differ | differ,
+        label: either_label(s.label, label),
+    }
+}
+
+// With the group of z, which differs, and may be a child or a parent.
+fn with_group(s: Share, child: u16, parent: u16, z: usize, group: u16) -> Share
+    requires { ⌜ z < 16 ⌝ }
+    ensures { λ r. ⌜ WithGroup s child parent z group r ⌝ }
+{
+    Share {
+        child: tables::gain(rowbits::has(child, z), s.child, group),
+        parent: tables::gain(rowbits::has(parent, z), s.parent, group),
+        differ: s.differ | group,
+        label: s.label,
+    }
+}
+
+// The tables that a group shares, a row for each variable.
+struct Shares {
+    child: [u16; 16],
+    parent: [u16; 16],
+    differ: [u16; 16],
+    label: [u8; 16],
+}
+
+struct Shared {
     clash: bool,
-    more: u16,
+    shares: Shares,
+}
+
+// The loops of a pass: x takes what each y of its group has: its label, and its child, parent and differ with the group of z, for each z
+// that y has.
+fn share_rows(t: Shares, same: [u16; 16], several: u16, n: usize) -> Shared
+    requires { ⌜ n ≤ 16 ⌝ }
+    ensures { λ r. ⌜ SharedOf n t same several r ⌝ }
+{
+    let mut shares = t;
+    let mut clash = false;
+    'pass: for x in 0..n {
+        let visits = several | tables::one(x);
+        let mut s = no_share();
+        let mut ys = same[x];
+        while ys != 0 {
+            let y = tables::lowest(ys);
+            let ly = t.label[y];
+            if clashes(s.label, ly) {
+                clash = true;
+                break 'pass;
+            }
+            let cy = t.child[y];
+            let py = t.parent[y];
+            let dy = t.differ[y];
+            s = with_rows(s, cy, py, dy, ly);
+            let mut zs = dy & visits;
+            while zs != 0 {
+                let z = tables::lowest(zs);
+                let group = same[z];
+                if rowbits::has(group, x) {
+                    clash = true;
+                    break 'pass;
+                }
+                s = with_group(s, cy, py, z, group);
+                zs = tables::rest(zs);
+            }
+            ys = tables::rest(ys);
+        }
+        shares.child[x] = s.child;
+        shares.parent[x] = s.parent;
+        shares.differ[x] = s.differ;
+        shares.label[x] = s.label;
+    }
+    Shared { clash, shares }
+}
+
+struct Joined {
+    more: bool,
+    below: [u16; 16],
+}
+
+// The rows of below with what becomes the same: a leaf and all below it, and the parents of a child. `parents` is as it came into the pass.
+fn join_rows(
+    below: [u16; 16],
+    above: [u16; 16],
+    leaf: u16,
+    child: [u16; 16],
+    parents: [u16; 16],
+    n: usize,
+) -> Joined
+    requires { ⌜ n ≤ 16 ⌝ }
+    ensures { λ r. ⌜ JoinedOf n below above leaf child parents r ⌝ }
+{
+    let mut a = below;
+    let mut more: u16 = 0;
+    for x in 0..n {
+        let old = a[x];
+        let up = above[x];
+        let c = child[x];
+        let new = old | (up & leaf) | tables::union_rows(parents, c);
+        more = more | (old ^ new);
+        a[x] = new;
+    }
+    Joined {
+        more: more != 0,
+        below: a,
+    }
+}
+
+// What a step of settling answers: a clash, or tables, and whether another round may find more.
+struct Stepped {
+    clash: bool,
+    more: bool,
     facts: Facts,
 }
 
-// One pass. The rows of below are chained first, so that the variables that are the same as x are known, and x takes what each of them, y,
-// has: its label, and its child, parent and differ with all that is the same as z, for each z that y has. `more` is 0 where nothing else
-// became the same; then every rule holds.
-fn pass(f: Facts, n: usize) -> Passed
+// One pass, the step for the rules of sharing and of one parent. The rows of below are chained first, so that the groups are known. Where
+// nothing else becomes the same those rules hold.
+fn pass(f: Facts, n: usize) -> Stepped
     requires { ⌜ n ≤ 16 ⌝ }
-    ensures { λ r. ⌜ PassOf n f r ⌝ }
+    ensures { λ r. ⌜ SteppedOf (PassRules n) n f r ⌝ }
 {
     let start = f.below;
     let childs = f.child;
     let parents = f.parent;
     let differs = f.differ;
     let labels = f.label;
-    let belows = chain_rows(start, childs, f.root, n);
-    let above = tables::transpose(belows);
-    let same = common(belows, above);
-    let groups = grouped(same);
-    let root = f.root | tables::meeting(same, f.root);
-    let leaf = f.leaf | tables::meeting(same, f.leaf);
-    let mut child = childs;
-    let mut parent = parents;
-    let mut below = belows;
-    let mut differ = differs;
-    let mut label = labels;
-    let mut more: u16 = 0;
-    let mut clash = false;
-    'pass: for x in 0..n {
-        let own = same[x];
-        let visits = groups | tables::one(x);
-        let mut c: u16 = 0;
-        let mut p: u16 = 0;
-        let mut d: u16 = 0;
-        let mut l: u8 = 0;
-        let mut ys = own;
-        while ys != 0 {
-            let y = tables::lowest(ys);
-            let ly = labels[y];
-            if clashes(l, ly) {
-                clash = true;
-                break 'pass;
-            }
-            l = either_label(l, ly);
-            let cy = childs[y];
-            let py = parents[y];
-            let dy = differs[y];
-            c = c | cy;
-            p = p | py;
-            d = d | dy;
-            let mut zs = dy & visits;
-            while zs != 0 {
-                let z = tables::lowest(zs);
-                let twins = same[z];
-                if rowbits::has(twins, x) {
-                    clash = true;
-                    break 'pass;
-                }
-                c = tables::gain(rowbits::has(cy, z), c, twins);
-                p = tables::gain(rowbits::has(py, z), p, twins);
-                d = d | twins;
-                zs = tables::rest(zs);
-            }
-            ys = tables::rest(ys);
-        }
-        let old = belows[x];
-        let up = above[x];
-        let b = old | (up & f.leaf) | tables::union_rows(parents, c);
-        more = more | (old ^ b);
-        child[x] = c;
-        parent[x] = p;
-        below[x] = b;
-        differ[x] = d;
-        label[x] = l;
+    let groups = find_groups(start, childs, f.root, n);
+    let given = Shares {
+        child: childs,
+        parent: parents,
+        differ: differs,
+        label: labels,
+    };
+    let same = groups.same;
+    let shared = share_rows(given, same, groups.several, n);
+    if shared.clash {
+        return Stepped {
+            clash: true,
+            more: false,
+            facts: f,
+        };
     }
-    Passed {
-        clash,
-        more,
+    let chained = groups.below;
+    let above = groups.above;
+    let child = shared.shares.child;
+    let parent = shared.shares.parent;
+    let differ = shared.shares.differ;
+    let label = shared.shares.label;
+    let joined = join_rows(chained, above, f.leaf, child, parents, n);
+    let below = joined.below;
+    Stepped {
+        clash: false,
+        more: joined.more,
         facts: Facts {
             child,
             parent,
             below,
             above,
             differ,
-            root,
+            root: whole_groups(same, f.root),
             label,
-            leaf,
+            leaf: whole_groups(same, f.leaf),
         },
     }
 }
 
-// The tables settled: passes until nothing else becomes the same. With a clash the tables are those that came in.
+// The tables settled: rounds of the steps until none has more. With a clash the tables are those that came in.
 pub fn settle(f: Facts, n: usize) -> Settled
     requires { ⌜ n ≤ 16 ⌝ }
     requires { ⌜ ((S : List Fact) × Seeded n S f) ⌝ }
@@ -194,7 +309,7 @@ pub fn settle(f: Facts, n: usize) -> Settled
             };
         }
         g = p.facts;
-        if p.more == 0 {
+        if !p.more {
             return Settled {
                 clash: false,
                 facts: g,

@@ -5,16 +5,16 @@ use mathlib.Core.Bool.{Bool}
 use mathlib.Core.List.{List}
 use Prim.Native.Nat.{ℕ, zero, suc, _+_, _-_, _<_, _≤_}
 use native.Mathlib.Nat.{le-refl, le-trans, not-suc-le-zero}
-use native.Mathlib.Decide.{ℕ-discrete}
+use native.Mathlib.Decide.{decLt, ℕ-discrete}
 use native.Mathlib.Omega.{arith}
-use lib.ListN.{set, length, length-set, replicate}
+use lib.ListN.{set, length, length-set, replicate, List·getD-eq-default}
 use lib.Bits.{and-zero-r}
 use lib.Seq.{getD-set-same, getD-set-other}
 use Rattle.meaning.specs.Finite.{Yes}
 use Rattle.meaning.proofs.Tests.{clash, eq-yes, yes-eq}
 use Rattle.rowbits.specs.Bit.{bit}
 use Rattle.tables.specs.Tables.{row, Columns}
-use Rattle.tables.specs.Rows.{Gathers, Transposed, Raised, gainedOne, gained, meets}
+use Rattle.tables.specs.Rows.{Gathers, Transposed, Raised, Combined, gainedOne, gained, meets}
 use Rattle.tables.proofs.Bits.{gained-up, gained-has, gained-case, one-is, one-has, none-in}
 
 pub below-cases : {k y : ℕ} → k < y + 1 → (k ≡ y) ⊎ (k < y)
@@ -66,6 +66,18 @@ rowing-more new n t x a v h e r = record {
       (λ m. getD-set-other a x k v 0 (λ q. omega arith) ∙ r .done k m) (below-cases l);
   rest = λ k l. getD-set-other a x k v 0 (λ q. omega arith) ∙ r .rest k (omega arith);
 }
+
+-- two tables combined row by row
+pub combined : (op : ℕ → ℕ → ℕ) → op 0 0 ≡ 0 → (t u : List ℕ) (x : ℕ) (r : List ℕ) → 16 ≤ x → x ≤ 16 → length t ≡ 16 → length u ≡ 16
+    → Rowing (λ k v. op v (row u k)) 16 t x r → Combined op t u r
+combined op none t u x r h l a b w = record { rows = λ k. go k (decLt k 16) }
+  where
+    go : (k : ℕ) → Dec (k < 16) → row r k ≡ op (row t k) (row u k)
+    go k (yes q) = w .done k (le-trans q h)
+    go k (no q) =
+        let e : row t k ≡ 0 = List·getD-eq-default t 0 (omega arith) in
+        let d : row u k ≡ 0 = List·getD-eq-default u 0 (omega arith) in
+        w .rest k (omega arith) ∙ e ∙ sym none ∙ rw (e, d) refl
 
 -- ---- columns
 

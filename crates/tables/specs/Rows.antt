@@ -44,6 +44,18 @@ pub record Raised (t : List ℕ) (which by : ℕ) (r : List ℕ) : Type 0 where
   pub within : (x : ℕ) → x < 16 → row r x ≡ gained (bit which x) (row t x) by
   pub beyond : (x : ℕ) → 16 ≤ x → row r x ≡ row t x
 
+-- row by row what two tables make together
+pub record Combined (op : ℕ → ℕ → ℕ) (t u r : List ℕ) : Type 0 where
+  pub rows : (x : ℕ) → row r x ≡ op (row t x) (row u x)
+
+-- each row with the other table's
+abbrev pub United : List ℕ → List ℕ → List ℕ → Type 0
+United = Combined bitOr
+
+-- what two tables have in common
+abbrev pub Common : List ℕ → List ℕ → List ℕ → Type 0
+Common = Combined bitAnd
+
 -- the smallest number in a row, or 16
 pub record Lowest (r k : ℕ) : Type 0 where
   pub most : k ≤ 16

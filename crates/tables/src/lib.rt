@@ -4,7 +4,7 @@ ghost use mathlib.Core.Path.{_≡_};
 ghost use mathlib.Core.Logic.{_≢_};
 ghost use Prim.Native.Nat.{_<_, _≤_, _^_, _-_};
 ghost use Rattle.meaning.specs.Finite.{pick};
-ghost use Rattle.tables.specs.Rows.{gained, meets, gainedOne, without, Gathers, Transposed, Raised, Lowest, Rest, Union};
+ghost use Rattle.tables.specs.Rows.{gained, meets, gainedOne, without, Gathers, Transposed, Raised, United, Common, Lowest, Rest, Union};
 ghost use Rattle.tables.specs.Tables.{row};
 
 // `parent` and `above` are the columns of `child` and `below`, kept as rows: bit x of row y. A label of 0 is no label fact.
@@ -144,6 +144,32 @@ pub fn raise(t: [u16; 16], which: u16, by: u16) -> [u16; 16]
     for x in 0usize..16 {
         let v = a[x];
         a[x] = gain(rowbits::has(which, x), v, by);
+    }
+    a
+}
+
+// Each row with the other table's.
+pub fn either(t: [u16; 16], u: [u16; 16]) -> [u16; 16]
+    ensures { λ r. ⌜ United t u r ⌝ }
+{
+    let mut a = t;
+    for x in 0usize..16 {
+        let v = a[x];
+        let w = u[x];
+        a[x] = v | w;
+    }
+    a
+}
+
+// What two tables have in common.
+pub fn common(t: [u16; 16], u: [u16; 16]) -> [u16; 16]
+    ensures { λ r. ⌜ Common t u r ⌝ }
+{
+    let mut a = t;
+    for x in 0usize..16 {
+        let v = a[x];
+        let w = u[x];
+        a[x] = v & w;
     }
     a
 }

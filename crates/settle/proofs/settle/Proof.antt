@@ -1,4 +1,4 @@
--- `settle::settle` meets its contract. The passes end because below grows with each that joins something; the last one leaves tables that are settled.
+-- `settle::settle` meets its contract. The rounds end because the tables grow with each that has more; the last one leaves tables that are settled.
 use mathlib.Core.Path.{refl, sym}
 use mathlib.Core.Bool.{false≢true}
 use mathlib.Core.List.{List}
@@ -10,8 +10,9 @@ use mir.Syntax.{w16}
 use borrow.Author.Needs.{needs}
 use Rattle.meaning.specs.Constraint.{Fact}
 use Rattle.tables.specs.Tables.{row, Seeded}
-use Rattle.settle.specs.Pass.{weight}
-use Rattle.settle.proofs.Final.{weight-most}
+use Rattle.settle.specs.Steps.{weight}
+use Rattle.settle.proofs.Helpers.{not-true, not-false}
+use Rattle.settle.proofs.Ending.{ready, grew, weight-most}
 use Rattle.settle.proofs.settle.Statement.{statement}
 use Rattle.settle.proofs.settle.Tie as tie
 
@@ -37,10 +38,11 @@ returns c = record {
 returns-2 : tie.Need-returns-2 Inv-loop μ-loop
 returns-2 c =
     let p = c .before .before .before in
+    let w = p .before .pass .ensures in
     record {
       clashes = λ e. absurd (false≢true e);
       kept = λ e. absurd (false≢true e);
-      settles = λ e S s. p .before .pass .ensures .ready (p .if1 .left) (c .if2 .taken) S (p .before .before .loop .inv S s);
+      settles = λ e S s. let t = p .before .before .loop .inv S s in ready _ S _ (w .seeded (p .if1 .left) S t) (w .closed (p .if1 .left) (not-true _ (c .if2 .taken)) S t);
     }
 
 below-small : (c : tie.After-pass Inv-loop μ-loop) (i : ℕ) → row (c .pass .result .facts .below) i < 65536
@@ -49,7 +51,7 @@ below-small c i = let h : Fits w16 (getD (c .pass .result .facts .below) i 0) = 
 loop-less : tie.Need-loop-less Inv-loop μ-loop
 loop-less c =
     let p = c .before .before .before in
-    let a = p .before .pass .ensures .grown (p .if1 .left) (c .if2 .left) in
+    let a = grew (p .before .pass .ensures) (p .if1 .left) (not-false _ (c .if2 .left)) in
     let b = weight-most (p .before .pass .result .facts) (below-small (p .before)) in
     omega arith
 

@@ -1,19 +1,18 @@
--- `seed::either` meets its contract: the loop has changed the rows below x.
+-- `tables::common` meets its contract: the loop has changed the rows below x.
 use mathlib.Core.Path.{refl}
 use Prim.Native.Nat.{_≤_, _-_}
-use lib.Bits.{bitOr}
+use lib.Bits.{bitAnd}
 use borrow.Author.Needs.{needs}
 use Rattle.tables.specs.Tables.{row}
-use Rattle.tables.proofs.Loops.{Rowing, rowing-none, rowing-more}
-use Rattle.seed.proofs.Parts.{united}
-use Rattle.seed.proofs.either.Statement.{statement}
-use Rattle.seed.proofs.either.Tie as tie
+use Rattle.tables.proofs.Loops.{Rowing, rowing-none, rowing-more, combined}
+use Rattle.tables.proofs.common.Statement.{statement}
+use Rattle.tables.proofs.common.Tie as tie
 
 abbrev Inv-loop : tie.InvT-loop
-Inv-loop more a₀ x₀ a x = (x ≤ 16) × Rowing (λ k v. bitOr v (row more k)) 16 a₀ x a
+Inv-loop u a₀ x₀ a x = (x ≤ 16) × Rowing (λ k v. bitAnd v (row u k)) 16 a₀ x a
 
 abbrev μ-loop : tie.MeasureT-loop
-μ-loop more a₀ x₀ a x = 16 - x
+μ-loop u a₀ x₀ a x = 16 - x
 
 loop-holds : tie.Need-loop-holds Inv-loop μ-loop
 loop-holds c = (search needs, rowing-none _ _ _ (search needs))
@@ -46,10 +45,10 @@ loop-again : tie.Need-loop-again Inv-loop μ-loop
 loop-again c = (search needs, rowing-more _ _ _ _ _ _ (search needs) refl (c .before .loop .inv .1))
 
 returns : tie.Need-returns Inv-loop μ-loop
-returns c = united _ _ _ _ (search needs) (c .before .loop .inv .0) (search needs) (c .before .loop .inv .1)
+returns c = combined _ refl _ _ _ _ (search needs) (c .before .loop .inv .0) (search needs) (search needs) (c .before .loop .inv .1)
 
-pub either-spec : {M : Type 1} → statement M
-either-spec =
+pub common-spec : {M : Type 1} → statement M
+common-spec =
     tie.close
     (tie.spec
     Inv-loop

@@ -1,0 +1,42 @@
+-- The end of settling: where no step has more to add, the groups of rules of the steps are together all rules, so the tables decide the settled set.
+use mathlib.Core.Path.{_≡_, sym, _∙_, subst}
+use mathlib.Core.Bool.{Bool, true, false}
+use mathlib.Core.List.{List}
+use Prim.Native.Nat.{ℕ, _+_, _<_, _≤_}
+use native.Mathlib.Omega.{arith}
+use Rattle.meaning.specs.Constraint.{Fact}
+use Rattle.meaning.specs.Settled.{Clash, differs, labels}
+use Rattle.meaning.specs.ReadOff.{Decides}
+use Rattle.meaning.specs.Finite.{Yes, pick}
+use Rattle.meaning.proofs.Finite.{sum-bound}
+use Rattle.meaning.specs.Closed.{Rules}
+use Rattle.theory.proofs.Closure.{rules-decide}
+use Rattle.tables.specs.Tables.{row, has, Seeded, Ready}
+use Rattle.tables.specs.declared.Facts.{Facts}
+use Rattle.tables.proofs.Labels.{label-is}
+use Rattle.settle.specs.Steps.{weight, SteppedOf, PassRules}
+use Rattle.settle.specs.declared.Stepped.{Stepped}
+
+module _ (n : ℕ) (S : List Fact) (f : Facts) (seed : Seeded n S f) (passed : PassRules n f) where
+  rules : Rules n (λ φ. Yes (has f φ))
+  rules = record { sharing = passed .sharing; one-parent = passed .one-parent }
+
+  decided : Decides n S (has f)
+  decided = rules-decide n S (has f) (seed .sound) (seed .held) rules
+
+  no-clash : ¬ Clash n S
+  no-clash (differs {x} c) = passed .apart x (decided .complete c)
+  no-clash (labels {x} {l} {m} s t d) = d (sym (label-is f x l (decided .complete s) .0) ∙ label-is f x m (decided .complete t) .0)
+
+  pub ready : Ready n S f
+  ready = record { inside = seed .inside; free = no-clash; decides = decided; mirrored = record { parents = seed .parents; ancestors = passed .ancestors } }
+
+-- ---- why it comes
+
+pub grew : {G : Facts → Type 0} {n : ℕ} {f : Facts} {r : Stepped} → SteppedOf G n f r → r .clash ≡ false → r .more ≡ true → weight f < weight (r .facts)
+unfolding pick
+grew {f = f} {r = r} w c m = let a : weight f + 1 ≤ weight (r .facts) = subst (λ (b : Bool). weight f + pick b 1 0 ≤ weight (r .facts)) m (w .grown c) in omega arith
+
+pub weight-most : (f : Facts) → ((x : ℕ) → row (f .below) x < 65536) → weight f ≤ 1048560
+unfolding weight
+weight-most f h = sum-bound 16 65535 _ (λ x l. let a = h x in omega arith)

@@ -1,0 +1,76 @@
+-- `settle::join_rows` meets its contract: the loop has joined the rows below x.
+use Prim.Native.Nat.{_≤_, _-_}
+use native.Mathlib.Numerals.{add-one-le}
+use borrow.Author.Needs.{needs}
+use Rattle.settle.proofs.Passing.{Joining, joining-none, joining-more, joined-rows}
+use Rattle.settle.proofs.join_rows.Statement.{statement}
+use Rattle.settle.proofs.join_rows.Tie as tie
+
+abbrev Inv-loop : tie.InvT-loop
+Inv-loop leaf parents n above child a₀ more₀ x₀ a more x = (x ≤ n) × Joining a₀ above leaf child parents x a more
+
+abbrev μ-loop : tie.MeasureT-loop
+μ-loop leaf parents n above child a₀ more₀ x₀ a more x = n - x
+
+loop-holds : tie.Need-loop-holds Inv-loop μ-loop
+loop-holds c = (search needs, joining-none _ _ _ _ _ (search needs))
+
+mul-old : tie.Need-mul-old Inv-loop μ-loop
+mul-old c = search needs
+
+array-read-old : tie.Need-array-read-old Inv-loop μ-loop
+array-read-old c = search needs
+
+mul-up : tie.Need-mul-up Inv-loop μ-loop
+mul-up c = search needs
+
+array-read-up : tie.Need-array-read-up Inv-loop μ-loop
+array-read-up c = search needs
+
+mul-c : tie.Need-mul-c Inv-loop μ-loop
+mul-c c = search needs
+
+array-read-c : tie.Need-array-read-c Inv-loop μ-loop
+array-read-c c = search needs
+
+union-rows-requires : tie.Need-union-rows-requires Inv-loop μ-loop
+union-rows-requires c κs = search needs
+
+mul-a : tie.Need-mul-a Inv-loop μ-loop
+mul-a c = search needs
+
+array-write-a : tie.Need-array-write-a Inv-loop μ-loop
+array-write-a c = search needs
+
+add-x : tie.Need-add-x Inv-loop μ-loop
+add-x c = search needs
+
+loop-less : tie.Need-loop-less Inv-loop μ-loop
+loop-less c = search needs
+
+loop-again : tie.Need-loop-again Inv-loop μ-loop
+loop-again c = (add-one-le (c .before .loop-test .taken), joining-more _ _ _ _ _ _ _ _ _ (search needs) (c .before .before .loop .inv .1) (c .union-rows .ensures))
+
+returns : tie.Need-returns Inv-loop μ-loop
+returns c = joined-rows _ _ _ _ _ _ _ _ _ (c .before .loop .inv .0) (c .loop-test .left) (c .before .loop .inv .1)
+
+pub join-rows-spec : {M : Type 1} → statement M
+join-rows-spec =
+    tie.close
+    (tie.spec
+    Inv-loop
+    μ-loop
+    loop-holds
+    mul-old
+    array-read-old
+    mul-up
+    array-read-up
+    mul-c
+    array-read-c
+    union-rows-requires
+    mul-a
+    array-write-a
+    add-x
+    loop-less
+    loop-again
+    returns)
