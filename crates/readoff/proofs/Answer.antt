@@ -1,12 +1,14 @@
 -- What is written, the added nodes, those of the groups and the places, is the answer file.
 use mathlib.Core.Path.{_≡_, refl, sym, ap, subst, _∙_}
-use mathlib.Core.Logic.{⊎-elim}
+use mathlib.Core.Logic.{_⊎_, ⊎-elim}
 use mathlib.Core.List.{List, [], _∷_, _++_, map}
-use Prim.Native.Nat.{ℕ, _+_, _*_, _≤_, _<_}
-use native.Mathlib.Nat.{zero-add}
+use Prim.Native.Nat.{ℕ, _+_, _-_, _*_, _/_, _%_, _≤_, _<_}
+use native.Mathlib.Nat.{mod-lt, div-add-mod'}
+use native.Mathlib.Decide.{decLt}
 use native.Mathlib.Omega.{arith}
 use lib.Count.{ones}
-use lib.ListN.{length, getD, drop, length-append}
+use lib.ListN.{length, getD, drop, length-append, length-drop, List·getD-append}
+use lib.Seq.{getD-append-add, getD-drop, ext-getD}
 use Rattle.meaning.specs.Constraint.{Fact}
 use Rattle.meaning.specs.Finite.{tab}
 use Rattle.meaning.specs.ReadOff.{FactSet, layer, order, added, nodeAt, NodeRecord, blankRecord, nodes, treeOf, place, places, nodeBytes, placeBytes, answerFile}
@@ -19,77 +21,104 @@ use Rattle.readoff.specs.declared.Front.{Front}
 use Rattle.readoff.specs.declared.Order.{Order}
 use Rattle.readoff.specs.Rows.{Gathered, isLow}
 use Rattle.readoff.specs.Numbering.{frontOf, numbered, inFront}
-use Rattle.readoff.specs.Listing.{groups, listed, Listed, Led, placeIn, nodeIn}
-use Rattle.readoff.specs.Written.{Wrote, Recorded, FileWritten}
+use Rattle.readoff.specs.Listing.{groups, listed, Listed, Led, placeIn, groupRecord}
+use Rattle.readoff.specs.Written.{Recorded, nodeRecord, placeRecord, FileWritten}
 use Rattle.readoff.proofs.Layered.{Layered}
 use Rattle.readoff.proofs.Listing.{length-groups}
 use Rattle.readoff.proofs.Numbering.{numbered-is, front-is}
 use Rattle.readoff.proofs.Meaning.{order-most, node-is, places-are}
 use Rattle.readoff.proofs.Ordering.{order-is, tops-are}
 use Rattle.readoff.proofs.Leading.{led}
-use Rattle.readoff.proofs.Written.{wrote-more, nodes-long, nodes-here, nodes-behind, nodes-filled, recorded-as}
+use Rattle.readoff.proofs.Written.{nodeBytes-at, placeBytes-at, recorded-as}
 
 -- ---- of any facts
 
-module _ (n : ℕ) (few : n ≤ 16) (h : FactSet) where
-  count-is : length (nodes n h) ≡ nodeAt n h (length (order n h))
-  unfolding tree treeOf
-  count-is = size-is n h
+module _ (n : ℕ) (h : FactSet) where
+  abbrev size : ℕ
+  size = length (nodes n h)
 
-  few-added : length (added n h) ≤ length (nodes n h)
+  size-exact : size ≡ nodeAt n h (length (order n h))
+  unfolding tree treeOf
+  size-exact = size-is n h
+
+  few-added : length (added n h) ≤ size
   unfolding nodes
   few-added = omega (arith, length-append (added n h) (map (node n h) (order n h)))
 
-  -- each node is an added one or that of a group, and has its record
-  nodes-written : (old first second : List ℕ) → length (nodes n h) * 4 ≤ length old → Wrote 0 (nodeBytes 0 (added n h)) old first
-      → Recorded (nodeAt n h) (λ i. node n h (getD (order n h) i 0)) (length (order n h)) first second → Wrote 0 (nodeBytes 0 (nodes n h)) old second
-  unfolding tree treeOf
-  nodes-written old first second room w r = nodes-filled (nodes n h) old second room (r .long ∙ nodes-long (added n h) old first fits w) here behind
-    where
-      fits : length (added n h) * 4 ≤ length old
-      fits = omega (arith, few-added)
+  places-length : length (places n h) ≡ n
+  unfolding places
+  places-length = length-tab n (place n h)
 
-      has : ℕ → ℕ → Type 0
-      has v j = getD second (v * 4 + j) 0 ≡ getD (nodeBytes v (getD (nodes n h) v blankRecord ∷ [])) j 0
-
-      here : (v j : ℕ) → v < length (nodes n h) → j < 4 → has v j
-      here v j l m = ⊎-elim at-added at-group (which n h v l)
-        where
-          at-added : Added n h v → has v j
-          at-added a =
-              r .others v j (λ i k. a .apart i) m ∙ nodes-here (added n h) old first fits w v j (a .early) m
-              ∙ ap (λ (k : NodeRecord). getD (nodeBytes v (k ∷ [])) j 0) (sym (added-at n h v (a .early)))
-
-          at-group : (i : ℕ) × (i < length (order n h)) × (v ≡ nodeAt n h i) → has v j
-          at-group q =
-              subst (λ (k : ℕ). has k j) (sym (q .2))
-              (r .these (q .0) j (q .1) m ∙ ap (λ (k : NodeRecord). getD (nodeBytes (nodeAt n h (q .0)) (k ∷ [])) j 0) (sym (node-at n h (q .0) (q .1))))
-
-      behind : (v j : ℕ) → length (nodes n h) ≤ v → j < 4 → getD second (v * 4 + j) 0 ≡ getD old (v * 4 + j) 0
-      behind v j l m =
-          r .others v j (λ i k e. let a = node-inside n h k in omega arith) m
-          ∙ nodes-behind (added n h) old first fits w v j (omega (arith, few-added))
-
-  file-length : length (answerFile n h) ≡ length (nodes n h) * 4 + n * 4
-  unfolding answerFile places
+  file-length : length (answerFile n h) ≡ (size + n) * 4
+  unfolding answerFile
   file-length =
       let a = length-append (nodeBytes 0 (nodes n h)) (placeBytes 0 (places n h)) in
-      let b = length-placeBytes 0 (places n h) in
-      let c = length-tab n (place n h) in
-      omega (arith, length-nodeBytes 0 (nodes n h))
+      omega (arith, length-nodeBytes 0 (nodes n h), length-placeBytes 0 (places n h), places-length)
 
-  answered : (old second new : List ℕ) → 132 ≤ length old → Wrote 0 (nodeBytes 0 (nodes n h)) old second
-      → Wrote (length (nodes n h) * 4) (placeBytes 0 (places n h)) second new → FileWritten n h old (length (nodes n h) * 4 + n * 4) new
-  unfolding answerFile
-  answered old second new room w u =
-      let a = nodes-most n h in
-      let b = length-nodeBytes 0 (nodes n h) in
-      record {
-        size = sym file-length;
-        bytes = wrote-more 0 (nodeBytes 0 (nodes n h)) old second w (omega arith) (length (nodes n h) * 4) (placeBytes 0 (places n h)) (answerFile n h) new (omega arith) u refl
-            ∙ ap (λ (k : ℕ). answerFile n h ++ drop k old) (zero-add (length (answerFile n h)));
-        most = omega arith;
-      }
+  -- ---- a buffer that has every record of the file, and behind them what it had
+
+  module _ (old new : List ℕ) (room : (size + n) * 4 ≤ length old) where
+    abbrev file : List ℕ
+    file = answerFile n h ++ drop (length (answerFile n h)) old
+
+    at-node : (v j : ℕ) → v < size → j < 4 → getD file (v * 4 + j) 0 ≡ getD (nodeRecord (nodes n h) v) j 0
+    unfolding answerFile
+    at-node v j l m =
+        List·getD-append (answerFile n h) _ 0 (v * 4 + j) (omega (arith, file-length))
+        ∙ List·getD-append (nodeBytes 0 (nodes n h)) _ 0 (v * 4 + j) (omega (arith, length-nodeBytes 0 (nodes n h))) ∙ nodeBytes-at (nodes n h) v j l m
+
+    at-place : (x j : ℕ) → x < n → j < 4 → getD file ((size + x) * 4 + j) 0 ≡ getD (placeRecord (places n h) x) j 0
+    unfolding answerFile
+    at-place x j l m =
+        let e : (size + x) * 4 + j ≡ length (nodeBytes 0 (nodes n h)) + (x * 4 + j) = omega (arith, length-nodeBytes 0 (nodes n h)) in
+        List·getD-append (answerFile n h) _ 0 ((size + x) * 4 + j) (omega (arith, file-length)) ∙ ap (λ (k : ℕ). getD (answerFile n h) k 0) e
+        ∙ getD-append-add (nodeBytes 0 (nodes n h)) (placeBytes 0 (places n h)) (x * 4 + j) 0 ∙ placeBytes-at (places n h) x j (omega (arith, places-length)) m
+
+    at-behind : (p : ℕ) → (size + n) * 4 ≤ p → getD file p 0 ≡ getD old p 0
+    at-behind p l =
+        let e : length (answerFile n h) + (p - length (answerFile n h)) ≡ p = omega (arith, file-length) in
+        ap (λ (k : ℕ). getD file k 0) (sym e) ∙ getD-append-add (answerFile n h) _ (p - length (answerFile n h)) 0
+        ∙ getD-drop (length (answerFile n h)) old (p - length (answerFile n h)) 0 ∙ ap (λ (k : ℕ). getD old k 0) e
+
+    whole : length new ≡ length old → ((v j : ℕ) → j < 4 → getD new (v * 4 + j) 0 ≡ getD file (v * 4 + j) 0) → new ≡ file
+    whole long each =
+        ext-getD 0 new file (let a = length-append (answerFile n h) (drop (length (answerFile n h)) old) in omega (arith, length-drop (length (answerFile n h)) old, file-length))
+        (λ p l. subst (λ (k : ℕ). getD new k 0 ≡ getD file k 0) (div-add-mod' p 4) (each (p / 4) (p % 4) (mod-lt p (omega arith))))
+
+  -- each node is an added one or that of a group, and has its record
+  node-written : (old first second : List ℕ) → Recorded (λ v. v) (nodeRecord (added n h)) (length (added n h)) old first
+      → Recorded (nodeAt n h) (λ i. nodeBytes (nodeAt n h i) (node n h (getD (order n h) i 0) ∷ [])) (length (order n h)) first second
+      → (v j : ℕ) → Added n h v ⊎ ((i : ℕ) × (i < length (order n h)) × (v ≡ nodeAt n h i)) → j < 4 → getD second (v * 4 + j) 0 ≡ getD (nodeRecord (nodes n h) v) j 0
+  node-written old first second a g v j w m =
+      ⊎-elim
+      (λ q. g .others v j (λ i k. q .apart i) m ∙ a .these v j (q .early) m
+      ∙ ap (λ (r : NodeRecord). getD (nodeBytes v (r ∷ [])) j 0) (sym (added-at n h v (q .early))))
+      (λ q. subst (λ (k : ℕ). getD second (k * 4 + j) 0 ≡ getD (nodeRecord (nodes n h) k) j 0) (sym (q .2))
+      (g .these (q .0) j (q .1) m ∙ ap (λ (r : NodeRecord). getD (nodeBytes (nodeAt n h (q .0)) (r ∷ [])) j 0) (sym (node-at n h (q .0) (q .1)))))
+      w
+
+  answered : (old first second new : List ℕ) → n ≤ 16 → 132 ≤ length old → Recorded (λ v. v) (nodeRecord (added n h)) (length (added n h)) old first
+      → Recorded (nodeAt n h) (λ i. nodeBytes (nodeAt n h i) (node n h (getD (order n h) i 0) ∷ [])) (length (order n h)) first second
+      → Recorded (λ x. size + x) (placeRecord (places n h)) n second new → FileWritten n h old ((size + n) * 4) new
+  unfolding tree treeOf
+  answered old first second new few room a g p = record {
+    size = sym file-length;
+    bytes = whole old new fits (p .long ∙ g .long ∙ a .long) (λ v j m. byte v j m (decLt v size) (decLt v (size + n)));
+    most = omega (arith, nodes-most n h);
+  }
+    where
+      fits : (size + n) * 4 ≤ length old
+      fits = omega (arith, nodes-most n h)
+
+      byte : (v j : ℕ) → j < 4 → Dec (v < size) → Dec (v < size + n) → getD new (v * 4 + j) 0 ≡ getD (file old new fits) (v * 4 + j) 0
+      byte v j m (yes l) _ = p .others v j (λ x i e. let q : v ≡ size + x = e in omega arith) m ∙ node-written old first second a g v j (which n h v l) m ∙ sym (at-node old new fits v j l m)
+      byte v j m (no l) (yes k) =
+          let e : size + (v - size) ≡ v = omega arith in
+          subst (λ (i : ℕ). getD new (i * 4 + j) 0 ≡ getD (file old new fits) (i * 4 + j) 0) e
+          (p .these (v - size) j (omega arith) m ∙ sym (at-place old new fits (v - size) j (omega arith) m))
+      byte v j m (no l) (no k) =
+          p .others v j (λ x i e. let q : v ≡ size + x = e in omega arith) m ∙ g .others v j (λ i k e. let q = node-inside n h k in omega arith) m
+          ∙ a .others v j (λ i k e. let q : v ≡ i = e in omega (arith, few-added)) m ∙ sym (at-behind old new fits (v * 4 + j) (omega arith))
 
 -- ---- of the tables
 
@@ -116,9 +145,6 @@ module _ (f : Facts) (n lows : ℕ) (rows : List ℕ) (o : Order) (s : Ordered f
   pub groups-led : (S : List Fact) → Ready n S f → Led (f .below) (f .above) n (groups o)
   groups-led S r = subst (Led (f .below) (f .above) n) (sym groups-are) (led f n (s .few) S r)
 
-  pub len-most : o .len ≤ n
-  len-most = omega (arith, len-is, order-most n (has f))
-
   module _ (front : Front) (e : front ≡ frontOf (ones (row rows 0))) where
     front-exact : front ≡ frontOf (length (layer n (has f) 0))
     front-exact = e ∙ ap frontOf (tops-are f n (s .few) (s .columns) lows (s .low) rows (s .layered))
@@ -129,23 +155,22 @@ module _ (f : Facts) (n lows : ℕ) (rows : List ℕ) (o : Order) (s : Ordered f
     added-are : inFront front ≡ added n (has f)
     added-are = ap inFront front-exact ∙ front-is n (has f)
 
-    size-exact : numbered front (o .len) ≡ length (nodes n (has f))
-    size-exact = ap (λ (number : ℕ → ℕ). number (o .len)) numbers-are ∙ ap (nodeAt n (has f)) len-is ∙ sym (count-is n (s .few) (has f))
+    first-is : numbered front (o .len) ≡ size n (has f)
+    first-is = ap (λ (number : ℕ → ℕ). number (o .len)) numbers-are ∙ ap (nodeAt n (has f)) len-is ∙ sym (size-exact n (has f))
 
     pub size-most : numbered front (o .len) ≤ n + 1
-    size-most = omega (arith, size-exact, nodes-most n (has f))
+    size-most = omega (arith, first-is, nodes-most n (has f))
 
     pub added-most : length (inFront front) ≤ n + 1
-    added-most = omega (arith, ap length added-are, few-added n (s .few) (has f), nodes-most n (has f))
+    added-most = omega (arith, ap length added-are, few-added n (has f), nodes-most n (has f))
 
-    pub file-written : (size : ℕ) (old first second new : List ℕ) (ns : List ℕ) → size ≡ numbered front (o .len) → 132 ≤ length old → ((g : ℕ) → row (f .label) g < 256)
-        → Wrote 0 (nodeBytes 0 (inFront front)) old first
-        → Recorded (numbered front) (nodeIn (f .below) (f .above) (f .label) n lows (numbered front) (groups o)) (o .len) first second
-        → Wrote (size * 4) (placeBytes 0 ns) second new → ns ≡ tab n (placeIn (f .below) (f .above) (numbered front) (groups o))
-        → FileWritten n (has f) old (size * 4 + n * 4) new
-    file-written size old first second new ns z room bytes w v u d =
-        rw (z, size-exact)
-        (answered n (s .few) (has f) old second new room
-        (nodes-written n (s .few) (has f) old first second (omega (arith, size-exact, size-most)) (rw added-are at w)
-        (recorded-as _ _ _ _ _ _ (node-is f n (s .few) (s .columns) lows (s .low) bytes) (rw (numbers-are, groups-are, len-is) at v)))
-        (rw (z, size-exact, d, groups-are, numbers-are, places-are f n (s .few) (s .columns)) at u))
+    pub file-written : (first : ℕ) (old mid late new : List ℕ) (vs : List ℕ) → first ≡ numbered front (o .len) → 132 ≤ length old → ((g : ℕ) → row (f .label) g < 256)
+        → Recorded (λ v. v) (nodeRecord (inFront front)) (length (inFront front)) old mid
+        → Recorded (numbered front) (groupRecord (f .below) (f .above) (f .label) n lows (numbered front) (groups o)) (o .len) mid late
+        → Recorded (λ x. first + x) (placeRecord vs) n late new → vs ≡ tab n (placeIn (f .below) (f .above) (numbered front) (groups o))
+        → FileWritten n (has f) old ((first + n) * 4) new
+    file-written first old mid late new vs z room bytes a g p d =
+        rw (z, first-is)
+        (answered n (has f) old mid late new (s .few) room (rw added-are at a)
+        (recorded-as _ _ _ _ _ _ (λ i l. ap (λ (r : NodeRecord). nodeBytes (nodeAt n (has f) i) (r ∷ [])) (node-is f n (s .few) (s .columns) lows (s .low) bytes i l)) (rw (numbers-are, groups-are, len-is) at g))
+        (rw (z, first-is, d, groups-are, numbers-are, places-are f n (s .few) (s .columns)) at p))

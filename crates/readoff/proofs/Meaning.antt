@@ -141,7 +141,7 @@ module _ (f : Facts) (n : ℕ) (few : n ≤ 16) (m : Columns (f .below) (f .abov
         )
 
     pub node-is : ((g : ℕ) → row (f .label) g < 256) → (i : ℕ) → i < length (order n (has f))
-        → nodeIn (f .below) (f .above) (f .label) n lows (nodeAt n (has f)) (order n (has f)) i ≡ node n (has f) (getD (order n (has f)) i 0)
+        → nodeIn (f .below) (f .above) (f .label) n lows (nodeAt n (has f)) (order n (has f)) (getD (order n (has f)) i 0) ≡ node n (has f) (getD (order n (has f)) i 0)
     unfolding nodeIn
     node-is bytes i l =
         let x : ℕ = getD (order n (has f)) i 0 in

@@ -9,14 +9,13 @@ ghost use lib.Dec.{eqb};
 ghost use lib.ListN.{length};
 ghost use Rattle.meaning.specs.Constraint.{Fact};
 ghost use Rattle.meaning.specs.Finite.{_and_, picked, position, tab};
-ghost use Rattle.meaning.specs.ReadOff.{nodeBytes, placeBytes};
 ghost use Rattle.rowbits.specs.Bit.{bit};
 ghost use Rattle.tables.specs.Rows.{without};
 ghost use Rattle.tables.specs.Tables.{row, has, Ready};
 ghost use Rattle.readoff.specs.Rows.{Gathered, overRow, isLow, inLayer, near};
 ghost use Rattle.readoff.specs.Numbering.{frontOf, numbered, inFront};
-ghost use Rattle.readoff.specs.Listing.{groups, Small, listed, Listed, Placed, Led, nodeNumbers, placeIn, parentIn, nodeIn};
-ghost use Rattle.readoff.specs.Written.{Wrote, Recorded, FileWritten};
+ghost use Rattle.readoff.specs.Listing.{groups, Small, listed, Listed, Placed, Led, nodeNumbers, placeIn, parentIn, groupRecord};
+ghost use Rattle.readoff.specs.Written.{Recorded, Put, nodeRecord, placeRecord, FileWritten};
 use ids::Node;
 use ids::Var;
 use tables::Facts;
@@ -211,11 +210,12 @@ fn assign(order: Order, below: [u16; 16], above: [u16; 16], front: Front, n: usi
     nodes
 }
 
-// A record of four bytes.
-fn put(answer: &mut [u8], at: usize, kind: u8, own: u8, node: u8, last: u8)
-    requires { ⌜ at + 4 ≤ length (now answer) ⌝ }
-    ensures { λ _. ⌜ Wrote at (kind ∷ own ∷ node ∷ last ∷ []) (now (answer .entry)) (now (answer .exit)) ⌝ }
+// A record of four bytes, at its number.
+fn put(answer: &mut [u8], number: usize, kind: u8, own: u8, node: u8, last: u8)
+    requires { ⌜ number * 4 + 4 ≤ length (now answer) ⌝ }
+    ensures { λ _. ⌜ Put number (kind ∷ own ∷ node ∷ last ∷ []) (now (answer .entry)) (now (answer .exit)) ⌝ }
 {
+    let at = number * 4;
     answer[at] = kind;
     answer[at + 1] = own;
     answer[at + 2] = node;
@@ -224,22 +224,22 @@ fn put(answer: &mut [u8], at: usize, kind: u8, own: u8, node: u8, last: u8)
 
 fn put_node(answer: &mut [u8], own: Node, parent: Node, label: u8)
     requires { ⌜ own .0 * 4 + 4 ≤ length (now answer) ⌝ }
-    ensures { λ _. ⌜ Wrote (own .0 * 4) (1 ∷ own .0 ∷ parent .0 ∷ label ∷ []) (now (answer .entry)) (now (answer .exit)) ⌝ }
+    ensures { λ _. ⌜ Put (own .0) (1 ∷ own .0 ∷ parent .0 ∷ label ∷ []) (now (answer .entry)) (now (answer .exit)) ⌝ }
 {
-    put(answer, own.0 as usize * 4, 1, own.0, parent.0, label);
+    put(answer, own.0 as usize, 1, own.0, parent.0, label);
 }
 
-fn put_place(answer: &mut [u8], at: usize, own: Var, node: Node)
-    requires { ⌜ at + 4 ≤ length (now answer) ⌝ }
-    ensures { λ _. ⌜ Wrote at (2 ∷ own .0 ∷ node .0 ∷ 0 ∷ []) (now (answer .entry)) (now (answer .exit)) ⌝ }
+fn put_place(answer: &mut [u8], number: usize, own: Var, node: Node)
+    requires { ⌜ number * 4 + 4 ≤ length (now answer) ⌝ }
+    ensures { λ _. ⌜ Put number (2 ∷ own .0 ∷ node .0 ∷ 0 ∷ []) (now (answer .entry)) (now (answer .exit)) ⌝ }
 {
-    put(answer, at, 2, own.0, node.0, 0);
+    put(answer, number, 2, own.0, node.0, 0);
 }
 
 // The nodes that are added.
 fn put_front(answer: &mut [u8], front: Front)
     requires { ⌜ length (inFront front) * 4 ≤ length (now answer) ⌝ }
-    ensures { λ _. ⌜ Wrote 0 (nodeBytes 0 (inFront front)) (now (answer .entry)) (now (answer .exit)) ⌝ }
+    ensures { λ _. ⌜ Recorded (λ v. v) (nodeRecord (inFront front)) (length (inFront front)) (now (answer .entry)) (now (answer .exit)) ⌝ }
 {
     if front.blank == 1 {
         put_node(answer, Node(0), Node(0), 0);
@@ -258,7 +258,7 @@ fn put_nodes(
     n: usize,
 )
     requires { ⌜ Small order × (numbered front (order .len) < 256) × (n ≤ 16) × (numbered front (order .len) * 4 ≤ length (now answer)) ⌝ }
-    ensures { λ _. ⌜ Recorded (numbered front) (nodeIn below above label n lows (numbered front) (groups order)) (order .len) (now (answer .entry)) (now (answer .exit)) ⌝ }
+    ensures { λ _. ⌜ Recorded (numbered front) (groupRecord below above label n lows (numbered front) (groups order)) (order .len) (now (answer .entry)) (now (answer .exit)) ⌝ }
 {
     let len = order.len;
     for i in 0..len {
@@ -273,13 +273,13 @@ fn put_nodes(
 }
 
 // The places of the variables.
-fn put_places(answer: &mut [u8], at: usize, nodes: [Node; 16], n: usize)
-    requires { ⌜ (n ≤ 16) × (at + n * 4 ≤ length (now answer)) ⌝ }
-    ensures { λ _. ⌜ Wrote at (placeBytes 0 (nodeNumbers n nodes)) (now (answer .entry)) (now (answer .exit)) ⌝ }
+fn put_places(answer: &mut [u8], first: usize, nodes: [Node; 16], n: usize)
+    requires { ⌜ (n ≤ 16) × ((first + n) * 4 ≤ length (now answer)) ⌝ }
+    ensures { λ _. ⌜ Recorded (λ x. first + x) (placeRecord (nodeNumbers n nodes)) n (now (answer .entry)) (now (answer .exit)) ⌝ }
 {
     for x in 0..n {
         let v = nodes[x];
-        put_place(answer, at + x * 4, Var(x as u8), v);
+        put_place(answer, first + x, Var(x as u8), v);
     }
 }
 
@@ -300,8 +300,8 @@ pub fn read_off(f: Facts, n: usize, answer: &mut [u8]) -> usize
     put_nodes(answer, order, below, above, label, low, front, n);
     let len = order.len;
     let size = node_at(front, len);
-    let at = size.0 as usize * 4;
+    let first = size.0 as usize;
     let nodes = assign(order, below, above, front, n);
-    put_places(answer, at, nodes, n);
-    at + n * 4
+    put_places(answer, first, nodes, n);
+    (first + n) * 4
 }

@@ -5,17 +5,17 @@ use native.Mathlib.Nat.{le-of-lt}
 use native.Mathlib.Omega.{arith}
 use lib.ListN.{length, getD}
 use Rattle.readoff.specs.Numbering.{numbered}
-use Rattle.readoff.specs.Listing.{groups, nodeIn}
+use Rattle.readoff.specs.Listing.{groups, groupRecord}
 use Rattle.readoff.specs.Written.{Recorded}
 use Rattle.readoff.proofs.Listing.{length-mapped, inside-at}
 use Rattle.readoff.proofs.Numbering.{numbered-later, numbered-fits}
-use Rattle.readoff.proofs.Written.{recorded-none, recorded-more, recorded-all, up-is, label-is}
+use Rattle.readoff.proofs.Written.{recorded-none, recorded-more, recorded-all, group-record}
 use borrow.Author.Needs.{needs}
 use Rattle.readoff.proofs.put_nodes.Statement.{statement}
 use Rattle.readoff.proofs.put_nodes.Tie as tie
 
 abbrev Inv-loop : tie.InvT-loop
-Inv-loop answer₀ lows front n order below above label len i₀ answer i = (i ≤ len) × Recorded (numbered front) (nodeIn below above label n lows (numbered front) (groups order)) i answer₀ answer
+Inv-loop answer₀ lows front n order below above label len i₀ answer i = (i ≤ len) × Recorded (numbered front) (groupRecord below above label n lows (numbered front) (groups order)) i answer₀ answer
 
 abbrev μ-loop : tie.MeasureT-loop
 μ-loop answer₀ lows front n order below above label len i₀ answer i = len - i
@@ -29,13 +29,6 @@ variable-in c =
     let i = c .before .before .before in
     let s = i .before .before in
     inside-at (s .args .t2) (order-long s) (s .pre .0) (i .loop .i) (search needs)
-
--- there is room for the record
-room : (c : tie.After-node-at Inv-loop μ-loop) → c .node-at .result .0 * 4 + 4 ≤ length (c .before .before .before .before .before .before .before .loop .answer)
-room c =
-    let l = c .before .before .before .before .before .before in
-    let s = l .before .before .before in
-    omega (arith, c .node-at .ensures, numbered-later (s .args .front) _ _ (l .loop-test .taken), s .pre .3, l .before .loop .inv .1 .long)
 
 loop-holds : tie.Need-loop-holds Inv-loop μ-loop
 loop-holds c = (search needs, recorded-none _ _ _)
@@ -73,7 +66,10 @@ node-at-requires c κs =
     numbered-fits _ _ _ (le-of-lt (l .loop-test .taken)) (l .before .before .before .pre .1)
 
 put-node-requires : tie.Need-put-node-requires Inv-loop μ-loop
-put-node-requires c κs = room c
+put-node-requires c κs =
+    let l = c .before .before .before .before .before .before in
+    let s = l .before .before .before in
+    omega (arith, c .node-at .ensures, numbered-later (s .args .front) _ _ (l .loop-test .taken), s .pre .3, l .before .loop .inv .1 .long)
 
 add-i : tie.Need-add-i Inv-loop μ-loop
 add-i c = search needs
@@ -89,9 +85,8 @@ loop-again c =
     let i = l .before in
     let s = i .before .before in (
       search needs,
-      recorded-more (numbered (s .args .front)) _ (numbered-later (s .args .front)) (i .loop .i) _ _ _ (s .args .answer .now) (i .loop .answer) (c .before .before .put-node .last .0) (a .node-at .ensures)
-          (up-is _ _ _ _ _ _ _ (order-long s) (s .pre .0) (i .loop .i) (l .loop-test .taken) _ _ (p .before .over .ensures) (p .parent-of .ensures))
-          (label-is _ _ _ _ _ _ _ (order-long s) (s .pre .0) (i .loop .i) (l .loop-test .taken)) (room a) (i .loop .inv .1) (c .before .before .put-node .ensures),
+      recorded-more (numbered (s .args .front)) _ (numbered-later (s .args .front)) (i .loop .i) _ _ (s .args .answer .now) (i .loop .answer) (c .before .before .put-node .last .0) (a .node-at .ensures)
+          (group-record _ _ _ _ _ _ _ (order-long s) (s .pre .0) (i .loop .i) (l .loop-test .taken) _ _ _ (a .node-at .ensures) (p .before .over .ensures) (p .parent-of .ensures)) (i .loop .inv .1) (c .before .before .put-node .ensures),
     )
 
 same-length : tie.Need-same-length Inv-loop μ-loop

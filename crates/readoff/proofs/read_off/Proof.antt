@@ -89,11 +89,8 @@ put-nodes-requires c κs =
 node-at-requires : tie.Need-node-at-requires
 node-at-requires c κs = small-numbers (c .before .before .before .before .before .before .before .before)
 
-cast-at : tie.Need-cast-at
-cast-at c = omega (arith, size-small (c .before), s (known (c .before)) .pre .0)
-
-mul-at : tie.Need-mul-at
-mul-at c = omega (arith, size-small (c .before), s (known (c .before)) .pre .0)
+cast-first : tie.Need-cast-first
+cast-first c = omega (arith, size-small (c .before), s (known (c .before)) .pre .0)
 
 assign-requires : tie.Need-assign-requires
 assign-requires c κs =
@@ -110,11 +107,11 @@ put-places-requires c κs =
     let b = known a in
     (s b .pre .0, omega (arith, size-small a, s b .pre .0, s b .pre .1, front-put a .put-front .kept .0, nodes-put a .put-nodes .kept .0))
 
-mul-result : tie.Need-mul-result
-mul-result c = omega (arith, s (known (c .before .before .before .before .before .before)) .pre .0)
-
 add-result : tie.Need-add-result
 add-result c = let a = c .before .before .before .before .before .before in omega (arith, size-small a, s (known a) .pre .0)
+
+mul-result : tie.Need-mul-result
+mul-result c = let a = c .before .before .before .before .before .before in omega (arith, size-small a, s (known a) .pre .0)
 
 same-length : tie.Need-same-length
 same-length c = search needs
@@ -141,11 +138,10 @@ read-off-spec =
     put-front-requires
     put-nodes-requires
     node-at-requires
-    cast-at
-    mul-at
+    cast-first
     assign-requires
     put-places-requires
-    mul-result
     add-result
+    mul-result
     same-length
     returns)
