@@ -1,5 +1,5 @@
 -- What is written, the added nodes, those of the groups and the places, is the answer file.
-use mathlib.Core.Path.{_≡_, refl, sym, ap, subst, _∙_}
+use mathlib.Core.Path.{_≡_, sym, ap, subst, _∙_}
 use mathlib.Core.Logic.{_⊎_, ⊎-elim}
 use mathlib.Core.List.{List, [], _∷_, _++_, map}
 use Prim.Native.Nat.{ℕ, _+_, _-_, _*_, _/_, _%_, _≤_, _<_}
@@ -11,7 +11,7 @@ use lib.ListN.{length, getD, drop, length-append, length-drop, List·getD-append
 use lib.Seq.{getD-append-add, getD-drop, ext-getD}
 use Rattle.meaning.specs.Constraint.{Fact}
 use Rattle.meaning.specs.Finite.{tab}
-use Rattle.meaning.specs.ReadOff.{FactSet, layer, order, added, nodeAt, NodeRecord, blankRecord, nodes, treeOf, place, places, nodeBytes, placeBytes, answerFile}
+use Rattle.meaning.specs.ReadOff.{FactSet, layer, order, added, nodeAt, NodeRecord, nodes, treeOf, place, places, nodeBytes, placeBytes, answerFile}
 use Rattle.meaning.proofs.Finite.{length-tab}
 use Rattle.meaning.proofs.Nodes.{node, tree, size-is, node-at, node-inside, Added, added-at, which, nodes-most}
 use Rattle.theory.proofs.AnswerFile.{length-nodeBytes, length-placeBytes}
@@ -23,11 +23,10 @@ use Rattle.readoff.specs.Rows.{Gathered, isLow}
 use Rattle.readoff.specs.Numbering.{frontOf, numbered, inFront}
 use Rattle.readoff.specs.Listing.{groups, listed, Listed, Led, placeIn, groupRecord}
 use Rattle.readoff.specs.Written.{Recorded, nodeRecord, placeRecord, FileWritten}
-use Rattle.readoff.proofs.Layered.{Layered}
 use Rattle.readoff.proofs.Listing.{length-groups}
 use Rattle.readoff.proofs.Numbering.{numbered-is, front-is}
 use Rattle.readoff.proofs.Meaning.{order-most, node-is, places-are}
-use Rattle.readoff.proofs.Ordering.{order-is, tops-are}
+use Rattle.readoff.proofs.Layered.{Layered, order-is, tops-are}
 use Rattle.readoff.proofs.Leading.{led}
 use Rattle.readoff.proofs.Written.{nodeBytes-at, placeBytes-at, recorded-as}
 
@@ -158,11 +157,8 @@ module _ (f : Facts) (n lows : ℕ) (rows : List ℕ) (o : Order) (s : Ordered f
     first-is : numbered front (o .len) ≡ size n (has f)
     first-is = ap (λ (number : ℕ → ℕ). number (o .len)) numbers-are ∙ ap (nodeAt n (has f)) len-is ∙ sym (size-exact n (has f))
 
-    pub size-most : numbered front (o .len) ≤ n + 1
-    size-most = omega (arith, first-is, nodes-most n (has f))
-
-    pub added-most : length (inFront front) ≤ n + 1
-    added-most = omega (arith, ap length added-are, few-added n (has f), nodes-most n (has f))
+    pub few-records : (numbered front (o .len) + n ≤ 33) × (length (inFront front) ≤ 33)
+    few-records = let a = nodes-most n (has f) in let b = s .few in (omega (arith, first-is), omega (arith, ap length added-are, few-added n (has f)))
 
     pub file-written : (first : ℕ) (old mid late new : List ℕ) (vs : List ℕ) → first ≡ numbered front (o .len) → 132 ≤ length old → ((g : ℕ) → row (f .label) g < 256)
         → Recorded (λ v. v) (nodeRecord (inFront front)) (length (inFront front)) old mid

@@ -1,10 +1,9 @@
 -- The numbering by what is put in front, and that it is the one of the definition.
-use mathlib.Core.Path.{_≡_, refl, ap, fun-ext}
+use mathlib.Core.Path.{_≡_, refl, fun-ext}
 use mathlib.Core.List.{[], _∷_}
 use Prim.Native.Nat.{ℕ, _≤_, _<_}
 use native.Mathlib.Omega.{arith}
 use lib.ListN.{length}
-use Rattle.meaning.specs.Finite.{pick}
 use Rattle.meaning.specs.ReadOff.{FactSet, blankRecord, layer, blank, added, nodeAt}
 use Rattle.meaning.proofs.Tests.{pick-yes, pick-no, eq-yes, is-eq}
 use Rattle.readoff.specs.declared.Front.{Front}

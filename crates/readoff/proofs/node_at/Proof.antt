@@ -1,5 +1,4 @@
 -- `readoff::node_at` meets its contract.
-use native.Mathlib.Omega.{arith}
 use Rattle.readoff.specs.Numbering.{numbered}
 use borrow.Author.Needs.{needs}
 use Rattle.readoff.proofs.node_at.Statement.{statement}

@@ -1,6 +1,6 @@
 -- `readoff::put_nodes` meets its contract: at i the records of the first i groups are written.
 use mathlib.Core.Path.{_≡_}
-use Prim.Native.Nat.{_<_, _≤_, _+_, _-_, _*_}
+use Prim.Native.Nat.{_<_, _≤_, _-_}
 use native.Mathlib.Nat.{le-of-lt}
 use native.Mathlib.Omega.{arith}
 use lib.ListN.{length, getD}

@@ -9,7 +9,7 @@ use Rattle.tables.specs.Tables.{row}
 use Rattle.readoff.specs.Numbering.{numbered, inFront}
 use Rattle.readoff.proofs.Layered.{Layered}
 use Rattle.readoff.proofs.Listing.{length-mapped}
-use Rattle.readoff.proofs.Answer.{Ordered, room-for, groups-led, size-most, added-most, file-written}
+use Rattle.readoff.proofs.Answer.{Ordered, room-for, groups-led, few-records, file-written}
 use Rattle.readoff.proofs.read_off.Statement.{statement}
 use Rattle.readoff.proofs.read_off.Tie as tie
 
@@ -37,16 +37,10 @@ module _ (c : tie.After-front-of) where
   abbrev s : tie.Start
   s = c .before .before .before .before .before .before .before .before
 
-  few-nodes : (numbered (c .front-of .result) (c .before .in-order .result .len) ≤ s .args .n + 1) × (length (inFront (c .front-of .result)) ≤ s .args .n + 1)
-  few-nodes = (
-    size-most (s .args .f) (s .args .n) (c .before .before .before .lows .result) (c .before .before .layers .result) (c .before .in-order .result) (ordered (c .before)) (c .front-of .result) (c .front-of .ensures),
-    added-most (s .args .f) (s .args .n) (c .before .before .before .lows .result) (c .before .before .layers .result) (c .before .in-order .result) (ordered (c .before)) (c .front-of .result) (c .front-of .ensures),
-  )
+  few : (numbered (c .front-of .result) (c .before .in-order .result .len) + s .args .n ≤ 33) × (length (inFront (c .front-of .result)) ≤ 33)
+  few = few-records (s .args .f) (s .args .n) (c .before .before .before .lows .result) (c .before .before .layers .result) (c .before .in-order .result) (ordered (c .before)) (c .front-of .result) (c .front-of .ensures)
 
-  small-numbers : numbered (c .front-of .result) (c .before .in-order .result .len) < 256
-  small-numbers = omega (arith, few-nodes .0, s .pre .0)
-
--- the size of the tree
+-- the places before the one where the number of nodes is known
 module _ (c : tie.After-node-at) where
   abbrev nodes-put : tie.After-put-nodes
   nodes-put = c .before .before .before
@@ -57,8 +51,8 @@ module _ (c : tie.After-node-at) where
   abbrev known : tie.After-front-of
   known = front-put .before .before
 
-  size-small : c .node-at .result .0 ≤ s known .args .n + 1
-  size-small = omega (arith, c .node-at .ensures, few-nodes known .0)
+  all-few : c .node-at .result .0 + s known .args .n ≤ 33
+  all-few = omega (arith, c .node-at .ensures, few known .0)
 
 lows-requires : tie.Need-lows-requires
 lows-requires c κs = search needs
@@ -78,25 +72,25 @@ front-of-requires : tie.Need-front-of-requires
 front-of-requires c κs = search needs
 
 put-front-requires : tie.Need-put-front-requires
-put-front-requires c κs = let b = c .before in omega (arith, few-nodes b .1, s b .pre .0, s b .pre .1)
+put-front-requires c κs = omega (arith, few (c .before) .1, s (c .before) .pre .1)
 
 put-nodes-requires : tie.Need-put-nodes-requires
 put-nodes-requires c κs =
     let p = c .before .before .before in
     let b = p .before .before in
-    (b .before .in-order .ensures .small, small-numbers b, s b .pre .0, omega (arith, few-nodes b .0, s b .pre .0, s b .pre .1, p .put-front .kept .0))
+    (b .before .in-order .ensures .small, omega (arith, few b .0), s b .pre .0, omega (arith, few b .0, s b .pre .1, p .put-front .kept .0))
 
 node-at-requires : tie.Need-node-at-requires
-node-at-requires c κs = small-numbers (c .before .before .before .before .before .before .before .before)
+node-at-requires c κs = omega (arith, few (c .before .before .before .before .before .before .before .before) .0)
 
 cast-first : tie.Need-cast-first
-cast-first c = omega (arith, size-small (c .before), s (known (c .before)) .pre .0)
+cast-first c = omega (arith, all-few (c .before))
 
 assign-requires : tie.Need-assign-requires
 assign-requires c κs =
     let b = known (c .before) in (
       b .before .in-order .ensures .small,
-      small-numbers b,
+      omega (arith, few b .0),
       s b .pre .0,
       groups-led (s b .args .f) (s b .args .n) (b .before .before .before .lows .result) (b .before .before .layers .result) (b .before .in-order .result) (ordered (b .before)) (s b .pre .2 .0) (s b .pre .2 .1),
     )
@@ -105,13 +99,13 @@ put-places-requires : tie.Need-put-places-requires
 put-places-requires c κs =
     let a = c .before .before .before in
     let b = known a in
-    (s b .pre .0, omega (arith, size-small a, s b .pre .0, s b .pre .1, front-put a .put-front .kept .0, nodes-put a .put-nodes .kept .0))
+    (s b .pre .0, omega (arith, all-few a, s b .pre .1, front-put a .put-front .kept .0, nodes-put a .put-nodes .kept .0))
 
 add-result : tie.Need-add-result
-add-result c = let a = c .before .before .before .before .before .before in omega (arith, size-small a, s (known a) .pre .0)
+add-result c = omega (arith, all-few (c .before .before .before .before .before .before))
 
 mul-result : tie.Need-mul-result
-mul-result c = let a = c .before .before .before .before .before .before in omega (arith, size-small a, s (known a) .pre .0)
+mul-result c = omega (arith, all-few (c .before .before .before .before .before .before))
 
 same-length : tie.Need-same-length
 same-length c = search needs
