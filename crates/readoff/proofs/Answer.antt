@@ -13,7 +13,7 @@ use Rattle.meaning.specs.Constraint.{Fact}
 use Rattle.meaning.specs.Finite.{tab}
 use Rattle.meaning.specs.ReadOff.{FactSet, layer, order, added, nodeAt, NodeRecord, nodes, treeOf, place, places, nodeBytes, placeBytes, answerFile}
 use Rattle.meaning.proofs.Finite.{length-tab}
-use Rattle.meaning.proofs.Nodes.{node, tree, size-is, node-at, node-inside, Added, added-at, which, nodes-most}
+use Rattle.meaning.proofs.Nodes.{node, tree, size-is, node-at, node-inside, Added, added-at, which, order-most, nodes-most}
 use Rattle.theory.proofs.AnswerFile.{length-nodeBytes, length-placeBytes}
 use Rattle.tables.specs.declared.Facts.{Facts}
 use Rattle.tables.specs.Tables.{row, has, Columns, Ready}
@@ -25,7 +25,7 @@ use Rattle.readoff.specs.Listing.{groups, listed, Listed, Led, placeIn, 
 use Rattle.readoff.specs.Written.{Recorded, nodeRecord, placeRecord, FileWritten}
 use Rattle.readoff.proofs.Listing.{length-groups}
 use Rattle.readoff.proofs.Numbering.{numbered-is, front-is}
-use Rattle.readoff.proofs.Meaning.{order-most, node-is, places-are}
+use Rattle.readoff.proofs.Meaning.{node-is, places-are}
 use Rattle.readoff.proofs.Layered.{Layered, order-is, tops-are}
 use Rattle.readoff.proofs.Leading.{led}
 use Rattle.readoff.proofs.Written.{nodeBytes-at, placeBytes-at, recorded-as}

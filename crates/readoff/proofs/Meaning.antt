@@ -2,19 +2,19 @@
 use mathlib.Core.Path.{_≡_, refl, sym, ap, _∙_}
 use mathlib.Core.Logic.{⊎-elim}
 use mathlib.Core.Bool.{Bool, true, false}
-use Prim.Native.Nat.{ℕ, zero, suc, _-_, _*_, _^_, _≤_, _<_, suc-le-suc}
+use Prim.Native.Nat.{ℕ, zero, suc, _-_, _^_, _≤_, _<_, suc-le-suc}
 use native.Mathlib.Nat.{le-refl, le-trans, le-step}
 use native.Mathlib.Omega.{arith}
 use lib.Bits.{bitAnd, and-le-l, mask-lt}
-use lib.Dec.{eqb, ltb}
+use lib.Dec.{eqb}
 use lib.ListN.{length, getD}
 use lib.Pow.{pow-mono}
-use Rattle.meaning.specs.Finite.{Yes, _and_, neg, one, sum, smallest, tab}
-use Rattle.meaning.specs.ReadOff.{FactSet, same, over, lowest, depth, order, nodeAt, place, nearest, parentOf, labelOf, places}
+use Rattle.meaning.specs.Finite.{Yes, _and_, neg, one, smallest, tab}
+use Rattle.meaning.specs.ReadOff.{same, over, lowest, depth, order, nodeAt, place, nearest, parentOf, labelOf, places}
 use Rattle.meaning.proofs.Tests.{clash, yes-case, is-eq, eq-yes, self-eq, and-left, and-right, and-both, no-neg}
-use Rattle.meaning.proofs.Finite.{any-intro, any-elim, one-most, sum-bound, smallest-passes, smallest-none}
+use Rattle.meaning.proofs.Finite.{any-intro, any-elim, smallest-passes, smallest-none}
 use Rattle.meaning.proofs.Lists.{getD-mem}
-use Rattle.meaning.proofs.Nodes.{node, layers-most}
+use Rattle.meaning.proofs.Nodes.{node}
 use Rattle.theory.proofs.Groups.{order-out}
 use Rattle.rowbits.specs.Bit.{bit}
 use Rattle.tables.specs.declared.Facts.{Facts}
@@ -37,15 +37,6 @@ tab-eq : (n : ℕ) (f g : ℕ → ℕ) → ((x : ℕ) → x < n → f x ≡ g x)
 unfolding tab
 tab-eq zero f g h = refl
 tab-eq (suc n) f g h = rw (tab-eq n f g (λ x l. h x (le-step l)), h n (le-refl _))
-
--- ---- of any facts
-
-pub order-most : (n : ℕ) (h : FactSet) → length (order n h) ≤ n
-unfolding order
-order-most n h =
-    let a = layers-most n h n in
-    let b : sum n (λ x. one (ltb (depth n h x) n)) ≤ n * 1 = sum-bound n 1 _ (λ x l. one-most _) in
-    omega arith
 
 -- ---- of the tables
 
