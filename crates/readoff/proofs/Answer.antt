@@ -1,91 +1,123 @@
--- The three runs of bytes that are written, the blank node, the groups and the places, are the answer file.
-use mathlib.Core.Path.{_≡_, refl, sym, ap, subst, _∙_}
+-- What is written, the added nodes, those of the groups and the places, is the answer file.
+use mathlib.Core.Path.{_≡_, sym, ap, subst, _∙_}
+use mathlib.Core.Logic.{_⊎_, ⊎-elim}
 use mathlib.Core.List.{List, [], _∷_, _++_, map}
-use Prim.Native.Nat.{ℕ, zero, suc, _+_, _*_, _≤_, _<_}
-use native.Mathlib.Nat.{zero-add}
+use Prim.Native.Nat.{ℕ, _+_, _-_, _*_, _/_, _%_, _≤_, _<_}
+use native.Mathlib.Nat.{mod-lt, div-add-mod'}
+use native.Mathlib.Decide.{decLt}
 use native.Mathlib.Omega.{arith}
 use lib.Count.{ones}
-use lib.Dec.{eqb}
-use lib.ListN.{length, drop, length-append, length-map}
+use lib.ListN.{length, getD, drop, length-append, length-drop, List·getD-append}
+use lib.Seq.{getD-append-add, getD-drop, ext-getD}
 use Rattle.meaning.specs.Constraint.{Fact}
-use Rattle.meaning.specs.Finite.{pick, one, neg, tab}
-use Rattle.meaning.specs.ReadOff.{FactSet, order, blank, parentOf, labelOf, NodeRecord, blankRecord, nodes, place, places, nodeBytes, placeBytes, answerFile}
+use Rattle.meaning.specs.Finite.{tab}
+use Rattle.meaning.specs.ReadOff.{FactSet, layer, order, added, nodeAt, NodeRecord, nodes, treeOf, place, places, nodeBytes, placeBytes, answerFile}
 use Rattle.meaning.proofs.Finite.{length-tab}
-use Rattle.meaning.proofs.Nodes.{blank-most}
+use Rattle.meaning.proofs.Nodes.{node, tree, size-is, node-at, node-inside, Added, added-at, which, order-most, nodes-most}
 use Rattle.theory.proofs.AnswerFile.{length-nodeBytes, length-placeBytes}
 use Rattle.tables.specs.declared.Facts.{Facts}
 use Rattle.tables.specs.Tables.{row, has, Columns, Ready}
+use Rattle.readoff.specs.declared.Front.{Front}
 use Rattle.readoff.specs.declared.Order.{Order}
 use Rattle.readoff.specs.Rows.{Gathered, isLow}
-use Rattle.readoff.specs.Listing.{groups, listed, Listed, Led, placeIn, nodeIn}
-use Rattle.readoff.specs.Written.{Wrote, FileWritten}
-use Rattle.readoff.proofs.Layered.{Layered}
+use Rattle.readoff.specs.Numbering.{frontOf, numbered, inFront}
+use Rattle.readoff.specs.Listing.{groups, listed, Listed, Led, placeIn, groupRecord}
+use Rattle.readoff.specs.Written.{Recorded, nodeRecord, placeRecord, FileWritten}
 use Rattle.readoff.proofs.Listing.{length-groups}
-use Rattle.readoff.proofs.Meaning.{order-most, order-is, blank-is, places-are, nodes-are}
+use Rattle.readoff.proofs.Numbering.{numbered-is, front-is}
+use Rattle.readoff.proofs.Meaning.{node-is, places-are}
+use Rattle.readoff.proofs.Layered.{Layered, order-is, tops-are}
 use Rattle.readoff.proofs.Leading.{led}
-use Rattle.readoff.proofs.Written.{wrote-more, nodeBytes-join}
-
-abbrev front : ℕ → List NodeRecord
-front k = pick (eqb k 1) (blankRecord ∷ []) []
-
-front-length : (k : ℕ) → k ≤ 1 → length (front k) ≡ k
-unfolding pick
-front-length zero l = refl
-front-length (suc zero) l = refl
-front-length (suc (suc k)) l = absurd (omega arith)
+use Rattle.readoff.proofs.Written.{nodeBytes-at, placeBytes-at, recorded-as}
 
 -- ---- of any facts
 
-module _ (n : ℕ) (few : n ≤ 16) (h : FactSet) where
-  abbrev rest : List NodeRecord
-  rest = map (λ (g : ℕ). record { up = parentOf n h g; label = labelOf n h g }) (order n h)
+module _ (n : ℕ) (h : FactSet) where
+  abbrev size : ℕ
+  size = length (nodes n h)
 
-  nodes-bytes : nodeBytes 0 (nodes n h) ≡ nodeBytes 0 (front (blank n h)) ++ nodeBytes (blank n h) rest
+  size-exact : size ≡ nodeAt n h (length (order n h))
+  unfolding tree treeOf
+  size-exact = size-is n h
+
+  few-added : length (added n h) ≤ size
   unfolding nodes
-  nodes-bytes =
-      nodeBytes-join 0 (front (blank n h)) rest
-      ∙ ap (λ (k : ℕ). nodeBytes 0 (front (blank n h)) ++ nodeBytes k rest) (zero-add (length (front (blank n h))) ∙ front-length (blank n h) (blank-most n h))
+  few-added = omega (arith, length-append (added n h) (map (node n h) (order n h)))
 
-  nodes-length : length (nodeBytes 0 (nodes n h)) ≡ (blank n h + length (order n h)) * 4
-  unfolding nodes
-  nodes-length =
-      let a = length-nodeBytes 0 (front (blank n h) ++ rest) in
-      let b = length-append (front (blank n h)) rest in
-      let c = front-length (blank n h) (blank-most n h) in
-      let d = length-map {B = NodeRecord} (order n h) (λ (g : ℕ). record { up = parentOf n h g; label = labelOf n h g }) in
-      omega arith
+  places-length : length (places n h) ≡ n
+  unfolding places
+  places-length = length-tab n (place n h)
 
-  file-length : length (answerFile n h) ≡ (blank n h + length (order n h)) * 4 + n * 4
-  unfolding answerFile places
+  file-length : length (answerFile n h) ≡ (size + n) * 4
+  unfolding answerFile
   file-length =
       let a = length-append (nodeBytes 0 (nodes n h)) (placeBytes 0 (places n h)) in
-      let b = length-placeBytes 0 (places n h) in
-      let c = length-tab n (place n h) in
-      omega (arith, nodes-length)
+      omega (arith, length-nodeBytes 0 (nodes n h), length-placeBytes 0 (places n h), places-length)
 
-  answered : (old first second new : List ℕ) → 132 ≤ length old → Wrote 0 (nodeBytes 0 (front (blank n h))) old first
-      → Wrote (blank n h * 4) (nodeBytes (blank n h) rest) first second → Wrote ((blank n h + length (order n h)) * 4) (placeBytes 0 (places n h)) second new
-      → FileWritten n h old ((blank n h + length (order n h)) * 4 + n * 4) new
-  unfolding answerFile
-  answered old first second new room w v u = record {
+  -- ---- a buffer that has every record of the file, and behind them what it had
+
+  module _ (old new : List ℕ) (room : (size + n) * 4 ≤ length old) where
+    abbrev file : List ℕ
+    file = answerFile n h ++ drop (length (answerFile n h)) old
+
+    at-node : (v j : ℕ) → v < size → j < 4 → getD file (v * 4 + j) 0 ≡ getD (nodeRecord (nodes n h) v) j 0
+    unfolding answerFile
+    at-node v j l m =
+        List·getD-append (answerFile n h) _ 0 (v * 4 + j) (omega (arith, file-length))
+        ∙ List·getD-append (nodeBytes 0 (nodes n h)) _ 0 (v * 4 + j) (omega (arith, length-nodeBytes 0 (nodes n h))) ∙ nodeBytes-at (nodes n h) v j l m
+
+    at-place : (x j : ℕ) → x < n → j < 4 → getD file ((size + x) * 4 + j) 0 ≡ getD (placeRecord (places n h) x) j 0
+    unfolding answerFile
+    at-place x j l m =
+        let e : (size + x) * 4 + j ≡ length (nodeBytes 0 (nodes n h)) + (x * 4 + j) = omega (arith, length-nodeBytes 0 (nodes n h)) in
+        List·getD-append (answerFile n h) _ 0 ((size + x) * 4 + j) (omega (arith, file-length)) ∙ ap (λ (k : ℕ). getD (answerFile n h) k 0) e
+        ∙ getD-append-add (nodeBytes 0 (nodes n h)) (placeBytes 0 (places n h)) (x * 4 + j) 0 ∙ placeBytes-at (places n h) x j (omega (arith, places-length)) m
+
+    at-behind : (p : ℕ) → (size + n) * 4 ≤ p → getD file p 0 ≡ getD old p 0
+    at-behind p l =
+        let e : length (answerFile n h) + (p - length (answerFile n h)) ≡ p = omega (arith, file-length) in
+        ap (λ (k : ℕ). getD file k 0) (sym e) ∙ getD-append-add (answerFile n h) _ (p - length (answerFile n h)) 0
+        ∙ getD-drop (length (answerFile n h)) old (p - length (answerFile n h)) 0 ∙ ap (λ (k : ℕ). getD old k 0) e
+
+    whole : length new ≡ length old → ((v j : ℕ) → j < 4 → getD new (v * 4 + j) 0 ≡ getD file (v * 4 + j) 0) → new ≡ file
+    whole long each =
+        ext-getD 0 new file (let a = length-append (answerFile n h) (drop (length (answerFile n h)) old) in omega (arith, length-drop (length (answerFile n h)) old, file-length))
+        (λ p l. subst (λ (k : ℕ). getD new k 0 ≡ getD file k 0) (div-add-mod' p 4) (each (p / 4) (p % 4) (mod-lt p (omega arith))))
+
+  -- each node is an added one or that of a group, and has its record
+  node-written : (old first second : List ℕ) → Recorded (λ v. v) (nodeRecord (added n h)) (length (added n h)) old first
+      → Recorded (nodeAt n h) (λ i. nodeBytes (nodeAt n h i) (node n h (getD (order n h) i 0) ∷ [])) (length (order n h)) first second
+      → (v j : ℕ) → Added n h v ⊎ ((i : ℕ) × (i < length (order n h)) × (v ≡ nodeAt n h i)) → j < 4 → getD second (v * 4 + j) 0 ≡ getD (nodeRecord (nodes n h) v) j 0
+  node-written old first second a g v j w m =
+      ⊎-elim
+      (λ q. g .others v j (λ i k. q .apart i) m ∙ a .these v j (q .early) m
+      ∙ ap (λ (r : NodeRecord). getD (nodeBytes v (r ∷ [])) j 0) (sym (added-at n h v (q .early))))
+      (λ q. subst (λ (k : ℕ). getD second (k * 4 + j) 0 ≡ getD (nodeRecord (nodes n h) k) j 0) (sym (q .2))
+      (g .these (q .0) j (q .1) m ∙ ap (λ (r : NodeRecord). getD (nodeBytes (nodeAt n h (q .0)) (r ∷ [])) j 0) (sym (node-at n h (q .0) (q .1)))))
+      w
+
+  answered : (old first second new : List ℕ) → n ≤ 16 → 132 ≤ length old → Recorded (λ v. v) (nodeRecord (added n h)) (length (added n h)) old first
+      → Recorded (nodeAt n h) (λ i. nodeBytes (nodeAt n h i) (node n h (getD (order n h) i 0) ∷ [])) (length (order n h)) first second
+      → Recorded (λ x. size + x) (placeRecord (places n h)) n second new → FileWritten n h old ((size + n) * 4) new
+  unfolding tree treeOf
+  answered old first second new few room a g p = record {
     size = sym file-length;
-    bytes = whole ∙ ap (λ (k : ℕ). answerFile n h ++ drop k old) (zero-add (length (answerFile n h)));
-    most = omega (arith, order-most n h, blank-most n h);
+    bytes = whole old new fits (p .long ∙ g .long ∙ a .long) (λ v j m. byte v j m (decLt v size) (decLt v (size + n)));
+    most = omega (arith, nodes-most n h);
   }
     where
-      both : Wrote 0 (nodeBytes 0 (nodes n h)) old second
-      both =
-          let a = length-nodeBytes 0 (front (blank n h)) in
-          let b = front-length (blank n h) (blank-most n h) in
-          let c = blank-most n h in
-          wrote-more 0 (blank n h * 4) (nodeBytes 0 (front (blank n h))) (nodeBytes (blank n h) rest) (nodeBytes 0 (nodes n h)) old first second w (omega arith) v nodes-bytes (omega arith)
+      fits : (size + n) * 4 ≤ length old
+      fits = omega (arith, nodes-most n h)
 
-      whole : Wrote 0 (answerFile n h) old new
-      whole =
-          let a = nodes-length in
-          let b = order-most n h in
-          let c = blank-most n h in
-          wrote-more 0 ((blank n h + length (order n h)) * 4) (nodeBytes 0 (nodes n h)) (placeBytes 0 (places n h)) (answerFile n h) old second new both (omega arith) u refl (omega arith)
+      byte : (v j : ℕ) → j < 4 → Dec (v < size) → Dec (v < size + n) → getD new (v * 4 + j) 0 ≡ getD (file old new fits) (v * 4 + j) 0
+      byte v j m (yes l) _ = p .others v j (λ x i e. let q : v ≡ size + x = e in omega arith) m ∙ node-written old first second a g v j (which n h v l) m ∙ sym (at-node old new fits v j l m)
+      byte v j m (no l) (yes k) =
+          let e : size + (v - size) ≡ v = omega arith in
+          subst (λ (i : ℕ). getD new (i * 4 + j) 0 ≡ getD (file old new fits) (i * 4 + j) 0) e
+          (p .these (v - size) j (omega arith) m ∙ sym (at-place old new fits (v - size) j (omega arith) m))
+      byte v j m (no l) (no k) =
+          p .others v j (λ x i e. let q : v ≡ size + x = e in omega arith) m ∙ g .others v j (λ i k e. let q = node-inside n h k in omega arith) m
+          ∙ a .others v j (λ i k e. let q : v ≡ i = e in omega (arith, few-added)) m ∙ sym (at-behind old new fits (v * 4 + j) (omega arith))
 
 -- ---- of the tables
 
@@ -112,23 +144,29 @@ module _ (f : Facts) (n lows : ℕ) (rows : List ℕ) (o : Order) (s : Ordered f
   pub groups-led : (S : List Fact) → Ready n S f → Led (f .below) (f .above) n (groups o)
   groups-led S r = subst (Led (f .below) (f .above) n) (sym groups-are) (led f n (s .few) S r)
 
-  pub len-most : o .len ≤ n
-  len-most = omega (arith, len-is, order-most n (has f))
+  module _ (front : Front) (e : front ≡ frontOf (ones (row rows 0))) where
+    front-exact : front ≡ frontOf (length (layer n (has f) 0))
+    front-exact = e ∙ ap frontOf (tops-are f n (s .few) (s .columns) lows (s .low) rows (s .layered))
 
-  module _ (k : ℕ) (e : k ≡ one (neg (eqb (ones (row rows 0)) 1))) where
-    first-is : k ≡ blank n (has f)
-    first-is = e ∙ blank-is f n (s .few) (s .columns) lows (s .low) rows (s .layered)
+    numbers-are : numbered front ≡ nodeAt n (has f)
+    numbers-are = ap numbered front-exact ∙ numbered-is n (has f)
 
-    pub first-most : k ≤ 1
-    first-most = omega (arith, first-is, blank-most n (has f))
+    added-are : inFront front ≡ added n (has f)
+    added-are = ap inFront front-exact ∙ front-is n (has f)
 
-    pub file-written : (old first second new : List ℕ) (ns : List ℕ) → 132 ≤ length old → ((g : ℕ) → row (f .label) g < 256)
-        → Wrote 0 (nodeBytes 0 (front k)) old first
-        → Wrote (k * 4) (nodeBytes k (map (nodeIn (f .below) (f .above) (f .label) n lows k (groups o)) (groups o))) first second
-        → Wrote ((k + o .len) * 4) (placeBytes 0 ns) second new → ns ≡ tab n (placeIn (f .below) (f .above) k (groups o))
-        → FileWritten n (has f) old ((k + o .len) * 4 + n * 4) new
-    file-written old first second new ns room bytes w v u d =
-        rw (first-is, len-is)
-        (answered n (s .few) (has f) old first second new room (rw first-is at w)
-        (rw (first-is, groups-are, nodes-are f n (s .few) (s .columns) lows (s .low) bytes) at v)
-        (rw (first-is, len-is, d, groups-are, first-is, places-are f n (s .few) (s .columns)) at u))
+    first-is : numbered front (o .len) ≡ size n (has f)
+    first-is = ap (λ (number : ℕ → ℕ). number (o .len)) numbers-are ∙ ap (nodeAt n (has f)) len-is ∙ sym (size-exact n (has f))
+
+    pub few-records : (numbered front (o .len) + n ≤ 33) × (length (inFront front) ≤ 33)
+    few-records = let a = nodes-most n (has f) in let b = s .few in (omega (arith, first-is), omega (arith, ap length added-are, few-added n (has f)))
+
+    pub file-written : (first : ℕ) (old mid late new : List ℕ) (vs : List ℕ) → first ≡ numbered front (o .len) → 132 ≤ length old → ((g : ℕ) → row (f .label) g < 256)
+        → Recorded (λ v. v) (nodeRecord (inFront front)) (length (inFront front)) old mid
+        → Recorded (numbered front) (groupRecord (f .below) (f .above) (f .label) n lows (numbered front) (groups o)) (o .len) mid late
+        → Recorded (λ x. first + x) (placeRecord vs) n late new → vs ≡ tab n (placeIn (f .below) (f .above) (numbered front) (groups o))
+        → FileWritten n (has f) old ((first + n) * 4) new
+    file-written first old mid late new vs z room bytes a g p d =
+        rw (z, first-is)
+        (answered n (has f) old mid late new (s .few) room (rw added-are at a)
+        (recorded-as _ _ _ _ _ _ (λ i l. ap (λ (r : NodeRecord). nodeBytes (nodeAt n (has f) i) (r ∷ [])) (node-is f n (s .few) (s .columns) lows (s .low) bytes i l)) (rw (numbers-are, groups-are, len-is) at g))
+        (rw (z, first-is, d, groups-are, numbers-are, places-are f n (s .few) (s .columns)) at p))

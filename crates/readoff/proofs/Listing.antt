@@ -89,8 +89,8 @@ module _ (o : Order) (long : length (o .group) ≡ 16) (s : Small o) where
 -- ---- a scan of the groups for the first that passes a test
 
 module _ (p : ℕ → Bool) (o : Order) (long : length (o .group) ≡ 16) (s : Small o) where
-  pub place-most : position p (groups o) ≤ 16
-  place-most = let a = s .few in let b = position-most p (groups o) in omega (arith, count-is o long s)
+  pub place-most : position p (groups o) ≤ o .len
+  place-most = let b = position-most p (groups o) in omega (arith, count-is o long s)
 
   pub scan-here : (i : ℕ) → i < o .len → p (getD (o .group) i record { 0 = 0 } .0) ≡ true → i + position p (drop i (groups o)) ≡ position p (groups o) → i ≡ position p (groups o)
   scan-here i l e h =

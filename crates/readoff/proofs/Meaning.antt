@@ -2,30 +2,28 @@
 use mathlib.Core.Path.{_≡_, refl, sym, ap, _∙_}
 use mathlib.Core.Logic.{⊎-elim}
 use mathlib.Core.Bool.{Bool, true, false}
-use mathlib.Core.List.{List, [], _∷_, map, List·Memᴰ, List·Memᴰ·head, List·Memᴰ·tail, List·Memᴰ·append-cases, List·Memᴰ·not-nil}
-use Prim.Native.Nat.{ℕ, zero, suc, _+_, _-_, _*_, _^_, _≤_, _<_, suc-le-suc}
+use Prim.Native.Nat.{ℕ, zero, suc, _-_, _^_, _≤_, _<_, suc-le-suc}
 use native.Mathlib.Nat.{le-refl, le-trans, le-step}
 use native.Mathlib.Omega.{arith}
 use lib.Bits.{bitAnd, and-le-l, mask-lt}
-use lib.Count.{ones}
-use lib.Dec.{eqb, ltb}
-use lib.ListN.{length}
+use lib.Dec.{eqb}
+use lib.ListN.{length, getD}
 use lib.Pow.{pow-mono}
-use Rattle.meaning.specs.Finite.{Yes, _and_, neg, one, sum, picked, smallest, tab}
-use Rattle.meaning.specs.ReadOff.{FactSet, same, over, lowest, depth, layer, layers, order, blank, place, nearest, parentOf, labelOf, places}
+use Rattle.meaning.specs.Finite.{Yes, _and_, neg, one, smallest, tab}
+use Rattle.meaning.specs.ReadOff.{same, over, lowest, depth, order, nodeAt, place, nearest, parentOf, labelOf, places}
 use Rattle.meaning.proofs.Tests.{clash, yes-case, is-eq, eq-yes, self-eq, and-left, and-right, and-both, no-neg}
-use Rattle.meaning.proofs.Finite.{any-intro, any-elim, one-most, sum-bound, smallest-passes, smallest-none}
-use Rattle.meaning.proofs.Lists.{picked-out}
-use Rattle.meaning.proofs.Nodes.{length-picked, layers-most}
+use Rattle.meaning.proofs.Finite.{any-intro, any-elim, smallest-passes, smallest-none}
+use Rattle.meaning.proofs.Lists.{getD-mem}
+use Rattle.meaning.proofs.Nodes.{node}
+use Rattle.theory.proofs.Groups.{order-out}
 use Rattle.rowbits.specs.Bit.{bit}
 use Rattle.tables.specs.declared.Facts.{Facts}
 use Rattle.tables.specs.Rows.{without}
 use Rattle.tables.specs.Tables.{row, has, Columns}
 use Rattle.tables.proofs.Bits.{all-has}
-use Rattle.readoff.specs.Rows.{Gathered, overRow, isLow, deep, inLayer, near}
-use Rattle.readoff.specs.Listing.{listed, placeIn, parentIn, nodeIn}
-use Rattle.readoff.proofs.Bits.{and-true, bit-meet, bit-without, sum-eq, any-eq, picked-eq, counted, ones-zero, empty, gathered-picked}
-use Rattle.readoff.proofs.Layered.{Layered}
+use Rattle.readoff.specs.Rows.{Gathered, overRow, isLow, deep, near}
+use Rattle.readoff.specs.Listing.{placeIn, parentIn, nodeIn}
+use Rattle.readoff.proofs.Bits.{and-true, bit-meet, bit-without, sum-eq, any-eq, counted, ones-zero, empty}
 use Rattle.readoff.proofs.Listing.{position-eq}
 
 and-turn : (a b : Bool) → (a and b) ≡ (b and a)
@@ -35,32 +33,10 @@ and-turn true false = refl
 and-turn false true = refl
 and-turn false false = refl
 
-map-eq : {A : Type 0} (f g : ℕ → A) (xs : List ℕ) → ((x : ℕ) → List·Memᴰ x xs → f x ≡ g x) → map f xs ≡ map g xs
-map-eq f g [] h = refl
-map-eq f g (x ∷ xs) h = rw (h x (List·Memᴰ·head refl), map-eq f g xs (λ y m. h y (List·Memᴰ·tail m)))
-
 tab-eq : (n : ℕ) (f g : ℕ → ℕ) → ((x : ℕ) → x < n → f x ≡ g x) → tab n f ≡ tab n g
 unfolding tab
 tab-eq zero f g h = refl
 tab-eq (suc n) f g h = rw (tab-eq n f g (λ x l. h x (le-step l)), h n (le-refl _))
-
--- ---- of any facts
-
-pub order-most : (n : ℕ) (h : FactSet) → length (order n h) ≤ n
-unfolding order
-order-most n h =
-    let a = layers-most n h n in
-    let b : sum n (λ x. one (ltb (depth n h x) n)) ≤ n * 1 = sum-bound n 1 _ (λ x l. one-most _) in
-    omega arith
-
-layers-out : (n : ℕ) (h : FactSet) (d g : ℕ) → List·Memᴰ g (layers n h d) → (g < n) × Yes (lowest n h g)
-unfolding layers layer
-layers-out n h zero g k = absurd (List·Memᴰ·not-nil k)
-layers-out n h (suc d) g k = ⊎-elim (layers-out n h d g) (λ q. let w = picked-out n _ g q in (w .0, and-left _ (w .1))) (List·Memᴰ·append-cases (layers n h d) k)
-
-pub order-out : (n : ℕ) (h : FactSet) (g : ℕ) → List·Memᴰ g (order n h) → (g < n) × Yes (lowest n h g)
-unfolding order
-order-out n h g k = layers-out n h n g k
 
 -- ---- of the tables
 
@@ -129,13 +105,13 @@ module _ (f : Facts) (n : ℕ) (few : n ≤ 16) (m : Columns (f .below) (f .abov
       ∙ ap (λ (b : Bool). bit (bitAnd (row (f .above) x) (row (f .below) x)) y and b) (all-has x y l) ∙ and-true _ ∙ same-is x y h (omega arith)))
 
   module _ (lows : ℕ) (g : Gathered n (isLow (f .below) (f .above)) lows) where
-    lows-is : (x : ℕ) → x < n → bit lows x ≡ lowest n (has f) x
+    pub lows-is : (x : ℕ) → x < n → bit lows x ≡ lowest n (has f) x
     lows-is x l = g .each x l ∙ low-is x (omega arith)
 
     above-small : (x : ℕ) → bitAnd (rowOf x) lows < 2 ^ n
     above-small x = le-trans (suc-le-suc (and-le-l (rowOf x) lows)) (rowOf-small x)
 
-    depth-is : (x : ℕ) → x < 16 → deep (f .below) (f .above) n lows x ≡ depth n (has f) x
+    pub depth-is : (x : ℕ) → x < 16 → deep (f .below) (f .above) n lows x ≡ depth n (has f) x
     unfolding deep depth
     depth-is x h =
         counted n (bitAnd (rowOf x) lows) (above-small x)
@@ -147,32 +123,7 @@ module _ (f : Facts) (n : ℕ) (few : n ≤ 16) (m : Columns (f .below) (f .abov
         let p : 2 ^ n ≤ 2 ^ 16 = pow-mono few in
         sym (ones-zero (bitAnd (rowOf x) lows) (le-trans (above-small x) p)) ∙ ap (λ (k : ℕ). eqb k 0) (depth-is x h)
 
-    -- ---- the order of the groups
-
-    module _ (rows : List ℕ) (ls : Layered (f .below) (f .above) n lows n rows) where
-      layer-is : (d : ℕ) → d < 17 → picked 16 (bit (row rows d)) ≡ layer n (has f) d
-      unfolding layer inLayer Layered
-      layer-is d h =
-          gathered-picked n _ (row rows d) few (ls d h)
-          ∙ picked-eq n _ _ (λ x l. rw (lows-is x l, depth-is x (omega arith)))
-
-      listed-is : (d : ℕ) → d ≤ 17 → listed rows d ≡ layers n (has f) d
-      unfolding listed layers
-      listed-is zero h = refl
-      listed-is (suc d) h = rw (listed-is d (omega arith), layer-is d h)
-
-      pub order-is : listed rows n ≡ order n (has f)
-      unfolding order
-      order-is = listed-is n (omega arith)
-
-      pub blank-is : one (neg (eqb (ones (row rows 0)) 1)) ≡ blank n (has f)
-      unfolding blank Layered
-      blank-is =
-          let p : 2 ^ n ≤ 2 ^ 16 = pow-mono few in
-          ap (λ (k : ℕ). one (neg (eqb k 1)))
-          (counted 16 (row rows 0) (le-trans (ls 0 (omega arith) .small) p) ∙ sym (length-picked 16 (bit (row rows 0))) ∙ ap length (layer-is 0 (omega arith)))
-
-    parent-is : (x : ℕ) → x < n → parentIn (f .below) (f .above) lows (blank n (has f)) (order n (has f)) (rowOf x) ≡ parentOf n (has f) x
+    parent-is : (x : ℕ) → x < n → parentIn (f .below) (f .above) lows (nodeAt n (has f)) (order n (has f)) (rowOf x) ≡ parentOf n (has f) x
     unfolding parentIn parentOf
     parent-is x h =
         rw (
@@ -180,21 +131,20 @@ module _ (f : Facts) (n : ℕ) (few : n ≤ 16) (m : Columns (f .below) (f .abov
           position-eq (near (f .below) (f .above) (rowOf x)) (λ w. nearest n (has f) w x) (order n (has f)) (λ w k. near-is x w h (order-out n (has f) w k .0)),
         )
 
-  place-is : (x : ℕ) → x < n → placeIn (f .below) (f .above) (blank n (has f)) (order n (has f)) x ≡ place n (has f) x
+    pub node-is : ((g : ℕ) → row (f .label) g < 256) → (i : ℕ) → i < length (order n (has f))
+        → nodeIn (f .below) (f .above) (f .label) n lows (nodeAt n (has f)) (order n (has f)) (getD (order n (has f)) i 0) ≡ node n (has f) (getD (order n (has f)) i 0)
+    unfolding nodeIn
+    node-is bytes i l =
+        let x : ℕ = getD (order n (has f)) i 0 in
+        rw (parent-is x (order-out n (has f) x (getD-mem (order n (has f)) i l) .0), label-is f n x (bytes x))
+
+  place-is : (x : ℕ) → x < n → placeIn (f .below) (f .above) (nodeAt n (has f)) (order n (has f)) x ≡ place n (has f) x
   unfolding placeIn place
   place-is x h =
-      ap (λ (k : ℕ). blank n (has f) + k)
+      ap (nodeAt n (has f))
       (position-eq (bit (bitAnd (row (f .above) x) (row (f .below) x))) (λ g. same (has f) g x) (order n (has f))
       (λ g k. same-is x g (omega arith) (let l = order-out n (has f) g k .0 in omega arith)))
 
-  pub places-are : tab n (placeIn (f .below) (f .above) (blank n (has f)) (order n (has f))) ≡ places n (has f)
+  pub places-are : tab n (placeIn (f .below) (f .above) (nodeAt n (has f)) (order n (has f))) ≡ places n (has f)
   unfolding places
   places-are = tab-eq n _ _ place-is
-
-  pub nodes-are : (lows : ℕ) → Gathered n (isLow (f .below) (f .above)) lows → ((g : ℕ) → row (f .label) g < 256)
-      → map (nodeIn (f .below) (f .above) (f .label) n lows (blank n (has f)) (order n (has f))) (order n (has f))
-      ≡ map (λ (g : ℕ). record { up = parentOf n (has f) g; label = labelOf n (has f) g }) (order n (has f))
-  unfolding nodeIn
-  nodes-are lows g bytes =
-      map-eq (nodeIn (f .below) (f .above) (f .label) n lows (blank n (has f)) (order n (has f))) (λ (x : ℕ). record { up = parentOf n (has f) x; label = labelOf n (has f) x }) (order n (has f))
-      (λ x k. rw (parent-is lows g x (order-out n (has f) x k .0), label-is f n x (bytes x)))

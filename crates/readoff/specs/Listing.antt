@@ -1,12 +1,12 @@
 -- The groups in the order of their nodes, as a list, and what is read from it.
 use mathlib.Core.Path.{_≡_}
-use mathlib.Core.List.{List, [], _++_, map, List·Memᴰ}
-use Prim.Native.Nat.{ℕ, zero, suc, _+_, _≤_, _<_}
+use mathlib.Core.List.{List, [], _∷_, _++_, map, List·Memᴰ}
+use Prim.Native.Nat.{ℕ, zero, suc, _≤_, _<_}
 use lib.Bits.{bitAnd}
 use lib.Dec.{eqb}
-use lib.ListN.{take}
+use lib.ListN.{take, getD}
 use Rattle.meaning.specs.Finite.{pick, picked, position}
-use Rattle.meaning.specs.ReadOff.{NodeRecord}
+use Rattle.meaning.specs.ReadOff.{NodeRecord, nodeBytes}
 use Rattle.rowbits.specs.Bit.{bit}
 use Rattle.tables.specs.Tables.{row}
 use Rattle.tables.specs.Rows.{Lowest}
@@ -44,13 +44,17 @@ Led t u n gs = (x k : ℕ) → x < n → Lowest (bitAnd (row u x) (row t x)) k �
 unfoldable pub nodeNumbers : ℕ → List Node → List ℕ
 nodeNumbers n vs = map (λ (v : Node). v .0) (take n vs)
 
--- the node of a variable, where gs are the groups in the order of their nodes
-unfoldable pub placeIn : (t u : List ℕ) (blank : ℕ) (gs : List ℕ) → ℕ → ℕ
-placeIn t u blank gs x = blank + position (bit (bitAnd (row u x) (row t x))) gs
+-- the node of a variable, where gs are the groups in order and their nodes are numbered so
+unfoldable pub placeIn : (t u : List ℕ) (number : ℕ → ℕ) (gs : List ℕ) → ℕ → ℕ
+placeIn t u number gs x = number (position (bit (bitAnd (row u x) (row t x))) gs)
 
 -- the parent of a group with this row of variables over it
-unfoldable pub parentIn : (t u : List ℕ) (lows blank : ℕ) (gs : List ℕ) → ℕ → ℕ
-parentIn t u lows blank gs above = pick (eqb (bitAnd above lows) 0) 0 (blank + position (near t u above) gs)
+unfoldable pub parentIn : (t u : List ℕ) (lows : ℕ) (number : ℕ → ℕ) (gs : List ℕ) → ℕ → ℕ
+parentIn t u lows number gs above = pick (eqb (bitAnd above lows) 0) 0 (number (position (near t u above) gs))
 
-unfoldable pub nodeIn : (t u labels : List ℕ) (n lows blank : ℕ) (gs : List ℕ) → ℕ → NodeRecord
-nodeIn t u labels n lows blank gs g = record { up = parentIn t u lows blank gs (overRow n (row u g) (row t g)); label = row labels g }
+unfoldable pub nodeIn : (t u labels : List ℕ) (n lows : ℕ) (number : ℕ → ℕ) (gs : List ℕ) → ℕ → NodeRecord
+nodeIn t u labels n lows number gs g = record { up = parentIn t u lows number gs (overRow n (row u g) (row t g)); label = row labels g }
+
+-- the record of the group at a place
+abbrev pub groupRecord : (t u labels : List ℕ) (n lows : ℕ) (number : ℕ → ℕ) (gs : List ℕ) → ℕ → List ℕ
+groupRecord t u labels n lows number gs i = nodeBytes (number i) (nodeIn t u labels n lows number gs (getD gs i 0) ∷ [])

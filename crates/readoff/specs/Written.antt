@@ -1,13 +1,27 @@
--- Bytes written into a buffer, and the rest of it as it was.
+-- Records of four bytes written into a buffer, and the rest of it as it was.
 use mathlib.Core.Path.{_≡_}
-use mathlib.Core.List.{List, _++_}
-use Prim.Native.Nat.{ℕ, _+_, _≤_}
-use lib.ListN.{length, take, drop}
-use Rattle.meaning.specs.ReadOff.{FactSet, answerFile}
+use mathlib.Core.Logic.{_≢_}
+use mathlib.Core.List.{List, [], _∷_, _++_}
+use Prim.Native.Nat.{ℕ, _+_, _*_, _≤_, _<_}
+use lib.ListN.{length, getD, drop}
+use Rattle.meaning.specs.ReadOff.{FactSet, NodeRecord, blankRecord, nodeBytes, placeBytes, answerFile}
 
--- the new buffer is the old one with these bytes from a place on
-abbrev pub Wrote : ℕ → List ℕ → List ℕ → List ℕ → Type 0
-Wrote at bytes old new = new ≡ take at old ++ bytes ++ drop (at + length bytes) old
+-- at each of the first k numbers stands its record, and no other record of the buffer changed
+pub record Recorded (number : ℕ → ℕ) (bytes : ℕ → List ℕ) (k : ℕ) (old new : List ℕ) : Type 0 where
+  pub long : length new ≡ length old
+  pub these : (i j : ℕ) → i < k → j < 4 → getD new (number i * 4 + j) 0 ≡ getD (bytes i) j 0
+  pub others : (v j : ℕ) → ((i : ℕ) → i < k → v ≢ number i) → j < 4 → getD new (v * 4 + j) 0 ≡ getD old (v * 4 + j) 0
+
+-- at a number stands this record, and no other changed
+abbrev pub Put : ℕ → List ℕ → List ℕ → List ℕ → Type 0
+Put v bytes old new = Recorded (λ i. v) (λ i. bytes) 1 old new
+
+-- the records of a list of nodes, and of the nodes of the variables
+abbrev pub nodeRecord : List NodeRecord → ℕ → List ℕ
+nodeRecord ns v = nodeBytes v (getD ns v blankRecord ∷ [])
+
+abbrev pub placeRecord : List ℕ → ℕ → List ℕ
+placeRecord vs x = placeBytes x (getD vs x 0 ∷ [])
 
 -- the answer file is at the front, and r is how many bytes it has
 pub record FileWritten (n : ℕ) (h : FactSet) (old : List ℕ) (r : ℕ) (new : List ℕ) : Type 0 where

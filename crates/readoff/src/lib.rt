@@ -1,21 +1,21 @@
 // The answer file of settled tables: a node for each group of same variables, by depth and then by lowest variable, and the node of each
 // variable.
 ghost use mathlib.Core.Path.{_≡_};
-ghost use mathlib.Core.List.{List, [], _∷_, _++_, map};
+ghost use mathlib.Core.List.{List, [], _∷_, _++_};
 ghost use Prim.Native.Nat.{ℕ, _+_, _-_, _*_, _^_, _<_, _≤_};
 ghost use lib.Bits.{bitAnd};
 ghost use lib.Count.{ones};
 ghost use lib.Dec.{eqb};
 ghost use lib.ListN.{length};
 ghost use Rattle.meaning.specs.Constraint.{Fact};
-ghost use Rattle.meaning.specs.Finite.{pick, _and_, neg, one, picked, position, tab};
-ghost use Rattle.meaning.specs.ReadOff.{nodeBytes, placeBytes, blankRecord};
+ghost use Rattle.meaning.specs.Finite.{_and_, picked, position, tab};
 ghost use Rattle.rowbits.specs.Bit.{bit};
 ghost use Rattle.tables.specs.Rows.{without};
 ghost use Rattle.tables.specs.Tables.{row, has, Ready};
 ghost use Rattle.readoff.specs.Rows.{Gathered, overRow, isLow, inLayer, near};
-ghost use Rattle.readoff.specs.Listing.{groups, Small, listed, Listed, Placed, Led, nodeNumbers, placeIn, parentIn, nodeIn};
-ghost use Rattle.readoff.specs.Written.{Wrote, FileWritten};
+ghost use Rattle.readoff.specs.Numbering.{frontOf, numbered, inFront};
+ghost use Rattle.readoff.specs.Listing.{groups, Small, listed, Listed, Placed, Led, nodeNumbers, placeIn, parentIn, groupRecord};
+ghost use Rattle.readoff.specs.Written.{Recorded, Put, nodeRecord, placeRecord, FileWritten};
 use ids::Node;
 use ids::Var;
 use tables::Facts;
@@ -24,6 +24,11 @@ use tables::Facts;
 struct Order {
     group: [Var; 16],
     len: usize,
+}
+
+// What is put in front of the groups' nodes, by which these are numbered.
+struct Front {
+    blank: usize,
 }
 
 // The variables below n that are over one, which has these rows of what is above and below it.
@@ -151,14 +156,22 @@ fn nearest(order: Order, over: u16, below: [u16; 16], above: [u16; 16]) -> usize
     len
 }
 
-// 1 unless there is exactly one group at the top.
-fn blank(top: u16) -> usize
-    ensures { λ r. ⌜ r ≡ one (neg (eqb (ones top) 1)) ⌝ }
+// A blank node, unless there is exactly one group at the top.
+fn front_of(top: u16) -> Front
+    ensures { λ r. ⌜ r ≡ frontOf (ones top) ⌝ }
 {
     if count(top) == 1 {
-        return 0;
+        return Front { blank: 0 };
     }
-    1
+    Front { blank: 1 }
+}
+
+// The node of the group at a place of the order.
+fn node_at(front: Front, place: usize) -> Node
+    requires { ⌜ numbered front place < 256 ⌝ }
+    ensures { λ r. ⌜ r .0 ≡ numbered front place ⌝ }
+{
+    Node((front.blank + place) as u8)
 }
 
 // The parent of a group, where these variables are over it.
@@ -168,22 +181,21 @@ fn parent_of(
     lows: u16,
     below: [u16; 16],
     above: [u16; 16],
-    blank: usize,
+    front: Front,
 ) -> Node
-    requires { ⌜ Small order × (blank ≤ 1) ⌝ }
-    ensures { λ r. ⌜ r .0 ≡ parentIn below above lows blank (groups order) over ⌝ }
+    requires { ⌜ Small order × (numbered front (order .len) < 256) ⌝ }
+    ensures { λ r. ⌜ r .0 ≡ parentIn below above lows (numbered front) (groups order) over ⌝ }
 {
     if over & lows == 0 {
         return Node(0);
     }
-    let place = nearest(order, over, below, above);
-    Node((blank + place) as u8)
+    node_at(front, nearest(order, over, below, above))
 }
 
 // The node of each variable: that of the lowest of its group.
-fn assign(order: Order, below: [u16; 16], above: [u16; 16], blank: usize, n: usize) -> [Node; 16]
-    requires { ⌜ Small order × (blank ≤ 1) × (n ≤ 16) × Led below above n (groups order) ⌝ }
-    ensures { λ r. ⌜ nodeNumbers n r ≡ tab n (placeIn below above blank (groups order)) ⌝ }
+fn assign(order: Order, below: [u16; 16], above: [u16; 16], front: Front, n: usize) -> [Node; 16]
+    requires { ⌜ Small order × (numbered front (order .len) < 256) × (n ≤ 16) × Led below above n (groups order) ⌝ }
+    ensures { λ r. ⌜ nodeNumbers n r ≡ tab n (placeIn below above (numbered front) (groups order)) ⌝ }
 {
     let first = Node(0);
     let mut nodes = [first; 16];
@@ -193,16 +205,17 @@ fn assign(order: Order, below: [u16; 16], above: [u16; 16], blank: usize, n: usi
         let down = below[x];
         let low = tables::lowest(up & down);
         let place = at[low];
-        nodes[x] = Node((blank + place as usize) as u8);
+        nodes[x] = node_at(front, place as usize);
     }
     nodes
 }
 
-// A record of four bytes.
-fn put(answer: &mut [u8], at: usize, kind: u8, own: u8, node: u8, last: u8)
-    requires { ⌜ at + 4 ≤ length (now answer) ⌝ }
-    ensures { λ _. ⌜ Wrote at (kind ∷ own ∷ node ∷ last ∷ []) (now (answer .entry)) (now (answer .exit)) ⌝ }
+// A record of four bytes, at its number.
+fn put(answer: &mut [u8], number: usize, kind: u8, own: u8, node: u8, last: u8)
+    requires { ⌜ number * 4 + 4 ≤ length (now answer) ⌝ }
+    ensures { λ _. ⌜ Put number (kind ∷ own ∷ node ∷ last ∷ []) (now (answer .entry)) (now (answer .exit)) ⌝ }
 {
+    let at = number * 4;
     answer[at] = kind;
     answer[at + 1] = own;
     answer[at + 2] = node;
@@ -211,28 +224,29 @@ fn put(answer: &mut [u8], at: usize, kind: u8, own: u8, node: u8, last: u8)
 
 fn put_node(answer: &mut [u8], own: Node, parent: Node, label: u8)
     requires { ⌜ own .0 * 4 + 4 ≤ length (now answer) ⌝ }
-    ensures { λ _. ⌜ Wrote (own .0 * 4) (1 ∷ own .0 ∷ parent .0 ∷ label ∷ []) (now (answer .entry)) (now (answer .exit)) ⌝ }
+    ensures { λ _. ⌜ Put (own .0) (1 ∷ own .0 ∷ parent .0 ∷ label ∷ []) (now (answer .entry)) (now (answer .exit)) ⌝ }
 {
-    put(answer, own.0 as usize * 4, 1, own.0, parent.0, label);
+    put(answer, own.0 as usize, 1, own.0, parent.0, label);
 }
 
-fn put_place(answer: &mut [u8], at: usize, own: Var, node: Node)
-    requires { ⌜ at + 4 ≤ length (now answer) ⌝ }
-    ensures { λ _. ⌜ Wrote at (2 ∷ own .0 ∷ node .0 ∷ 0 ∷ []) (now (answer .entry)) (now (answer .exit)) ⌝ }
+fn put_place(answer: &mut [u8], number: usize, own: Var, node: Node)
+    requires { ⌜ number * 4 + 4 ≤ length (now answer) ⌝ }
+    ensures { λ _. ⌜ Put number (2 ∷ own .0 ∷ node .0 ∷ 0 ∷ []) (now (answer .entry)) (now (answer .exit)) ⌝ }
 {
-    put(answer, at, 2, own.0, node.0, 0);
+    put(answer, number, 2, own.0, node.0, 0);
 }
 
-fn put_blank(answer: &mut [u8], blank: usize)
-    requires { ⌜ 4 ≤ length (now answer) ⌝ }
-    ensures { λ _. ⌜ Wrote 0 (nodeBytes 0 (pick (eqb blank 1) (blankRecord ∷ []) [])) (now (answer .entry)) (now (answer .exit)) ⌝ }
+// The nodes that are added.
+fn put_front(answer: &mut [u8], front: Front)
+    requires { ⌜ length (inFront front) * 4 ≤ length (now answer) ⌝ }
+    ensures { λ _. ⌜ Recorded (λ v. v) (nodeRecord (inFront front)) (length (inFront front)) (now (answer .entry)) (now (answer .exit)) ⌝ }
 {
-    if blank == 1 {
+    if front.blank == 1 {
         put_node(answer, Node(0), Node(0), 0);
     }
 }
 
-// The nodes of the groups, behind the blank one.
+// The nodes of the groups.
 fn put_nodes(
     answer: &mut [u8],
     order: Order,
@@ -240,11 +254,11 @@ fn put_nodes(
     above: [u16; 16],
     label: [u8; 16],
     lows: u16,
-    blank: usize,
+    front: Front,
     n: usize,
 )
-    requires { ⌜ Small order × (blank ≤ 1) × (n ≤ 16) × ((blank + order .len) * 4 ≤ length (now answer)) ⌝ }
-    ensures { λ _. ⌜ Wrote (blank * 4) (nodeBytes blank (map (nodeIn below above label n lows blank (groups order)) (groups order))) (now (answer .entry)) (now (answer .exit)) ⌝ }
+    requires { ⌜ Small order × (numbered front (order .len) < 256) × (n ≤ 16) × (numbered front (order .len) * 4 ≤ length (now answer)) ⌝ }
+    ensures { λ _. ⌜ Recorded (numbered front) (groupRecord below above label n lows (numbered front) (groups order)) (order .len) (now (answer .entry)) (now (answer .exit)) ⌝ }
 {
     let len = order.len;
     for i in 0..len {
@@ -253,19 +267,19 @@ fn put_nodes(
         let up = above[x];
         let down = below[x];
         let l = label[x];
-        let parent = parent_of(order, over(up, down, n), lows, below, above, blank);
-        put_node(answer, Node((blank + i) as u8), parent, l);
+        let parent = parent_of(order, over(up, down, n), lows, below, above, front);
+        put_node(answer, node_at(front, i), parent, l);
     }
 }
 
 // The places of the variables.
-fn put_places(answer: &mut [u8], at: usize, nodes: [Node; 16], n: usize)
-    requires { ⌜ (n ≤ 16) × (at + n * 4 ≤ length (now answer)) ⌝ }
-    ensures { λ _. ⌜ Wrote at (placeBytes 0 (nodeNumbers n nodes)) (now (answer .entry)) (now (answer .exit)) ⌝ }
+fn put_places(answer: &mut [u8], first: usize, nodes: [Node; 16], n: usize)
+    requires { ⌜ (n ≤ 16) × ((first + n) * 4 ≤ length (now answer)) ⌝ }
+    ensures { λ _. ⌜ Recorded (λ x. first + x) (placeRecord (nodeNumbers n nodes)) n (now (answer .entry)) (now (answer .exit)) ⌝ }
 {
     for x in 0..n {
         let v = nodes[x];
-        put_place(answer, at + x * 4, Var(x as u8), v);
+        put_place(answer, first + x, Var(x as u8), v);
     }
 }
 
@@ -281,11 +295,13 @@ pub fn read_off(f: Facts, n: usize, answer: &mut [u8]) -> usize
     let layer = layers(below, above, low, n);
     let order = in_order(layer, n);
     let top = layer[0];
-    let first = blank(top);
-    put_blank(answer, first);
-    put_nodes(answer, order, below, above, label, low, first, n);
-    let at = (first + order.len) * 4;
-    let nodes = assign(order, below, above, first, n);
-    put_places(answer, at, nodes, n);
-    at + n * 4
+    let front = front_of(top);
+    put_front(answer, front);
+    put_nodes(answer, order, below, above, label, low, front, n);
+    let len = order.len;
+    let size = node_at(front, len);
+    let first = size.0 as usize;
+    let nodes = assign(order, below, above, front, n);
+    put_places(answer, first, nodes, n);
+    (first + n) * 4
 }

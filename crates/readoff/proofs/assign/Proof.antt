@@ -1,15 +1,16 @@
 -- `readoff::assign` meets its contract: at x the variables below x have their nodes.
-use mathlib.Core.Path.{_≡_, ap}
+use mathlib.Core.Path.{_≡_, ap, _∙_}
 use mathlib.Core.List.{List}
-use Prim.Native.Nat.{ℕ, _<_, _≤_, _+_, _-_}
-use native.Mathlib.Omega.{arith}
+use Prim.Native.Nat.{ℕ, _≤_, _-_}
 use lib.Bits.{bitAnd}
 use lib.ListN.{length}
 use Rattle.meaning.specs.Finite.{tab, position}
 use Rattle.rowbits.specs.Bit.{bit}
 use Rattle.tables.specs.Tables.{row}
+use Rattle.readoff.specs.Numbering.{numbered}
 use Rattle.readoff.specs.Listing.{groups, Placed, Led, nodeNumbers, placeIn}
 use Rattle.readoff.proofs.Listing.{length-mapped, place-most, place-led}
+use Rattle.readoff.proofs.Numbering.{numbered-fits}
 use Rattle.readoff.proofs.Written.{assigned-none, assigned-more}
 use borrow.Author.Needs.{needs}
 use Rattle.readoff.proofs.assign.Statement.{statement}
@@ -17,24 +18,24 @@ use Rattle.readoff.proofs.assign.Tie as tie
 
 -- the order has gone into `places`, so this is of every order that has these places
 abbrev Inv-loop : tie.InvT-loop
-Inv-loop blank n below above nodes₀ at x₀ nodes x = (x ≤ n) × (length nodes ≡ 16)
-    × ((gs : List ℕ) → Placed gs at → Led below above n gs → nodeNumbers x nodes ≡ tab x (placeIn below above blank gs))
+Inv-loop front n below above nodes₀ at x₀ nodes x = (x ≤ n) × (length nodes ≡ 16)
+    × ((gs : List ℕ) → Placed gs at → Led below above n gs → nodeNumbers x nodes ≡ tab x (placeIn below above (numbered front) gs))
 
 abbrev μ-loop : tie.MeasureT-loop
-μ-loop blank n below above nodes₀ at x₀ nodes x = n - x
+μ-loop front n below above nodes₀ at x₀ nodes x = n - x
 
 -- the place that is read is that of the variable's group
 place-read : (c : tie.After-lowest Inv-loop μ-loop) → let i = c .before .before in let s = i .before .before in (gs : List ℕ) → Placed gs (i .before .places .result) → Led (s .args .t2) (s .args .t3) (s .args .n) gs
     → row (i .before .places .result) (c .lowest .result) ≡ position (bit (bitAnd (row (s .args .t3) (i .loop .x)) (row (s .args .t2) (i .loop .x)))) gs
 place-read c gs p w = let i = c .before .before in let s = i .before .before in place-led (s .args .t2) (s .args .t3) _ gs (i .before .places .result) w p (i .loop .x) _ (search needs) (c .lowest .ensures)
 
--- the node's number is a byte
-number-fits : (c : tie.After-lowest Inv-loop μ-loop) → let p = c .before .before .before in p .before .args .blank + row (p .places .result) (c .lowest .result) < 256
-number-fits c =
+-- it is a place of the order
+place-small : (c : tie.After-lowest Inv-loop μ-loop) → let p = c .before .before .before in row (p .places .result) (c .lowest .result) ≤ p .before .args .order .len
+place-small c =
     let i = c .before .before in
     let s = i .before .before in
-    let m = place-most (bit (bitAnd (row (s .args .t3) (i .loop .x)) (row (s .args .t2) (i .loop .x)))) (s .args .order) (search (needs, length-mapped)) (s .pre .0) in
-    omega (arith, place-read c (groups (s .args .order)) (i .before .places .ensures) (s .pre .3), s .pre .1)
+    rw (place-read c (groups (s .args .order)) (i .before .places .ensures) (s .pre .3))
+    (place-most (bit (bitAnd (row (s .args .t3) (i .loop .x)) (row (s .args .t2) (i .loop .x)))) (s .args .order) (search (needs, length-mapped)) (s .pre .0))
 
 places-requires : tie.Need-places-requires Inv-loop μ-loop
 places-requires c κs = c .pre .0
@@ -63,14 +64,11 @@ array-read-place c =
     let s = i .before .before in
     s .pre .0 .inside _ (s .pre .3 (i .loop .x) _ (search needs) (c .lowest .ensures) .0)
 
-cast-t18 : tie.Need-cast-t18 Inv-loop μ-loop
-cast-t18 c = search needs
+cast-node-at : tie.Need-cast-node-at Inv-loop μ-loop
+cast-node-at c = search needs
 
-add-t27 : tie.Need-add-t27 Inv-loop μ-loop
-add-t27 c = omega (arith, number-fits c)
-
-cast-t26 : tie.Need-cast-t26 Inv-loop μ-loop
-cast-t26 c = omega (arith, number-fits c)
+node-at-requires : tie.Need-node-at-requires Inv-loop μ-loop
+node-at-requires c κs = numbered-fits _ _ _ (place-small c) (c .before .before .before .before .pre .1)
 
 array-set-from-nodes : tie.Need-array-set-from-nodes Inv-loop μ-loop
 array-set-from-nodes c = search needs
@@ -84,11 +82,13 @@ loop-less c = search needs
 loop-again : tie.Need-loop-again Inv-loop μ-loop
 unfolding placeIn
 loop-again c =
-    let i = c .before .before in
+    let w = c .before in
+    let i = w .before .before in
     let s = i .before .before in (
       search needs,
       search needs,
-      λ gs p w. assigned-more (i .loop .nodes) (i .loop .x) _ (placeIn (s .args .t2) (s .args .t3) (s .args .blank) gs) (search needs) (ap (λ (k : ℕ). s .args .blank + k) (place-read c gs p w)) (i .loop .inv .2 gs p w),
+      λ gs p v. assigned-more (i .loop .nodes) (i .loop .x) _ (placeIn (s .args .t2) (s .args .t3) (numbered (s .args .front)) gs) (search needs)
+          (c .node-at .ensures ∙ ap (numbered (s .args .front)) (place-read w gs p v)) (i .loop .inv .2 gs p v),
     )
 
 returns : tie.Need-returns Inv-loop μ-loop
@@ -111,9 +111,8 @@ assign-spec =
     array-read-down
     lowest-requires
     array-read-place
-    cast-t18
-    add-t27
-    cast-t26
+    cast-node-at
+    node-at-requires
     array-set-from-nodes
     add-x
     loop-less

@@ -1,23 +1,16 @@
 -- `readoff::parent_of` meets its contract.
 use mathlib.Core.Path.{ap, _∙_}
-use Prim.Native.Nat.{ℕ, _<_, _+_}
-use native.Mathlib.Omega.{arith}
 use Rattle.meaning.proofs.Tests.{eq-yes, is-eq}
 use Rattle.readoff.specs.Rows.{near}
+use Rattle.readoff.specs.Numbering.{numbered}
 use Rattle.readoff.specs.Listing.{parentIn}
 use Rattle.readoff.proofs.Bits.{yes-not}
+use Rattle.readoff.proofs.Numbering.{numbered-fits}
 use Rattle.tables.proofs.Helpers.{pick-on, pick-off}
 use Rattle.readoff.proofs.Listing.{length-mapped, place-most}
 use borrow.Author.Needs.{needs}
 use Rattle.readoff.proofs.parent_of.Statement.{statement}
 use Rattle.readoff.proofs.parent_of.Tie as tie
-
--- the node's number is a byte
-number-fits : (c : tie.After-nearest) → c .before .before .args .blank + c .nearest .result < 256
-number-fits c =
-    let s = c .before .before in
-    let m = place-most (near (s .args .below) (s .args .above) (s .args .over)) (s .args .order) (search (needs, length-mapped)) (s .pre .0) in
-    omega (arith, c .nearest .ensures, s .pre .1)
 
 returns : tie.Need-returns
 unfolding parentIn
@@ -26,15 +19,16 @@ returns c = pick-on _ _ _ (eq-yes (c .if1 .taken))
 nearest-requires : tie.Need-nearest-requires
 nearest-requires c κs = search needs
 
-add-t10 : tie.Need-add-t10
-add-t10 c = omega (arith, number-fits c)
-
-cast-t11 : tie.Need-cast-t11
-cast-t11 c = omega (arith, number-fits c)
+node-at-requires : tie.Need-node-at-requires
+node-at-requires c κs =
+    let s = c .before .before in
+    numbered-fits _ _ _ (rw (c .nearest .ensures) (place-most (near (s .args .below) (s .args .above) (s .args .over)) (s .args .order) (search (needs, length-mapped)) (s .pre .0))) (s .pre .1)
 
 returns-2 : tie.Need-returns-2
 unfolding parentIn
-returns-2 c = ap (λ (k : ℕ). c .before .before .args .blank + k) (c .nearest .ensures) ∙ pick-off _ _ _ (yes-not (λ y. c .before .if1 .left (is-eq y)))
+returns-2 c =
+    let n = c .before in
+    c .node-at .ensures ∙ ap (numbered (n .before .before .args .front)) (n .nearest .ensures) ∙ pick-off _ _ _ (yes-not (λ y. n .before .if1 .left (is-eq y)))
 
 pub parent-of-spec : {M : Type 1} → statement M
-parent-of-spec = tie.close (tie.spec returns nearest-requires add-t10 cast-t11 returns-2)
+parent-of-spec = tie.close (tie.spec returns nearest-requires node-at-requires returns-2)

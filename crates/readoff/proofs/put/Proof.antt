@@ -1,10 +1,13 @@
 -- `readoff::put` meets its contract.
 use native.Mathlib.Omega.{arith}
 use lib.ListN.{length-set}
-use Rattle.readoff.proofs.Written.{wrote-four}
+use Rattle.readoff.proofs.Written.{put-four}
 use borrow.Author.Needs.{needs}
 use Rattle.readoff.proofs.put.Statement.{statement}
 use Rattle.readoff.proofs.put.Tie as tie
+
+mul-at : tie.Need-mul-at
+mul-at c = search needs
 
 slice-write-answer : tie.Need-slice-write-answer
 slice-write-answer c = search needs
@@ -31,12 +34,13 @@ same-length : tie.Need-same-length
 same-length c = simp length-set
 
 returns : tie.Need-returns
-returns c = wrote-four (c .args .at) (c .args .kind) (c .args .own) (c .args .node) (c .args .last) (c .args .answer .now) (c .pre)
+returns c = put-four (c .args .number) (c .args .kind) (c .args .own) (c .args .node) (c .args .last) (c .args .answer .now) (c .pre)
 
 pub put-spec : {M : Type 1} → statement M
 put-spec =
     tie.close
     (tie.spec
+    mul-at
     slice-write-answer
     add-answer
     slice-write-answer-2

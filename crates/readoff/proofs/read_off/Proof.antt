@@ -1,14 +1,15 @@
--- `readoff::read_off` meets its contract: the groups are in order once the layers are listed, and the three runs of bytes are the answer file.
-use Prim.Native.Nat.{ℕ, _<_, _≤_}
+-- `readoff::read_off` meets its contract: the groups are in order once the layers are listed, and what is written is the answer file.
+use Prim.Native.Nat.{ℕ, _+_, _<_, _≤_}
 use native.Mathlib.Omega.{arith}
-use lib.ListN.{getD}
+use lib.ListN.{length, getD}
 use mir.Syntax.{w8}
 use mir.Val.{Fits}
 use borrow.Author.Needs.{needs}
 use Rattle.tables.specs.Tables.{row}
+use Rattle.readoff.specs.Numbering.{numbered, inFront}
 use Rattle.readoff.proofs.Layered.{Layered}
 use Rattle.readoff.proofs.Listing.{length-mapped}
-use Rattle.readoff.proofs.Answer.{Ordered, room-for, groups-led, len-most, first-most, file-written}
+use Rattle.readoff.proofs.Answer.{Ordered, room-for, groups-led, few-records, file-written}
 use Rattle.readoff.proofs.read_off.Statement.{statement}
 use Rattle.readoff.proofs.read_off.Tie as tie
 
@@ -32,15 +33,26 @@ ordered c =
     }
 
 -- the bounds that the writers need
-module _ (c : tie.After-blank) where
+module _ (c : tie.After-front-of) where
   abbrev s : tie.Start
   s = c .before .before .before .before .before .before .before .before
 
-  few-nodes : (c .blank .result ≤ 1) × (c .before .in-order .result .len ≤ s .args .n)
-  few-nodes = (
-    first-most (s .args .f) (s .args .n) (c .before .before .before .lows .result) (c .before .before .layers .result) (c .before .in-order .result) (ordered (c .before)) (c .blank .result) (c .blank .ensures),
-    len-most (s .args .f) (s .args .n) (c .before .before .before .lows .result) (c .before .before .layers .result) (c .before .in-order .result) (ordered (c .before)),
-  )
+  few : (numbered (c .front-of .result) (c .before .in-order .result .len) + s .args .n ≤ 33) × (length (inFront (c .front-of .result)) ≤ 33)
+  few = few-records (s .args .f) (s .args .n) (c .before .before .before .lows .result) (c .before .before .layers .result) (c .before .in-order .result) (ordered (c .before)) (c .front-of .result) (c .front-of .ensures)
+
+-- the places before the one where the number of nodes is known
+module _ (c : tie.After-node-at) where
+  abbrev nodes-put : tie.After-put-nodes
+  nodes-put = c .before .before .before
+
+  abbrev front-put : tie.After-put-front
+  front-put = nodes-put .before .before .before .before
+
+  abbrev known : tie.After-front-of
+  known = front-put .before .before
+
+  all-few : c .node-at .result .0 + s known .args .n ≤ 33
+  all-few = omega (arith, c .node-at .ensures, few known .0)
 
 lows-requires : tie.Need-lows-requires
 lows-requires c κs = search needs
@@ -56,53 +68,57 @@ in-order-requires c κs =
 array-read-top : tie.Need-array-read-top
 array-read-top c = search needs
 
-blank-requires : tie.Need-blank-requires
-blank-requires c κs = search needs
+front-of-requires : tie.Need-front-of-requires
+front-of-requires c κs = search needs
 
-put-blank-requires : tie.Need-put-blank-requires
-put-blank-requires c κs = search needs
+put-front-requires : tie.Need-put-front-requires
+put-front-requires c κs = omega (arith, few (c .before) .1, s (c .before) .pre .1)
 
 put-nodes-requires : tie.Need-put-nodes-requires
 put-nodes-requires c κs =
-    let b = c .before .before .before .before .before in
-    let w = few-nodes b in
-    (b .before .in-order .ensures .small, w .0, s b .pre .0, omega (arith, w, s b .pre .0, s b .pre .1, c .before .before .before .put-blank .kept .0))
+    let p = c .before .before .before in
+    let b = p .before .before in
+    (b .before .in-order .ensures .small, omega (arith, few b .0), s b .pre .0, omega (arith, few b .0, s b .pre .1, p .put-front .kept .0))
 
-add-at : tie.Need-add-at
-add-at c = let b = c .before .before .before .before .before .before .before .before .before in omega (arith, few-nodes b, s b .pre .0)
+node-at-requires : tie.Need-node-at-requires
+node-at-requires c κs = omega (arith, few (c .before .before .before .before .before .before .before .before) .0)
 
-mul-at : tie.Need-mul-at
-mul-at c = let b = c .before .before .before .before .before .before .before .before .before in omega (arith, few-nodes b, s b .pre .0)
+cast-first : tie.Need-cast-first
+cast-first c = omega (arith, all-few (c .before))
 
 assign-requires : tie.Need-assign-requires
 assign-requires c κs =
-    let b = c .before .before .before .before .before .before .before .before .before in (
+    let b = known (c .before) in (
       b .before .in-order .ensures .small,
-      few-nodes b .0,
+      omega (arith, few b .0),
       s b .pre .0,
       groups-led (s b .args .f) (s b .args .n) (b .before .before .before .lows .result) (b .before .before .layers .result) (b .before .in-order .result) (ordered (b .before)) (s b .pre .2 .0) (s b .pre .2 .1),
     )
 
 put-places-requires : tie.Need-put-places-requires
 put-places-requires c κs =
-    let b = c .before .before .before .before .before .before .before .before .before .before .before in
-    (s b .pre .0, omega (arith, few-nodes b, s b .pre .0, s b .pre .1, c .before .before .before .before .before .before .before .before .before .put-blank .kept .0, c .before .before .before .before .before .put-nodes .kept .0))
-
-mul-result : tie.Need-mul-result
-mul-result c = omega (arith, c .before .before .before .before .before .before .before .before .before .before .before .before .before .before .before .before .before .before .before .before .before .before .pre .0)
+    let a = c .before .before .before in
+    let b = known a in
+    (s b .pre .0, omega (arith, all-few a, s b .pre .1, front-put a .put-front .kept .0, nodes-put a .put-nodes .kept .0))
 
 add-result : tie.Need-add-result
-add-result c = let b = c .before .before .before .before .before .before .before .before .before .before .before .before .before .before in omega (arith, few-nodes b, s b .pre .0)
+add-result c = omega (arith, all-few (c .before .before .before .before .before .before))
+
+mul-result : tie.Need-mul-result
+mul-result c = omega (arith, all-few (c .before .before .before .before .before .before))
 
 same-length : tie.Need-same-length
 same-length c = search needs
 
 returns : tie.Need-returns
 returns c =
-    let b = c .before .before .before .before .before .before .before .before .before .before .before .before .before .before in
-    file-written (s b .args .f) (s b .args .n) (b .before .before .before .lows .result) (b .before .before .layers .result) (b .before .in-order .result) (ordered (b .before)) (b .blank .result) (b .blank .ensures)
-    (s b .args .answer .now) (c .before .before .before .before .before .before .before .before .before .before .before .before .put-blank .last .0) (c .before .before .before .before .before .before .before .before .put-nodes .last .0) (c .before .before .put-places .last .0) _ (s b .pre .1) (label-bytes (s b))
-    (c .before .before .before .before .before .before .before .before .before .before .before .before .put-blank .ensures) (c .before .before .before .before .before .before .before .before .put-nodes .ensures) (c .before .before .put-places .ensures) (c .before .before .before .before .assign .ensures)
+    let p = c .before .before in
+    let g = p .before .before in
+    let a = g .before .before in
+    let b = known a in
+    file-written (s b .args .f) (s b .args .n) (b .before .before .before .lows .result) (b .before .before .layers .result) (b .before .in-order .result) (ordered (b .before)) (b .front-of .result) (b .front-of .ensures)
+    (a .node-at .result .0) (s b .args .answer .now) (front-put a .put-front .last .0) (nodes-put a .put-nodes .last .0) (p .put-places .last .0) _ (a .node-at .ensures) (s b .pre .1) (label-bytes (s b))
+    (front-put a .put-front .ensures) (nodes-put a .put-nodes .ensures) (p .put-places .ensures) (g .assign .ensures)
 
 pub read-off-spec : {M : Type 1} → statement M
 read-off-spec =
@@ -112,14 +128,14 @@ read-off-spec =
     layers-requires
     in-order-requires
     array-read-top
-    blank-requires
-    put-blank-requires
+    front-of-requires
+    put-front-requires
     put-nodes-requires
-    add-at
-    mul-at
+    node-at-requires
+    cast-first
     assign-requires
     put-places-requires
-    mul-result
     add-result
+    mul-result
     same-length
     returns)
