@@ -1,7 +1,7 @@
 -- Entering below(a, b) by rows, where b is not at or above a and no leaf is: below is widened and nothing becomes the same
 -- (tables/proofs/Wider). Elsewhere below(b, a) follows, and groups merge.
 use mathlib.Core.Path.{_≡_, refl, sym, _∙_, subst}
-use mathlib.Core.Logic.{_⊎_, inl, inr, ⊎-elim}
+use mathlib.Core.Logic.{inl, inr, ⊎-elim}
 use mathlib.Core.Bool.{Bool, true, false, false≢true, _||_}
 use mathlib.Core.List.{List, _∷_, List·Memᴰ, List·Memᴰ·head, List·Memᴰ·tail, List·Memᴰ·cases-cons}
 use Prim.Native.Nat.{ℕ, _<_, _≤_}
@@ -9,8 +9,7 @@ use native.Mathlib.Nat.{le-trans}
 use Rattle.meaning.specs.ReadOff.{Decides}
 use Rattle.meaning.specs.Constraint.{Fact, child, below, differ, root, leaf, label}
 use Rattle.meaning.specs.Settled.{Settled, given, chain}
-use Rattle.meaning.specs.Finite.{Yes}
-use Rattle.meaning.specs.Closed.{Rules, Within, Inside}
+use Rattle.meaning.specs.Closed.{Rules, Within}
 use Rattle.meaning.proofs.Least.{settled-mono, settled-rules, settled-within}
 use Rattle.theory.proofs.Closure.{rules-decide}
 use Rattle.rowbits.specs.Bit.{bit}

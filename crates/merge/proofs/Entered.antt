@@ -1,7 +1,7 @@
 -- From settled tables to tables in which a and b have yet to become the same, and from tables in which nothing has to any more back to settled
 -- ones. A caller cites `back-tested`: when below(b,a) follows from below(a,b).
-use mathlib.Core.Path.{_≡_, refl, sym, _∙_, subst}
-use mathlib.Core.Logic.{_⊎_, inl, inr, ⊎-elim}
+use mathlib.Core.Path.{refl, sym, _∙_, subst}
+use mathlib.Core.Logic.{_⊎_, ⊎-elim}
 use mathlib.Core.Bool.{true, false, false≢true}
 use mathlib.Core.List.{List, _∷_, List·Memᴰ, List·Memᴰ·head, List·Memᴰ·tail, List·Memᴰ·cases-cons}
 use Prim.Native.Nat.{ℕ, _^_, _<_, _≤_}

@@ -1,7 +1,7 @@
 -- Making a group meets its contract. Where its tests find a clash, the given facts have one; elsewhere its tables are those of the glued facts,
 -- and only the parents of the group have yet to become the same.
 use mathlib.Core.Path.{_≡_, refl, sym, _∙_, subst}
-use mathlib.Core.Logic.{_≢_, _⊎_, inl, ⊎-elim}
+use mathlib.Core.Logic.{_≢_, inl, ⊎-elim}
 use mathlib.Core.Bool.{true, false, false≢true}
 use mathlib.Core.List.{List}
 use Prim.Native.Nat.{ℕ, _<_, _≤_}
