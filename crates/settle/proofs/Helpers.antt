@@ -1,5 +1,5 @@
 -- What the code of the helpers computes is what their definitions say.
-use mathlib.Core.Path.{_≡_, refl, sym}
+use mathlib.Core.Path.{_≡_, refl}
 use mathlib.Core.Bool.{Bool, true, false, _&&_, not}
 use Rattle.meaning.specs.Finite.{_and_, neg}
 
@@ -9,11 +9,3 @@ three true b c = refl
 three false true c = refl
 three false false true = refl
 three false false false = refl
-
-pub not-true : (b : Bool) → not b ≡ true → b ≡ false
-not-true true e = sym e
-not-true false e = refl
-
-pub not-false : (b : Bool) → not b ≡ false → b ≡ true
-not-false true e = refl
-not-false false e = sym e

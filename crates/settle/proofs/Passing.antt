@@ -11,6 +11,7 @@ use lib.Dec.{eqb}
 use lib.ListN.{set, length, length-set}
 use lib.Seq.{getD-set-same, getD-set-other}
 use lib.Bits.{bitOr, bitAnd, bitXor, xor-self}
+use borrow.Author.Tests.{not-false}
 use Rattle.meaning.specs.Finite.{Yes}
 use Rattle.meaning.proofs.Tests.{is-eq}
 use Rattle.rowbits.specs.Bit.{bit}
@@ -20,7 +21,6 @@ use Rattle.tables.proofs.Bits.{or-case, or-l, or-r, in-both, both-in, up-or, up
 use Rattle.tables.proofs.Loops.{below-cases}
 use Rattle.tables.proofs.Members.{Passed, passed-all}
 use Rattle.tables.proofs.Tested.{not-eq}
-use Rattle.settle.proofs.Helpers.{not-false}
 use Rattle.settle.specs.Rows.{Joins, JoinedOf}
 use Rattle.settle.specs.Shares.{shareAt, Taking, Taken, ShareOf, GroupClash, SharedOf}
 use Rattle.settle.specs.declared.Share.{Share}

@@ -1,5 +1,4 @@
 -- `settle::pass` meets its contract: what it calls gives the tables of which `Final` speaks.
-use Prim.Native.Nat.{ℕ}
 use lib.ListN.{getD}
 use mir.Val.{Fits}
 use mir.Syntax.{w16}
