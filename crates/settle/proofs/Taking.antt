@@ -1,40 +1,36 @@
 -- The loops over y and z: what x has taken so far of its group.
 use mathlib.Core.Path.{_≡_, refl, sym, _∙_, subst}
 use mathlib.Core.Logic.{_≢_, inl, inr, ⊎-elim}
-use mathlib.Core.Bool.{Bool, false, false≢true}
+use mathlib.Core.Bool.{Bool, false, _&&_, not, false≢true}
 use mathlib.Core.List.{List}
 use Prim.Native.Nat.{ℕ, _^_}
 use native.Mathlib.Decide.{ℕ-discrete}
+use lib.Dec.{eqb}
 use lib.Bits.{bitAnd}
-use Rattle.meaning.specs.Finite.{Yes, _and_}
-use Rattle.meaning.proofs.Tests.{clash, and-left, and-right, and-both, no-neg, is-eq, eq-yes, pick-yes, pick-no}
+use Rattle.meaning.specs.Finite.{Yes}
+use Rattle.meaning.proofs.Tests.{is-eq, eq-yes, pick-yes, pick-no}
 use Rattle.rowbits.specs.Bit.{bit}
 use Rattle.tables.specs.Tables.{row}
 use Rattle.tables.specs.Rows.{Lowest, without}
 use Rattle.tables.proofs.Bits.{none-in, or-case, or-l, or-r, in-both, both-in, gained-up, gained-has, gained-case}
+use Rattle.tables.proofs.Tested.{and-yes, yes-and, not-eq, eq-not, not-yes}
 use Rattle.tables.proofs.Members.{Passed, passed-more, passed-all, next-named}
-use Rattle.settle.specs.Rows.{clashing}
+use Rattle.settle.specs.Rows.{Clashing}
 use Rattle.settle.specs.Shares.{WithRows, WithGroup, shareAt, Taking, Twin, Taken}
 use Rattle.settle.specs.declared.Share.{Share}
 use Rattle.settle.specs.declared.Shares.{Shares}
 
 -- ---- labels
 
-pub clashing-out : (l m : ℕ) → Yes (clashing l m) → (l ≢ 0) × (m ≢ 0) × (l ≢ m)
-unfolding clashing
-clashing-out l m u = (
-  (λ e. clash (eq-yes e) (and-left _ u)),
-  (λ e. clash (eq-yes e) (and-left _ (and-right _ u))),
-  (λ e. clash (eq-yes e) (and-right _ (and-right _ u))),
-)
-
-no-clashing : (l m : ℕ) → clashing l m ≡ false → l ≢ 0 → m ≢ 0 → l ≡ m
-unfolding clashing
-no-clashing l m e a b = go (ℕ-discrete l m)
+pub labels-clash : (l m : ℕ) → Clashing l m ((not (eqb l 0) && not (eqb m 0)) && not (eqb l m))
+labels-clash l m = record {
+  clash = λ e. let p = and-yes _ _ e in let q = and-yes _ _ (p .0) in (not-eq l 0 (q .0), not-eq m 0 (q .1), not-eq l m (p .1));
+  free = λ e a b. go e a b (ℕ-discrete l m);
+}
   where
-    go : Dec (l ≡ m) → l ≡ m
-    go (yes q) = q
-    go (no q) = absurd (false≢true (sym e ∙ and-both (no-neg (λ v. a (is-eq v))) (and-both (no-neg (λ v. b (is-eq v))) (no-neg (λ v. q (is-eq v))))))
+    go : ((not (eqb l 0) && not (eqb m 0)) && not (eqb l m)) ≡ false → l ≢ 0 → m ≢ 0 → Dec (l ≡ m) → l ≡ m
+    go e a b (yes q) = q
+    go e a b (no q) = absurd (not-yes e (yes-and _ _ (yes-and _ _ (eq-not l 0 a) (eq-not m 0 b)) (eq-not l m q)))
 
 -- ---- nothing taken is lost
 
@@ -143,7 +139,7 @@ module _ (same : List ℕ) (t : Shares) (own : ℕ) where
     abbrev pub Ys : Share → ℕ → Type 0
     Ys s ys = Taking same t own s × Passed (Taken same t x visits s) own ys
 
-    pub y-step : (s q r : Share) (ys y zs : ℕ) → Ys s ys → ys ≢ 0 → Lowest ys y → clashing (s .label) (row (t .label) y) ≡ false
+    pub y-step : (s q r : Share) (ys y zs : ℕ) → Ys s ys → ys ≢ 0 → Lowest ys y → Clashing (s .label) (row (t .label) y) false
         → WithRows s (row (t .child) y) (row (t .parent) y) (row (t .differ) y) (row (t .label) y) q → zs ≡ 0 → Zs y q r zs → Ys r (without ys (2 ^ y))
     y-step s q r ys y zs (_, w) some low nc e none (taking, p, g) = (
       taking,
@@ -158,4 +154,4 @@ module _ (same : List ℕ) (t : Shares) (own : ℕ) where
       where
         named : row (t .label) y ≢ 0 → Dec (s .label ≡ 0) → q .label ≡ row (t .label) y
         named z (yes n) = e .label ∙ pick-yes _ _ (eq-yes n)
-        named z (no n) = rows-grown e .label n ∙ no-clashing (s .label) (row (t .label) y) nc n z
+        named z (no n) = rows-grown e .label n ∙ nc .free refl n z

@@ -6,7 +6,7 @@ ghost use Rattle.tables.specs.Tables.{Seeded};
 ghost use Prim.Native.Nat.{_<_, _≤_};
 ghost use Rattle.meaning.specs.Finite.{pick};
 ghost use lib.Dec.{eqb};
-ghost use Rattle.settle.specs.Rows.{firstRow, clashing, Grouped, Chained, GroupsOf, WholeGroups, JoinedOf};
+ghost use Rattle.settle.specs.Rows.{firstRow, Clashing, Grouped, Chained, GroupsOf, WholeGroups, JoinedOf};
 ghost use Rattle.settle.specs.Shares.{WithRows, WithGroup, SharedOf};
 ghost use Rattle.settle.specs.Steps.{SteppedOf, PassRules};
 ghost use Rattle.settle.specs.Settling.{SettledOf};
@@ -25,7 +25,7 @@ fn first_row(below: u16, child: u16, root: u16, x: usize, n: usize) -> u16
 }
 
 fn clashes(l: u8, m: u8) -> bool
-    ensures { λ r. ⌜ r ≡ clashing l m ⌝ }
+    ensures { λ r. ⌜ Clashing l m r ⌝ }
 {
     (l != 0) & (m != 0) & (l != m)
 }
@@ -213,19 +213,16 @@ fn join_rows(
     ensures { λ r. ⌜ JoinedOf n below above leaf child parent r ⌝ }
 {
     let mut a = below;
-    let mut more: u16 = 0;
+    let mut more = false;
     for x in 0..n {
         let old = a[x];
         let up = above[x];
         let c = child[x];
         let new = old | (up & leaf) | tables::union_rows(parent, c);
-        more = more | (old ^ new);
+        more = more | (old != new);
         a[x] = new;
     }
-    Joined {
-        more: more != 0,
-        below: a,
-    }
+    Joined { more, below: a }
 }
 
 // What a step of settling answers: a clash, or tables, and whether another round may find more.
@@ -254,6 +251,8 @@ fn pass(f: Facts, n: usize) -> Stepped
         label: labels,
     };
     let same = groups.same;
+    let root = whole_groups(same, f.root);
+    let leaf = whole_groups(same, f.leaf);
     let shared = share_rows(given, same, groups.several, n);
     if shared.clash {
         return Stepped {
@@ -279,9 +278,9 @@ fn pass(f: Facts, n: usize) -> Stepped
             below,
             above,
             differ,
-            root: whole_groups(same, f.root),
+            root,
             label,
-            leaf: whole_groups(same, f.leaf),
+            leaf,
         },
     }
 }

@@ -1,6 +1,6 @@
 -- `settle::share_rows` meets its contract. The loop over x knows what every row that was passed holds, the loops over y and z what x has taken so
 -- far.
-use mathlib.Core.Path.{_≡_, refl, sym, ap, _∙_}
+use mathlib.Core.Path.{_≡_, refl, sym, ap, _∙_, subst}
 use mathlib.Core.Bool.{false}
 use Prim.Native.Nat.{ℕ, _≤_, _<_, _-_}
 use native.Mathlib.Numerals.{add-one-le}
@@ -14,8 +14,9 @@ use Rattle.tables.specs.Tables.{row}
 use Rattle.tables.proofs.Bits.{in-both}
 use Rattle.tables.proofs.Helpers.{doubled}
 use Rattle.tables.proofs.Members.{passed-none, passed-less, next-in, next-named}
+use Rattle.settle.specs.Rows.{Clashing}
 use Rattle.settle.specs.Shares.{two-labels, apart}
-use Rattle.settle.proofs.Taking.{Zs, Ys, grown-none, taking-none, added, z-step, y-step, clashing-out}
+use Rattle.settle.proofs.Taking.{Zs, Ys, grown-none, taking-none, added, z-step, y-step}
 use Rattle.settle.proofs.Passing.{Passing, passing-none, passing-more, share-of, shared-rows, shared-clash}
 use Rattle.settle.proofs.share_rows.Statement.{statement}
 use Rattle.settle.proofs.share_rows.Tie as tie
@@ -187,7 +188,7 @@ loop-again c =
     let e = m .before .before .before .before in (
       l .loop2 .inv .0,
       rw (c .rest2 .ensures _ (w .lowest .ensures)) (y-step _ _ _ _ _ _ _ _ _ _ _ (w .before .before .loop .inv .1) (w .before .loop-test .taken) (w .lowest .ensures)
-          (sym (e .before .clashes .ensures) ∙ e .if1 .left) (m .with-rows .ensures) (z .loop2-test .left) (l .loop2 .inv .1)),
+          (subst (Clashing _ _) (e .if1 .left) (e .before .clashes .ensures)) (m .with-rows .ensures) (z .loop2-test .left) (l .loop2 .inv .1)),
     )
 
 mul-shares : tie.Need-mul-shares Inv-loop2 μ-loop2 Inv-loop μ-loop Inv-pass μ-pass
@@ -238,7 +239,7 @@ returns-2 : tie.Need-returns-2 Inv-loop2 μ-loop2 Inv-loop μ-loop Inv-pass μ-p
 returns-2 c =
     let w = c .before .before .before in
     let l = w .before .before in
-    let q = clashing-out _ _ (sym (c .before .clashes .ensures) ∙ c .if1 .taken) in
+    let q = c .before .clashes .ensures .clash (c .if1 .taken) in
     let v = l .loop .inv .1 .0 .label (q .0) in
     let own = next-named _ _ _ _ (l .loop .inv .1 .1) (w .before .loop-test .taken) (w .lowest .ensures) in
     shared-clash _ _ _ _ _ (two-labels _ (v .0) _ (at-x l .pass-test .taken) (v .1) own (λ e. q .0 (sym (v .2) ∙ e)) (q .1) (λ e. q .2 (sym (v .2) ∙ e)))
