@@ -1,7 +1,7 @@
 -- The rows of one kind, from what their loop knows at the end, and unions of tables whose rows are known.
 use mathlib.Core.Path.{ap, _∙_}
 use mathlib.Core.List.{List}
-use Prim.Native.Nat.{ℕ, _<_, _≤_}
+use Prim.Native.Nat.{ℕ, _≤_}
 use native.Mathlib.Nat.{le-trans}
 use lib.Bits.{bitOr, or-zero-r}
 use lib.ListN.{replicate}

@@ -1,5 +1,5 @@
 -- What the rules for itself, child, root and chain make of the rows of below.
-use mathlib.Core.Path.{_≡_, sym, _∙_, subst}
+use mathlib.Core.Path.{_≡_, refl, sym, _∙_, subst}
 use mathlib.Core.Logic.{_≢_, _⊎_, inl, inr, ⊎-elim}
 use mathlib.Core.List.{List}
 use Prim.Native.Nat.{ℕ, _+_, _-_, _^_, _<_, _≤_}
@@ -26,17 +26,11 @@ first-up : (b c r x n : ℕ) → Up b (firstRow b c r x n)
 unfolding firstRow
 first-up b c r x n = up-trans (up-trans (up-or b c) (up-or _ _)) (gained-up _ _ _)
 
-first-self : (b c r x n : ℕ) → Yes (bit (firstRow b c r x n) x)
+first-in : (b c r x n i : ℕ) → Yes (bit c i) ⊎ (i ≡ x) ⊎ (Yes (bit r x) × (i < n)) → Yes (bit (firstRow b c r x n) i)
 unfolding firstRow
-first-self b c r x n = gained-up (bit r x) (bitOr (bitOr b c) (2 ^ x)) (2 ^ n - 1) .kept x (or-r (bitOr b c) (2 ^ x) x (one-has x))
-
-first-child : (b c r x n i : ℕ) → Yes (bit c i) → Yes (bit (firstRow b c r x n) i)
-unfolding firstRow
-first-child b c r x n i u = gained-up (bit r x) (bitOr (bitOr b c) (2 ^ x)) (2 ^ n - 1) .kept i (or-l (bitOr b c) (2 ^ x) i (or-r b c i u))
-
-first-root : (b c r x n i : ℕ) → Yes (bit r x) → i < n → Yes (bit (firstRow b c r x n) i)
-unfolding firstRow
-first-root b c r x n i u l = gained-has (bit r x) (bitOr (bitOr b c) (2 ^ x)) (2 ^ n - 1) i u (all-has n i l)
+first-in b c r x n i (inl u) = gained-up (bit r x) (bitOr (bitOr b c) (2 ^ x)) (2 ^ n - 1) .kept i (or-l (bitOr b c) (2 ^ x) i (or-r b c i u))
+first-in b c r x n i (inr (inl e)) = gained-up (bit r x) (bitOr (bitOr b c) (2 ^ x)) (2 ^ n - 1) .kept i (or-r (bitOr b c) (2 ^ x) i (rw e (one-has x)))
+first-in b c r x n i (inr (inr u)) = gained-has (bit r x) (bitOr (bitOr b c) (2 ^ x)) (2 ^ n - 1) i (u .0) (all-has n i (u .1))
 
 first-case : (b c r x n i : ℕ) → Yes (bit (firstRow b c r x n) i) → Yes (bit b i) ⊎ Yes (bit c i) ⊎ (i ≡ x) ⊎ (Yes (bit r x) × (i < n))
 unfolding firstRow
@@ -119,16 +113,16 @@ module _ (n : ℕ) (small : n ≤ 16) (t children : List ℕ) (roots x y : ℕ) 
           (λ v. ⊎-elim (λ e. subst (λ (j : ℕ). Settled n S (below k j)) (sym e) (self-below h)) (λ v. root-below (d k (v .0)) (v .1)) v) v)
           (first-case _ _ _ _ _ i (subst (λ (j : ℕ). Yes (bit j i)) (f .done k (omega arith)) u))
 
-  into : (k i : ℕ) → k < n → Yes (bit (firstRow (row t k) (row children k) roots k n) i) → Yes (bit (row r k) i)
-  into k i h u = g .up k .kept i (subst (λ (j : ℕ). Yes (bit j i)) (sym (f .done k (omega arith))) u)
+  into : (k i : ℕ) → k < n → Yes (bit (row children k) i) ⊎ (i ≡ k) ⊎ (Yes (bit roots k) × (i < n)) → Yes (bit (row r k) i)
+  into k i h u = g .up k .kept i (subst (λ (j : ℕ). Yes (bit j i)) (sym (f .done k (omega arith))) (first-in _ _ _ _ _ i u))
 
   pub chained-rows : Chained n t children roots r
   chained-rows = record {
     up = λ k. up-trans (firsts-up k) (g .up k);
     sound = λ S s c d. g .sound S (firsts-sound S s c d);
-    itself = λ k h. into k k h (first-self _ _ _ _ _);
-    parent = λ k i h u. into k i h (first-child _ _ _ _ _ i u);
-    rooted = λ k i h u l. into k i h (first-root _ _ _ _ _ i u l);
+    itself = λ k h. into k k h (inr (inl refl));
+    parent = λ k i h u. into k i h (inl u);
+    rooted = λ k i h u l. into k i h (inr (inr (u, l)));
     chained = λ k i z h l. g .chained k i z (omega arith) (omega arith) (omega arith);
   }
 

@@ -1,7 +1,7 @@
 -- After a pass: for every S that the tables are to settle from, all that the rows took is settled, and the rows are again tables to settle S
 -- from. Where below did not grow they are closed under the rules of sharing and that of one parent.
 use mathlib.Core.Path.{_≡_, refl, sym, ap, _∙_, subst}
-use mathlib.Core.Logic.{_≢_, _⊎_, inl, inr, ⊎-elim}
+use mathlib.Core.Logic.{_≢_, inl, inr, ⊎-elim}
 use mathlib.Core.Bool.{Bool, true, false, false≢true}
 use mathlib.Core.List.{List}
 use Prim.Native.Nat.{ℕ, _+_, _^_, _<_, _≤_}
@@ -13,7 +13,7 @@ use Rattle.meaning.specs.Constraint.{Fact, child, below, differ, root, leaf, la
 use Rattle.meaning.specs.Settled.{Settled, Clash, differs, labels, leaf-below, one-parent, differ-back, same-parent, same-child, same-differ, same-root, same-leaf, same-label}
 use Rattle.meaning.specs.Finite.{Yes, sum, pick}
 use Rattle.meaning.proofs.Finite.{sum-le, sum-lt}
-use Rattle.meaning.proofs.Tests.{yes-eq, pick-yes, pick-no}
+use Rattle.meaning.proofs.Tests.{yes-eq}
 use Rattle.meaning.specs.Closed.{Within}
 use Rattle.meaning.proofs.Least.{settled-within}
 use Rattle.rowbits.specs.Bit.{bit}
@@ -198,7 +198,7 @@ module _ {n : ℕ} {f : Facts} {k : Groups} (o : Start n f k) (S : List Fact) (s
   -- ---- the tables after the pass
 
   module _ {s : Shared} {j : Joined} {roots leaves : ℕ} (w : SharedOf n (shares f) E (k .several) s) (well : s .clash ≡ false)
-      (a : JoinedOf n B (k .above) (f .leaf) (s .shares .child) (f .parent) j) (r : WholeGroups E (f .root) roots) (l : WholeGroups E (f .leaf) leaves) where
+      (a : JoinedOf n B (k .above) (f .leaf) (s .shares .child) (s .shares .parent) j) (r : WholeGroups E (f .root) roots) (l : WholeGroups E (f .leaf) leaves) where
     abbrev t : Shares
     t = s .shares
 
@@ -236,30 +236,44 @@ module _ {n : ℕ} {f : Facts} {k : Groups} (o : Start n f k) (S : List Fact) (s
     rest : (x : ℕ) → ¬ (x < n) → shareAt t x ≡ shareAt (shares f) x
     rest x h = w .rest well x (omega arith)
 
-    child-low : (x y : ℕ) → In (t .child) x y → x < n
-    unfolding has
-    child-low x y u = go (decLt x n)
+    low : (v u : List ℕ) → ((x y : ℕ) → In v x y → x < n) → ((x : ℕ) → ¬ (x < n) → row u x ≡ row v x) → (x y : ℕ) → In u x y → x < n
+    low v u few e x y d = go (decLt x n)
       where
         go : Dec (x < n) → x < n
         go (yes h) = h
-        go (no h) = child-in x y (subst (λ (i : Share). Yes (bit (i .child) y)) (rest x h) u) .0
+        go (no h) = few x y (subst (λ (i : ℕ). Yes (bit i y)) (e x h) d)
+
+    child-low : (x y : ℕ) → In (t .child) x y → x < n
+    unfolding has
+    child-low = low (f .child) (t .child) (λ x y u. child-in x y u .0) (λ x h. ap (λ (i : Share). i .child) (rest x h))
 
     differ-low : (x y : ℕ) → In (t .differ) x y → x < n
     unfolding has
-    differ-low x y u = go (decLt x n)
-      where
-        go : Dec (x < n) → x < n
-        go (yes h) = h
-        go (no h) = within (differ x y) (seed .sound (differ x y) (subst (λ (i : Share). Yes (bit (i .differ) y)) (rest x h) u)) .0
+    differ-low = low (f .differ) (t .differ) (λ x y u. within (differ x y) (seed .sound (differ x y) u) .0) (λ x h. ap (λ (i : Share). i .differ) (rest x h))
 
     -- ---- sound
+
+    shared-s : (x y : ℕ) → In (t .child) x y → Settled n S (child x y)
+    shared-s x y u = let h = child-low x y u in child-s x y h (child-spread .from x y h u)
+
+    to-child : (x y : ℕ) → y < n → In (t .parent) y x → In (t .child) x y
+    unfolding has
+    to-child x y h u =
+        let v = parent-spread .from y x h u in
+        child-spread .to x y (E-in (v .two) x (two-in parent-given h v) (v .right)) (from-turn parent-given (λ x y h e. parent-child y x h e) h v)
+
+    to-parent : (x y : ℕ) → In (t .child) x y → In (t .parent) y x
+    unfolding has
+    to-parent x y u =
+        let i = within (child x y) (shared-s x y u) in
+        parent-spread .to y x (i .1) (from-turn child-given (λ x y h e. child-parent x y e) (i .0) (child-spread .from x y (i .0) u))
 
     joined-s : (x y : ℕ) → In (j .below) x y → Settled n S (below x y)
     unfolding has
     joined-s x y u = ⊎-elim (B-s x y)
-        (λ v. let h = v .0 in ⊎-elim
-        (λ q. leaf-below (seed .sound (leaf y) (q .1)) (B-s y x (o .groups .columns .columns x (in-16 h) .from y (q .0))))
-        (λ q. let c = child-s x (q .0) h (child-spread .from x (q .0) h (q .1)) in one-parent c (seed .sound (child y (q .0)) (parent-child y (q .0) (within (child x (q .0)) c .1) (q .2)))) (v .1))
+        (λ v. ⊎-elim
+        (λ q. leaf-below (seed .sound (leaf y) (q .1)) (B-s y x (o .groups .columns .columns x (in-16 (v .0)) .from y (q .0))))
+        (λ q. let c = shared-s x (q .0) (q .1) in one-parent c (shared-s y (q .0) (to-child y (q .0) (within (child x (q .0)) c .1) (q .2)))) (v .1))
         (a .from x y u)
 
     -- a variable of whole groups, and the one that it is the same as
@@ -280,7 +294,7 @@ module _ {n : ℕ} {f : Facts} {k : Groups} (o : Start n f k) (S : List Fact) (s
 
     sound : Sound n S g
     unfolding has
-    sound (child x y) u = let h = child-low x y u in child-s x y h (child-spread .from x y h u)
+    sound (child x y) u = shared-s x y u
     sound (below x y) u = joined-s x y u
     sound (differ x y) u = let h = differ-low x y u in differ-s x y h (differ-spread .from x y h u)
     sound (root x) u = let q = whole-from r root-few x u in let e = E-s x (q .0) (q .2) (q .3) in same-root (e .1) (e .0) (seed .sound (root (q .0)) (q .1))
@@ -322,19 +336,12 @@ module _ {n : ℕ} {f : Facts} {k : Groups} (o : Start n f k) (S : List Fact) (s
 
     parents : Columns (t .child) (t .parent)
     unfolding has
-    parents x y hx hy = yes-eq _ _ (to (decLt y n)) back
+    parents x y hx hy = yes-eq _ _ (to (decLt y n)) (to-parent x y)
       where
         to : Dec (y < n) → In (t .parent) y x → In (t .child) x y
-        to (yes h) u =
-            let v = parent-spread .from y x h u in
-            child-spread .to x y (E-in (v .two) x (two-in parent-given h v) (v .right)) (from-turn parent-given (λ x y h e. parent-child y x h e) h v)
+        to (yes h) u = to-child x y h u
         to (no h) u =
             absurd (h (child-in x y (sym (seed .parents x y hx hy) ∙ subst (λ (i : Share). Yes (bit (i .parent) x)) (rest y h) u) .1))
-
-        back : In (t .child) x y → In (t .parent) y x
-        back u =
-            let i = within (child x y) (sound (child x y) u) in
-            parent-spread .to y x (i .1) (from-turn child-given (λ x y h e. child-parent x y e) (i .0) (child-spread .from x y (i .0) u))
 
     pub seeded : Seeded n S g
     seeded = record {
@@ -387,17 +394,6 @@ module _ {n : ℕ} {f : Facts} {k : Groups} (o : Start n f k) (S : List Fact) (s
           let c = a .to y (q .0) (i .1) (inl (o .groups .columns .columns y (in-16 (i .1)) .to (q .0) (in-16 (leaf-few (q .0) (q .1))) b, q .1)) in
           into y x (B-chain y (q .0) x (out y (q .0) c) (e .1))
 
-      rule-parent : (x y z : ℕ) → Yes (has g (child x z)) → Yes (has g (child y z)) → Yes (has g (below x y))
-      unfolding has
-      rule-parent x y z u v =
-          let h = child-low x z u in
-          let i = child-low y z v in
-          let p = child-spread .from y z i v in
-          -- the child of y's group is one of x too
-          let c = child-spread .to x (p .two) h (from-right child-given (p .two) h (E-turn (p .two) z (two-in child-given i p) (p .right)) (child-spread .from x z h u)) in
-          let b = a .to x (p .one) h (inr (p .two, c, child-parent (p .one) (p .two) (p .fact))) in
-          into x y (B-chain x (p .one) y (out x (p .one) b) (E-B y (p .one) (in-16 i) (p .left) .1))
-
       rule-same-child : (x y u : ℕ) → Yes (has g (below y u)) → Yes (has g (below u y)) → Yes (has g (child x y)) → Yes (has g (child x u))
       unfolding has
       rule-same-child x y u p q c = let h = child-low x y c in child-spread .to x u h (from-right child-given u h (same y u p q) (child-spread .from x y h c))
@@ -439,7 +435,7 @@ module _ {n : ℕ} {f : Facts} {k : Groups} (o : Start n f k) (S : List Fact) (s
           same-leaf = λ x u p q. whole-same l leaf-few x u (below-in x u p .1) (same u x q p);
           same-label = rule-same-label;
         };
-        one-parent = rule-parent;
+        one-parent = λ x y z u v. a .to x y (child-low x z u) (inr (z, u, to-parent y z v));
         apart = no-differ;
         ancestors = λ x y hx hy. transposed-columns (o .groups .columns) x y hx hy ∙ ap (λ (i : ℕ). bit i y) (sym (a .still still x));
       }
@@ -447,7 +443,7 @@ module _ {n : ℕ} {f : Facts} {k : Groups} (o : Start n f k) (S : List Fact) (s
 -- ---- how a pass ends
 
 module _ {n : ℕ} {f : Facts} {k : Groups} (o : Start n f k) {s : Shared} (w : SharedOf n (shares f) (k .same) (k .several) s) where
-  pub ended-well : {j : Joined} {roots leaves : ℕ} → s .clash ≡ false → JoinedOf n (k .below) (k .above) (f .leaf) (s .shares .child) (f .parent) j
+  pub ended-well : {j : Joined} {roots leaves : ℕ} → s .clash ≡ false → JoinedOf n (k .below) (k .above) (f .leaf) (s .shares .child) (s .shares .parent) j
       → WholeGroups (k .same) (f .root) roots → WholeGroups (k .same) (f .leaf) leaves → SteppedOf (PassRules n) n f (record {
         clash = false;
         more = j .more;

@@ -1,4 +1,3 @@
-mod Helpers
 mod Chain
 mod Taking
 mod Passing

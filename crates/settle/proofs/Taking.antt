@@ -1,41 +1,36 @@
 -- The loops over y and z: what x has taken so far of its group.
 use mathlib.Core.Path.{_≡_, refl, sym, _∙_, subst}
-use mathlib.Core.Logic.{_≢_, _⊎_, inl, inr, ⊎-elim}
-use mathlib.Core.Bool.{false, false≢true}
+use mathlib.Core.Logic.{_≢_, inl, inr, ⊎-elim}
+use mathlib.Core.Bool.{Bool, false, _&&_, not, false≢true}
 use mathlib.Core.List.{List}
 use Prim.Native.Nat.{ℕ, _^_}
 use native.Mathlib.Decide.{ℕ-discrete}
 use lib.Dec.{eqb}
-use lib.Bits.{bitOr, bitAnd}
-use Rattle.meaning.specs.Finite.{Yes, _and_, pick}
-use Rattle.meaning.proofs.Tests.{clash, and-left, and-right, and-both, no-neg, is-eq, eq-yes, pick-yes, pick-no}
+use lib.Bits.{bitAnd}
+use Rattle.meaning.specs.Finite.{Yes}
+use Rattle.meaning.proofs.Tests.{is-eq, eq-yes, pick-yes, pick-no}
 use Rattle.rowbits.specs.Bit.{bit}
 use Rattle.tables.specs.Tables.{row}
-use Rattle.tables.specs.Rows.{Lowest, gained, without}
+use Rattle.tables.specs.Rows.{Lowest, without}
 use Rattle.tables.proofs.Bits.{none-in, or-case, or-l, or-r, in-both, both-in, gained-up, gained-has, gained-case}
+use Rattle.tables.proofs.Tested.{and-yes, yes-and, not-eq, eq-not, not-yes}
 use Rattle.tables.proofs.Members.{Passed, passed-more, passed-all, next-named}
-use Rattle.settle.specs.Rows.{clashing}
-use Rattle.settle.specs.Shares.{NoShare, WithRows, WithGroup, shareAt, Source, Taking, Twin, Taken}
+use Rattle.settle.specs.Rows.{Clashing}
+use Rattle.settle.specs.Shares.{WithRows, WithGroup, shareAt, Taking, Twin, Taken}
 use Rattle.settle.specs.declared.Share.{Share}
 use Rattle.settle.specs.declared.Shares.{Shares}
 
 -- ---- labels
 
-pub clashing-out : (l m : ℕ) → Yes (clashing l m) → (l ≢ 0) × (m ≢ 0) × (l ≢ m)
-unfolding clashing
-clashing-out l m u = (
-  (λ e. clash (eq-yes e) (and-left _ u)),
-  (λ e. clash (eq-yes e) (and-left _ (and-right _ u))),
-  (λ e. clash (eq-yes e) (and-right _ (and-right _ u))),
-)
-
-no-clashing : (l m : ℕ) → clashing l m ≡ false → l ≢ 0 → m ≢ 0 → l ≡ m
-unfolding clashing
-no-clashing l m e a b = go (ℕ-discrete l m)
+pub labels-clash : (l m : ℕ) → Clashing l m ((not (eqb l 0) && not (eqb m 0)) && not (eqb l m))
+labels-clash l m = record {
+  clash = λ e. let p = and-yes _ _ e in let q = and-yes _ _ (p .0) in (not-eq l 0 (q .0), not-eq m 0 (q .1), not-eq l m (p .1));
+  free = λ e a b. go e a b (ℕ-discrete l m);
+}
   where
-    go : Dec (l ≡ m) → l ≡ m
-    go (yes q) = q
-    go (no q) = absurd (false≢true (sym e ∙ and-both (no-neg (λ v. a (is-eq v))) (and-both (no-neg (λ v. b (is-eq v))) (no-neg (λ v. q (is-eq v))))))
+    go : ((not (eqb l 0) && not (eqb m 0)) && not (eqb l m)) ≡ false → l ≢ 0 → m ≢ 0 → Dec (l ≡ m) → l ≡ m
+    go e a b (yes q) = q
+    go e a b (no q) = absurd (not-yes e (yes-and _ _ (yes-and _ _ (eq-not l 0 a) (eq-not m 0 b)) (eq-not l m q)))
 
 -- ---- nothing taken is lost
 
@@ -72,13 +67,8 @@ rows-grown {s} {r} {c} {p} {d} {l} e = record {
 }
 
 module _ (same : List ℕ) (t : Shares) (own : ℕ) where
-  pub taking-none : {s : Share} → NoShare s → Taking same t own s
-  taking-none e = record {
-    child = λ j u. none-in j (of j (e .child) u);
-    parent = λ j u. none-in j (of j (e .parent) u);
-    differ = λ j u. none-in j (of j (e .differ) u);
-    label = λ z. absurd (z (e .label));
-  }
+  pub taking-none : Taking same t own (record { child = 0; parent = 0; differ = 0; label = 0 })
+  taking-none = record { child = λ j u. none-in j u; parent = λ j u. none-in j u; differ = λ j u. none-in j u; label = λ z. absurd (z refl) }
 
   -- the rows of y are added, before the loop over z
   pub added : {s r : Share} (y : ℕ) → Taking same t own s → Yes (bit own y)
@@ -114,50 +104,54 @@ module _ (same : List ℕ) (t : Shares) (own : ℕ) where
 
     -- ---- the loop over z
 
-    module _ (s r : Share) (y zs z : ℕ) (w : Taking same t own s) (at : Yes (bit own y))
-        (p : Passed (Twin same x (shareAt t y) s) (bitAnd (row (t .differ) y) visits) zs) (some : zs ≢ 0) (low : Lowest zs z)
-        (e : WithGroup s (row (t .child) y) (row (t .parent) y) z (row same z) r) where
-      z-in : Yes (bit (row (t .differ) y) z)
-      z-in = in-both (row (t .differ) y) visits z (next-named _ _ zs z p some low) .0
+    -- what the loop over z knows: q is what x had when it began
+    abbrev pub Zs : ℕ → Share → Share → ℕ → Type 0
+    Zs y q s zs = Taking same t own s × Passed (Twin same x (shareAt t y) s) (bitAnd (row (t .differ) y) visits) zs × Grown q s
 
-      pub z-grown : Grown s r
-      z-grown = record {
-        child = λ j u. by j (e .child) (gained-up _ (s .child) _ .kept j u);
-        parent = λ j u. by j (e .parent) (gained-up _ (s .parent) _ .kept j u);
-        differ = λ j u. by j (e .differ) (or-l (s .differ) _ j u);
-        label = λ n. e .label;
-      }
-
-      pub z-taking : Taking same t own r
-      z-taking = record {
-        child = λ j u. ⊎-elim (w .child j) (λ v. (y, at, inr (z, v .0, v .1))) (gained-case _ (s .child) (row same z) j (of j (e .child) u));
-        parent = λ j u. ⊎-elim (w .parent j) (λ v. (y, at, inr (z, v .0, v .1))) (gained-case _ (s .parent) (row same z) j (of j (e .parent) u));
-        differ = λ j u. ⊎-elim (w .differ j) (λ v. (y, at, inr (z, z-in, v))) (or-case (s .differ) (row same z) j (of j (e .differ) u));
+    pub z-step : (q s r : Share) (y zs z : ℕ) (c p : Bool) → Zs y q s zs → Yes (bit own y) → zs ≢ 0 → Lowest zs z → bit (row same z) x ≡ false
+        → c ≡ bit (row (t .child) y) z → p ≡ bit (row (t .parent) y) z → WithGroup s c p (row same z) r → Zs y q r (without zs (2 ^ z))
+    z-step q s r y zs z c p (w, passed, g) at some low n ec ep e = (
+      record {
+        child = λ j u. ⊎-elim (w .child j) (λ v. (y, at, inr (z, sym ec ∙ v .0, v .1))) (gained-case c (s .child) (row same z) j (of j (e .child) u));
+        parent = λ j u. ⊎-elim (w .parent j) (λ v. (y, at, inr (z, sym ep ∙ v .0, v .1))) (gained-case p (s .parent) (row same z) j (of j (e .parent) u));
+        differ = λ j u. ⊎-elim (w .differ j) (λ v. (y, at, inr (z, in-both (row (t .differ) y) visits z (next-named _ _ zs z passed some low) .0, v))) (or-case (s .differ) (row same z) j (of j (e .differ) u));
         label = λ n. let q = w .label (λ k. n (e .label ∙ k)) in (q .0, q .1, q .2 ∙ sym (e .label));
-      }
-
-      pub z-passed : bit (row same z) x ≡ false → Passed (Twin same x (shareAt t y) r) (bitAnd (row (t .differ) y) visits) (without zs (2 ^ z))
-      z-passed n = passed-more _ _ zs z p some low _ (λ i. twin-up z-grown) record {
+      },
+      passed-more _ _ zs z passed some low _ (λ i. twin-up up) record {
         apart = λ u. false≢true (sym n ∙ u);
-        child = λ u j v. by j (e .child) (gained-has _ (s .child) (row same z) j u v);
-        parent = λ u j v. by j (e .parent) (gained-has _ (s .parent) (row same z) j u v);
+        child = λ u j v. by j (e .child) (gained-has c (s .child) (row same z) j (ec ∙ u) v);
+        parent = λ u j v. by j (e .parent) (gained-has p (s .parent) (row same z) j (ep ∙ u) v);
         differ = λ j v. by j (e .differ) (or-r (s .differ) (row same z) j v);
-      }
+      },
+      grown-trans g up,
+    )
+      where
+        up : Grown s r
+        up = record {
+          child = λ j u. by j (e .child) (gained-up c (s .child) (row same z) .kept j u);
+          parent = λ j u. by j (e .parent) (gained-up p (s .parent) (row same z) .kept j u);
+          differ = λ j u. by j (e .differ) (or-l (s .differ) (row same z) j u);
+          label = λ n. e .label;
+        }
 
     -- ---- the loop over y
 
-    pub y-passed : (s q r : Share) (ys y : ℕ) → Passed (Taken same t x visits s) own ys → ys ≢ 0 → Lowest ys y → clashing (s .label) (row (t .label) y) ≡ false
-        → WithRows s (row (t .child) y) (row (t .parent) y) (row (t .differ) y) (row (t .label) y) q
-        → (zs : ℕ) → zs ≡ 0 → Passed (Twin same x (shareAt t y) r) (bitAnd (row (t .differ) y) visits) zs → Grown q r
-        → Passed (Taken same t x visits r) own (without ys (2 ^ y))
-    y-passed s q r ys y w some low nc e zs none p g = passed-more _ _ ys y w some low _ (λ i. taken-up (grown-trans (rows-grown e) g)) record {
-      child = λ j u. g .child j (by j (e .child) (or-r (s .child) _ j u));
-      parent = λ j u. g .parent j (by j (e .parent) (or-r (s .parent) _ j u));
-      differ = λ j u. g .differ j (by j (e .differ) (or-r (s .differ) _ j u));
-      label = λ z. let n = named z (ℕ-discrete (s .label) 0) in g .label (λ k. z (sym n ∙ k)) ∙ n;
-      twins = λ z u v. passed-all _ _ zs p none z (both-in (row (t .differ) y) visits z u v);
-    }
+    abbrev pub Ys : Share → ℕ → Type 0
+    Ys s ys = Taking same t own s × Passed (Taken same t x visits s) own ys
+
+    pub y-step : (s q r : Share) (ys y zs : ℕ) → Ys s ys → ys ≢ 0 → Lowest ys y → Clashing (s .label) (row (t .label) y) false
+        → WithRows s (row (t .child) y) (row (t .parent) y) (row (t .differ) y) (row (t .label) y) q → zs ≡ 0 → Zs y q r zs → Ys r (without ys (2 ^ y))
+    y-step s q r ys y zs (_, w) some low nc e none (taking, p, g) = (
+      taking,
+      passed-more _ _ ys y w some low _ (λ i. taken-up (grown-trans (rows-grown e) g)) record {
+        child = λ j u. g .child j (by j (e .child) (or-r (s .child) _ j u));
+        parent = λ j u. g .parent j (by j (e .parent) (or-r (s .parent) _ j u));
+        differ = λ j u. g .differ j (by j (e .differ) (or-r (s .differ) _ j u));
+        label = λ z. let n = named z (ℕ-discrete (s .label) 0) in g .label (λ k. z (sym n ∙ k)) ∙ n;
+        twins = λ z u v. passed-all _ _ zs p none z (both-in (row (t .differ) y) visits z u v);
+      },
+    )
       where
         named : row (t .label) y ≢ 0 → Dec (s .label ≡ 0) → q .label ≡ row (t .label) y
         named z (yes n) = e .label ∙ pick-yes _ _ (eq-yes n)
-        named z (no n) = rows-grown e .label n ∙ no-clashing (s .label) (row (t .label) y) nc n z
+        named z (no n) = rows-grown e .label n ∙ nc .free refl n z

@@ -4,9 +4,8 @@ use mathlib.Core.Path.{_≡_}
 use mathlib.Core.Logic.{_≢_, _⊎_}
 use mathlib.Core.List.{List}
 use Prim.Native.Nat.{ℕ, _-_, _^_, _<_, _≤_}
-use lib.Dec.{eqb}
 use lib.Bits.{bitOr}
-use Rattle.meaning.specs.Finite.{Yes, _and_, neg}
+use Rattle.meaning.specs.Finite.{Yes}
 use Rattle.meaning.specs.Constraint.{Fact, child, below, root}
 use Rattle.meaning.specs.Settled.{Settled}
 use Rattle.rowbits.specs.Bit.{bit}
@@ -19,9 +18,10 @@ use Rattle.settle.specs.declared.Joined.{Joined}
 unfoldable pub firstRow : ℕ → ℕ → ℕ → ℕ → ℕ → ℕ
 firstRow b c roots x n = gained (bit roots x) (bitOr (bitOr b c) (2 ^ x)) (2 ^ n - 1)
 
--- two labels on one variable
-unfoldable pub clashing : ℕ → ℕ → Bool
-clashing l m = neg (eqb l 0) and neg (eqb m 0) and neg (eqb l m)
+-- whether two labels, 0 for none, clash
+pub record Clashing (l m : ℕ) (r : Bool) : Type 0 where
+  pub clash : r ≡ true → (l ≢ 0) × (m ≢ 0) × (l ≢ m)
+  pub free : r ≡ false → l ≢ 0 → m ≢ 0 → l ≡ m
 
 -- r has every variable that is in the row of another one
 pub record Grouped (same : List ℕ) (r : ℕ) : Type 0 where

@@ -1,7 +1,7 @@
 -- What the loops of a pass give each variable: all that its group has, with the groups of what the group has.
 use mathlib.Core.Path.{_≡_}
 use mathlib.Core.Logic.{_≢_, _⊎_}
-use mathlib.Core.Bool.{true, false}
+use mathlib.Core.Bool.{Bool, true, false}
 use mathlib.Core.List.{List}
 use Prim.Native.Nat.{ℕ, _^_, _<_, _≤_}
 use lib.Dec.{eqb}
@@ -14,21 +14,15 @@ use Rattle.settle.specs.declared.Share.{Share}
 use Rattle.settle.specs.declared.Shares.{Shares}
 use Rattle.settle.specs.declared.Shared.{Shared}
 
-pub record NoShare (r : Share) : Type 0 where
-  pub child : r .child ≡ 0
-  pub parent : r .parent ≡ 0
-  pub differ : r .differ ≡ 0
-  pub label : r .label ≡ 0
-
 pub record WithRows (s : Share) (c p d l : ℕ) (r : Share) : Type 0 where
   pub child : r .child ≡ bitOr (s .child) c
   pub parent : r .parent ≡ bitOr (s .parent) p
   pub differ : r .differ ≡ bitOr (s .differ) d
   pub label : r .label ≡ pick (eqb (s .label) 0) l (s .label)
 
-pub record WithGroup (s : Share) (c p z group : ℕ) (r : Share) : Type 0 where
-  pub child : r .child ≡ gained (bit c z) (s .child) group
-  pub parent : r .parent ≡ gained (bit p z) (s .parent) group
+pub record WithGroup (s : Share) (c p : Bool) (group : ℕ) (r : Share) : Type 0 where
+  pub child : r .child ≡ gained c (s .child) group
+  pub parent : r .parent ≡ gained p (s .parent) group
   pub differ : r .differ ≡ bitOr (s .differ) group
   pub label : r .label ≡ s .label
 

@@ -6,8 +6,8 @@ ghost use Rattle.tables.specs.Tables.{Seeded};
 ghost use Prim.Native.Nat.{_<_, _≤_};
 ghost use Rattle.meaning.specs.Finite.{pick};
 ghost use lib.Dec.{eqb};
-ghost use Rattle.settle.specs.Rows.{firstRow, clashing, Grouped, Chained, GroupsOf, WholeGroups, JoinedOf};
-ghost use Rattle.settle.specs.Shares.{NoShare, WithRows, WithGroup, SharedOf};
+ghost use Rattle.settle.specs.Rows.{firstRow, Clashing, Grouped, Chained, GroupsOf, WholeGroups, JoinedOf};
+ghost use Rattle.settle.specs.Shares.{WithRows, WithGroup, SharedOf};
 ghost use Rattle.settle.specs.Steps.{SteppedOf, PassRules};
 ghost use Rattle.settle.specs.Settling.{SettledOf};
 use tables::Facts;
@@ -25,7 +25,7 @@ fn first_row(below: u16, child: u16, root: u16, x: usize, n: usize) -> u16
 }
 
 fn clashes(l: u8, m: u8) -> bool
-    ensures { λ r. ⌜ r ≡ clashing l m ⌝ }
+    ensures { λ r. ⌜ Clashing l m r ⌝ }
 {
     (l != 0) & (m != 0) & (l != m)
 }
@@ -110,17 +110,6 @@ struct Share {
     label: u8,
 }
 
-fn no_share() -> Share
-    ensures { λ r. ⌜ NoShare r ⌝ }
-{
-    Share {
-        child: 0,
-        parent: 0,
-        differ: 0,
-        label: 0,
-    }
-}
-
 fn with_rows(s: Share, child: u16, parent: u16, differ: u16, label: u8) -> Share
     ensures { λ r. ⌜ WithRows s child parent differ label r ⌝ }
 {
@@ -132,14 +121,13 @@ fn with_rows(s: Share, child: u16, parent: u16, differ: u16, label: u8) -> Share
     }
 }
 
-// With the group of z, which differs, and may be a child or a parent.
-fn with_group(s: Share, child: u16, parent: u16, z: usize, group: u16) -> Share
-    requires { ⌜ z < 16 ⌝ }
-    ensures { λ r. ⌜ WithGroup s child parent z group r ⌝ }
+// With a group that differs, and may be of children or of parents.
+fn with_group(s: Share, child: bool, parent: bool, group: u16) -> Share
+    ensures { λ r. ⌜ WithGroup s child parent group r ⌝ }
 {
     Share {
-        child: tables::gain(rowbits::has(child, z), s.child, group),
-        parent: tables::gain(rowbits::has(parent, z), s.parent, group),
+        child: tables::gain(child, s.child, group),
+        parent: tables::gain(parent, s.parent, group),
         differ: s.differ | group,
         label: s.label,
     }
@@ -168,7 +156,12 @@ fn share_rows(t: Shares, same: [u16; 16], several: u16, n: usize) -> Shared
     let mut clash = false;
     'pass: for x in 0..n {
         let visits = several | tables::one(x);
-        let mut s = no_share();
+        let mut s = Share {
+            child: 0,
+            parent: 0,
+            differ: 0,
+            label: 0,
+        };
         let mut ys = same[x];
         while ys != 0 {
             let y = tables::lowest(ys);
@@ -189,7 +182,7 @@ fn share_rows(t: Shares, same: [u16; 16], several: u16, n: usize) -> Shared
                     clash = true;
                     break 'pass;
                 }
-                s = with_group(s, cy, py, z, group);
+                s = with_group(s, rowbits::has(cy, z), rowbits::has(py, z), group);
                 zs = tables::rest(zs);
             }
             ys = tables::rest(ys);
@@ -207,32 +200,29 @@ struct Joined {
     below: [u16; 16],
 }
 
-// The rows of below with what becomes the same: a leaf and all below it, and the parents of a child. `parents` is as it came into the pass.
+// The rows of below with what becomes the same: a leaf and all below it, and the parents of a child.
 fn join_rows(
     below: [u16; 16],
     above: [u16; 16],
     leaf: u16,
     child: [u16; 16],
-    parents: [u16; 16],
+    parent: [u16; 16],
     n: usize,
 ) -> Joined
     requires { ⌜ n ≤ 16 ⌝ }
-    ensures { λ r. ⌜ JoinedOf n below above leaf child parents r ⌝ }
+    ensures { λ r. ⌜ JoinedOf n below above leaf child parent r ⌝ }
 {
     let mut a = below;
-    let mut more: u16 = 0;
+    let mut more = false;
     for x in 0..n {
         let old = a[x];
         let up = above[x];
         let c = child[x];
-        let new = old | (up & leaf) | tables::union_rows(parents, c);
-        more = more | (old ^ new);
+        let new = old | (up & leaf) | tables::union_rows(parent, c);
+        more = more | (old != new);
         a[x] = new;
     }
-    Joined {
-        more: more != 0,
-        below: a,
-    }
+    Joined { more, below: a }
 }
 
 // What a step of settling answers: a clash, or tables, and whether another round may find more.
@@ -261,6 +251,8 @@ fn pass(f: Facts, n: usize) -> Stepped
         label: labels,
     };
     let same = groups.same;
+    let root = whole_groups(same, f.root);
+    let leaf = whole_groups(same, f.leaf);
     let shared = share_rows(given, same, groups.several, n);
     if shared.clash {
         return Stepped {
@@ -275,7 +267,7 @@ fn pass(f: Facts, n: usize) -> Stepped
     let parent = shared.shares.parent;
     let differ = shared.shares.differ;
     let label = shared.shares.label;
-    let joined = join_rows(chained, above, f.leaf, child, parents, n);
+    let joined = join_rows(chained, above, f.leaf, child, parent, n);
     let below = joined.below;
     Stepped {
         clash: false,
@@ -286,9 +278,9 @@ fn pass(f: Facts, n: usize) -> Stepped
             below,
             above,
             differ,
-            root: whole_groups(same, f.root),
+            root,
             label,
-            leaf: whole_groups(same, f.leaf),
+            leaf,
         },
     }
 }

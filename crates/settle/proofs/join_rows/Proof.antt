@@ -2,15 +2,15 @@
 use Prim.Native.Nat.{_≤_, _-_}
 use native.Mathlib.Numerals.{add-one-le}
 use borrow.Author.Needs.{needs}
-use Rattle.settle.proofs.Passing.{Joining, joining-none, joining-more, joined-rows}
+use Rattle.settle.proofs.Passing.{Joining, joining-none, joining-more, joining-all}
 use Rattle.settle.proofs.join_rows.Statement.{statement}
 use Rattle.settle.proofs.join_rows.Tie as tie
 
 abbrev Inv-loop : tie.InvT-loop
-Inv-loop leaf parents n above child a₀ more₀ x₀ a more x = (x ≤ n) × Joining a₀ above leaf child parents x a more
+Inv-loop leaf parent n above child a₀ more₀ x₀ a more x = (x ≤ n) × Joining a₀ above leaf child parent x a more
 
 abbrev μ-loop : tie.MeasureT-loop
-μ-loop leaf parents n above child a₀ more₀ x₀ a more x = n - x
+μ-loop leaf parent n above child a₀ more₀ x₀ a more x = n - x
 
 loop-holds : tie.Need-loop-holds Inv-loop μ-loop
 loop-holds c = (search needs, joining-none _ _ _ _ _ (search needs))
@@ -52,7 +52,7 @@ loop-again : tie.Need-loop-again Inv-loop μ-loop
 loop-again c = (add-one-le (c .before .loop-test .taken), joining-more _ _ _ _ _ _ _ _ _ (search needs) (c .before .before .loop .inv .1) (c .union-rows .ensures))
 
 returns : tie.Need-returns Inv-loop μ-loop
-returns c = joined-rows _ _ _ _ _ _ _ _ _ (c .before .loop .inv .0) (c .loop-test .left) (c .before .loop .inv .1)
+returns c = let i = c .before .loop .inv in joining-all _ _ _ _ _ (i .0) (c .loop-test .left) (i .1)
 
 pub join-rows-spec : {M : Type 1} → statement M
 join-rows-spec =

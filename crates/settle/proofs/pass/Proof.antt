@@ -1,5 +1,4 @@
 -- `settle::pass` meets its contract: what it calls gives the tables of which `Final` speaks.
-use Prim.Native.Nat.{ℕ}
 use lib.ListN.{getD}
 use mir.Val.{Fits}
 use mir.Syntax.{w16}
@@ -20,36 +19,37 @@ started c =
 find-groups-requires : tie.Need-find-groups-requires
 find-groups-requires c κs = search needs
 
-share-rows-requires : tie.Need-share-rows-requires
-share-rows-requires c κs = search needs
-
-returns : tie.Need-returns
-returns c = let s = c .before in ended-clash (started (s .before .before)) (s .share-rows .ensures) _ _ (c .if1 .taken)
-
-join-rows-requires : tie.Need-join-rows-requires
-join-rows-requires c κs = search needs
-
 whole-groups-requires : tie.Need-whole-groups-requires
 whole-groups-requires c κs = search needs
 
 whole-groups-requires-2 : tie.Need-whole-groups-requires-2
 whole-groups-requires-2 c κs = search needs
 
+share-rows-requires : tie.Need-share-rows-requires
+share-rows-requires c κs = search needs
+
+returns : tie.Need-returns
+returns c = let s = c .before in ended-clash (started (s .before .before .before .before)) (s .share-rows .ensures) _ _ (c .if1 .taken)
+
+join-rows-requires : tie.Need-join-rows-requires
+join-rows-requires c κs = search needs
+
 returns-2 : tie.Need-returns-2
 returns-2 c =
-    let j = c .before .before .before in
+    let j = c .before in
     let e = j .before .before .before .before .before .before .before in
     let s = e .before in
-    ended-well (started (s .before .before)) (s .share-rows .ensures) (e .if1 .left) (j .join-rows .ensures) (c .before .whole-groups .ensures) (c .whole-groups2 .ensures)
+    let l = s .before in
+    ended-well (started (l .before .before .before)) (s .share-rows .ensures) (e .if1 .left) (j .join-rows .ensures) (l .before .whole-groups .ensures) (l .whole-groups2 .ensures)
 
 pub pass-spec : {M : Type 1} → statement M
 pass-spec =
     tie.close
     (tie.spec
     find-groups-requires
+    whole-groups-requires
+    whole-groups-requires-2
     share-rows-requires
     returns
     join-rows-requires
-    whole-groups-requires
-    whole-groups-requires-2
     returns-2)

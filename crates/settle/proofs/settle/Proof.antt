@@ -8,10 +8,10 @@ use lib.ListN.{getD}
 use mir.Val.{Fits}
 use mir.Syntax.{w16}
 use borrow.Author.Needs.{needs}
+use borrow.Author.Tests.{not-true, not-false}
 use Rattle.meaning.specs.Constraint.{Fact}
 use Rattle.tables.specs.Tables.{row, Seeded}
 use Rattle.settle.specs.Steps.{weight}
-use Rattle.settle.proofs.Helpers.{not-true, not-false}
 use Rattle.settle.proofs.Ending.{ready, grew, weight-most}
 use Rattle.settle.proofs.settle.Statement.{statement}
 use Rattle.settle.proofs.settle.Tie as tie
