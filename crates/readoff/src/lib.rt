@@ -11,14 +11,14 @@ ghost use Rattle.meaning.specs.Constraint.{Fact};
 ghost use Rattle.meaning.specs.Finite.{_and_, picked, position, tab};
 ghost use Rattle.rowbits.specs.Bit.{bit};
 ghost use Rattle.tables.specs.Rows.{without};
-ghost use Rattle.tables.specs.Tables.{row, has, Ready};
+ghost use Rattle.tables.specs.Tables.{row, has, showing, Ready};
+ghost use Rattle.tables.specs.declared.Facts.{Facts};
 ghost use Rattle.readoff.specs.Rows.{Gathered, overRow, isLow, inLayer, near};
 ghost use Rattle.readoff.specs.Numbering.{frontOf, numbered, inFront};
 ghost use Rattle.readoff.specs.Listing.{groups, Small, listed, Listed, Placed, Led, nodeNumbers, placeIn, parentIn, groupRecord};
 ghost use Rattle.readoff.specs.Written.{Recorded, Put, nodeRecord, placeRecord, FileWritten};
 use ids::Node;
 use ids::Var;
-use tables::Facts;
 
 // The groups in the order of their nodes, each by its lowest variable.
 struct Order {
@@ -283,14 +283,17 @@ fn put_places(answer: &mut [u8], first: usize, nodes: [Node; 16], n: usize)
     }
 }
 
-// The answer file of the tables at the front of the buffer, and how many bytes it has.
-pub fn read_off(f: Facts, n: usize, answer: &mut [u8]) -> usize
-    requires { ⌜ (n ≤ 16) × (132 ≤ length (now answer)) × ((S : List Fact) × Ready n S f) ⌝ }
-    ensures { λ r. ⌜ FileWritten n (has f) (now (answer .entry)) r (now (answer .exit)) ⌝ }
+// The answer file of settled tables at the front of the buffer, and how many bytes it has. Of the tables it wants these rows alone.
+pub fn read_off(
+    below: [u16; 16],
+    above: [u16; 16],
+    label: [u8; 16],
+    n: usize,
+    answer: &mut [u8],
+) -> usize
+    requires { ⌜ (n ≤ 16) × (132 ≤ length (now answer)) × ((S : List Fact) × (g : Facts) × Ready n S (showing below above label g)) ⌝ }
+    ensures { λ r. ⌜ ((g : Facts) → FileWritten n (has (showing below above label g)) (now (answer .entry)) r (now (answer .exit))) ⌝ }
 {
-    let below = f.below;
-    let above = f.above;
-    let label = f.label;
     let low = lows(below, above, n);
     let layer = layers(below, above, low, n);
     let order = in_order(layer, n);

@@ -1,6 +1,5 @@
 -- Reports: what each end of a line reports, and what a report tells of the search that it reports.
-use mathlib.Core.Path.{_≡_, refl, sym, _∙_}
-use mathlib.Core.Logic.{_≢_}
+use mathlib.Core.Path.{_≡_, refl, sym, ap}
 use mathlib.Core.List.{List}
 use Prim.Native.Nat.{ℕ, _+_, _≤_, _<_}
 use native.Mathlib.Decide.{decLe}
@@ -9,38 +8,33 @@ use Rattle.meaning.specs.Constraint.{Fact}
 use Rattle.meaning.specs.FixedSearch.{Outcome, in-none, in-tree}
 use Rattle.theory.specs.Search.{search}
 use Rattle.theory.proofs.Steps.{EndsAs}
-use Rattle.tables.specs.Tables.{Ready}
-use Rattle.search.specs.Searching.{Reports}
+use Rattle.search.specs.Searching.{withoutTree, TreeRows, Reports, Report}
+use Rattle.search.specs.declared.End.{End}
 use Rattle.search.specs.declared.End.the-variants.{Tree, None, Spent}
 use Rattle.search.specs.declared.Searched.{Searched}
 
 no-tree-none : {R : List Fact} → in-tree R ≡ in-none → ⊥
 no-tree-none e = let z : _≡_ {A = ℕ} 0 1 = cc in omega arith
 
-module _ (A n : ℕ) where
-  pub reports-none : (c : ℕ) (r : Searched) → c ≤ A → r .end ≡ None → r .count ≡ c → Reports A n in-none c r
-  reports-none c r l e k = record { spent = λ h. absurd (omega arith); none = λ h o. (e, k); tree = λ h o. absurd (no-tree-none (sym o)) }
+end-of : {r : Searched} {e : End} {c : ℕ} → r ≡ withoutTree e c → r .end ≡ e
+end-of d = ap (λ (z : Searched). z .end) d
 
-  pub reports-tree : (c : ℕ) (r : Searched) (R : List Fact) → c ≤ A → r .end ≡ Tree → r .count ≡ c → Ready n R (r .facts) → Reports A n (in-tree R) c r
+module _ (A n : ℕ) where
+  pub reports-none : (c : ℕ) (r : Searched) → c ≤ A → r ≡ withoutTree None c → Reports A n in-none c r
+  reports-none c r l e = record { spent = λ h. absurd (omega arith); none = λ h o. e; tree = λ h o. absurd (no-tree-none (sym o)) }
+
+  pub reports-tree : (c : ℕ) (r : Searched) (R : List Fact) → c ≤ A → r .end ≡ Tree → r .count ≡ c → TreeRows n R r → Reports A n (in-tree R) c r
   reports-tree c r R l e k g = record { spent = λ h. absurd (omega arith); none = λ h o. absurd (no-tree-none o); tree = λ h {R = Q} o. (e, k, same Q o g) }
     where
-      same : (Q : List Fact) → in-tree R ≡ in-tree Q → Ready n R (r .facts) → Ready n Q (r .facts)
+      same : (Q : List Fact) → in-tree R ≡ in-tree Q → TreeRows n R r → TreeRows n Q r
       same Q o g = let d : R ≡ Q = cc in rw d at g
 
-  pub reports-spent : (o : Outcome) (c : ℕ) (r : Searched) → A < c → r .end ≡ Spent → r .count ≡ A → Reports A n o c r
-  reports-spent o c r l e k = record { spent = λ h. (e, k); none = λ h q. absurd (omega arith); tree = λ h q. absurd (omega arith) }
+  pub reports-spent : (o : Outcome) (c : ℕ) (r : Searched) → A < c → r ≡ withoutTree Spent A → Reports A n o c r
+  reports-spent o c r l e = record { spent = λ h. e; none = λ h q. absurd (omega arith); tree = λ h q. absurd (omega arith) }
 
   -- the same report of the search of S
-  pub reports-search : (S : List Fact) {o : Outcome} {c : ℕ} → EndsAs n S o c → (k d : ℕ) (r : Searched) → k + c ≡ d → Reports A n o d r → Reports A n (search n S .outcome) (k + search n S .count) r
+  pub reports-search : (S : List Fact) {o : Outcome} {c : ℕ} → EndsAs n S o c → (k d : ℕ) (r : Searched) → k + c ≡ d → Reports A n o d r → Report A n k S r
   reports-search S w k d r e p = rw (w .outcome, w .count, e) p
-
-  -- where no tree is reported the tables do not matter
-  pub reports-other : (o : Outcome) (c : ℕ) (r z : Searched) → Reports A n o c r → z .end ≡ r .end → z .count ≡ r .count → r .end ≢ Tree → Reports A n o c z
-  reports-other o c r z p e k d = record {
-    spent = λ h. (e ∙ p .spent h .0, k ∙ p .spent h .1);
-    none = λ h q. (e ∙ p .none h q .0, k ∙ p .none h q .1);
-    tree = λ h q. absurd (d (p .tree h q .0));
-  }
 
   -- ---- what a report tells
 
@@ -59,16 +53,16 @@ module _ (A n : ℕ) where
     was-tree e = go (decLe c A) o refl
       where
         go : Dec (c ≤ A) → (q : Outcome) → o ≡ q → WasTree o c
-        go (no l) q d = let w = p .spent (omega arith) .0 in let z : _≡_ {A = ℕ} 0 1 = cc in absurd (omega arith)
-        go (yes l) in-none d = let w = p .none l d .0 in let z : _≡_ {A = ℕ} 0 1 = cc in absurd (omega arith)
+        go (no l) q d = let w = end-of (p .spent (omega arith)) in let z : _≡_ {A = ℕ} 0 1 = cc in absurd (omega arith)
+        go (yes l) in-none d = let w = end-of (p .none l d) in let z : _≡_ {A = ℕ} 0 1 = cc in absurd (omega arith)
         go (yes l) (in-tree R) d = record { tree = R; is = d; within = l }
 
     pub was-none : r .end ≡ None → WasNone o c r
     was-none e = go (decLe c A) o refl
       where
         go : Dec (c ≤ A) → (q : Outcome) → o ≡ q → WasNone o c r
-        go (no l) q d = let w = p .spent (omega arith) .0 in let z : _≡_ {A = ℕ} 0 1 = cc in absurd (omega arith)
-        go (yes l) in-none d = record { is = d; within = l; counted = p .none l d .1 }
+        go (no l) q d = let w = end-of (p .spent (omega arith)) in let z : _≡_ {A = ℕ} 0 1 = cc in absurd (omega arith)
+        go (yes l) in-none d = record { is = d; within = l; counted = ap (λ (z : Searched). z .count) (p .none l d) }
         go (yes l) (in-tree R) d = let w = p .tree l d .0 in let z : _≡_ {A = ℕ} 0 1 = cc in absurd (omega arith)
 
     pub was-spent : r .end ≡ Spent → A < c
@@ -76,11 +70,5 @@ module _ (A n : ℕ) where
       where
         go : Dec (c ≤ A) → (q : Outcome) → o ≡ q → A < c
         go (no l) q d = omega arith
-        go (yes l) in-none d = let w = p .none l d .0 in let z : _≡_ {A = ℕ} 0 1 = cc in absurd (omega arith)
+        go (yes l) in-none d = let w = end-of (p .none l d) in let z : _≡_ {A = ℕ} 0 1 = cc in absurd (omega arith)
         go (yes l) (in-tree R) d = let w = p .tree l d .0 in let z : _≡_ {A = ℕ} 0 1 = cc in absurd (omega arith)
-
-pub none-not-tree : None ≢ Tree
-none-not-tree e = let z : _≡_ {A = ℕ} 0 1 = cc in omega arith
-
-pub spent-not-tree : Spent ≢ Tree
-spent-not-tree e = let z : _≡_ {A = ℕ} 0 1 = cc in omega arith

@@ -1,25 +1,24 @@
 -- What a line of the search starts from, and what it reports of the fixed search.
 use mathlib.Core.Path.{_≡_}
-use mathlib.Core.Logic.{_≢_}
 use mathlib.Core.Bool.{true, false}
 use mathlib.Core.List.{List, _∷_, _++_, List·Memᴰ}
 use mathlib.Core.Option.{none, some}
 use Prim.Native.Nat.{ℕ, _+_, _≤_, _<_}
+use lib.ListN.{replicate}
 use Rattle.meaning.specs.Constraint.{Fact, below}
 use Rattle.meaning.specs.Settled.{Clash}
 use Rattle.meaning.specs.FixedSearch.{Join, first-alternative, second-alternative, Outcome, in-none, in-tree}
-use Rattle.meaning.specs.Finite.{neg, sum, one}
 use Rattle.meaning.specs.Closed.{Inside}
 use Rattle.theory.specs.Search.{firstJoin, search}
-use Rattle.tables.specs.Tables.{has, Ready}
+use Rattle.tables.specs.Tables.{has, showing, Ready}
 use Rattle.tables.specs.declared.Facts.{Facts}
 use Rattle.tables.specs.declared.Settled.{Settled}
 use Rattle.search.specs.declared.Below.{Below}
 use Rattle.search.specs.declared.Step.{Step}
 use Rattle.search.specs.declared.Step.the-variants.{Solved, Split}
+use Rattle.search.specs.declared.End.{End}
 use Rattle.search.specs.declared.End.the-variants.{Tree, None, Spent}
 use Rattle.search.specs.declared.Searched.{Searched}
-use Rattle.search.specs.declared.Ended.{Ended}
 
 -- ---- one step
 
@@ -58,25 +57,26 @@ pub record Line (n : ℕ) (S : List Fact) (s : Settled) : Type 0 where
   pub clashes : s .clash ≡ true → Clash n S
   pub ready : s .clash ≡ false → Ready n S (s .facts)
 
--- how many pairs of variables are not in below: it falls with every alternative
-unfoldable pub missing : ℕ → Facts → ℕ
-missing n f = sum n (λ x. sum n (λ y. one (neg (has f (below x y)))))
+-- an end without a tree: blank rows
+abbrev pub withoutTree : End → ℕ → Searched
+withoutTree e c = record { end = e; count = c; below = replicate 16 0; above = replicate 16 0; label = replicate 16 0 }
+
+-- the rows that r shows are those of tables that decide the settled set of R
+abbrev pub TreeRows : ℕ → List Fact → Searched → Type 0
+TreeRows n R r = (g : Facts) × Ready n R (showing (r .below) (r .above) (r .label) g)
 
 -- r reports a search that ends in o after entering c alternatives in all
 pub record Reports (A n : ℕ) (o : Outcome) (c : ℕ) (r : Searched) : Type 0 where
-  pub spent : A < c → (r .end ≡ Spent) × (r .count ≡ A)
-  pub none : c ≤ A → o ≡ in-none → (r .end ≡ None) × (r .count ≡ c)
-  pub tree : c ≤ A → {R : List Fact} → o ≡ in-tree R → (r .end ≡ Tree) × (r .count ≡ c) × Ready n R (r .facts)
+  pub spent : A < c → r ≡ withoutTree Spent A
+  pub none : c ≤ A → o ≡ in-none → r ≡ withoutTree None c
+  pub tree : c ≤ A → {R : List Fact} → o ≡ in-tree R → (r .end ≡ Tree) × (r .count ≡ c) × TreeRows n R r
 
--- what a line reports by its result and by the tables that it was lent
-abbrev pub reported : Ended → Facts → Searched
-reported r g = record { end = r .end; count = r .count; facts = g }
+-- the report of a search of S, with k alternatives entered before
+abbrev pub Report : ℕ → ℕ → ℕ → List Fact → Searched → Type 0
+Report A n k S r = Reports A n (search n S .outcome) (k + search n S .count) r
 
--- with c alternatives entered before
 abbrev pub LineOf : ℕ → ℕ → Facts → ℕ → Searched → Type 0
-LineOf A n f c r = (S : List Fact) → Ready n S f → Reports A n (search n S .outcome) (c + search n S .count) r
+LineOf A n f k r = (S : List Fact) → Ready n S f → Report A n k S r
 
-pub record SearchedOf (A n : ℕ) (s : Settled) (r : Searched) : Type 0 where
-  pub reports : (S : List Fact) → Line n S s → Reports A n (search n S .outcome) (search n S .count) r
-  -- the tables come back as they went in, unless they are those of a tree
-  pub kept : r .end ≢ Tree → r .facts ≡ s .facts
+abbrev pub SearchedOf : ℕ → ℕ → Settled → ℕ → Searched → Type 0
+SearchedOf A n s k r = (S : List Fact) → Line n S s → Report A n k S r

@@ -3,8 +3,7 @@ use mathlib.Core.Path.{_≡_, refl, sym, ap, _∙_, subst}
 use mathlib.Core.Logic.{_↔_, _⊎_, inl, inr, ⊎-elim}
 use mathlib.Core.Bool.{Bool}
 use mathlib.Core.List.{List, [], List·Memᴰ, List·Memᴰ·not-nil}
-use Prim.Native.Nat.{ℕ, _+_, _*_, _<_}
-use native.Mathlib.Nat.{le-refl}
+use Prim.Native.Nat.{ℕ, _+_, _*_, _<_, _≤_}
 use native.Mathlib.Decide.{decLt}
 use native.Mathlib.Omega.{arith}
 use lib.Bits.{bitOr}
@@ -196,7 +195,7 @@ module _ (cs : List Constraint) (i : ℕ) (over : drop i cs ≡ []) (small : (c 
       holds (leaf x) m = m
       holds (label x l) m = m
 
-      settled : (φ : Fact) → Sown (factsOf cs) φ → Settled (vars cs) (factsOf cs) φ
+      settled : {n : ℕ} (φ : Fact) → Sown (factsOf cs) φ → Settled n (factsOf cs) φ
       settled (child x y) m = given m
       settled (below x y) m = given m
       settled (differ x y) m = ⊎-elim (⊎-elim given (λ k. child-differ (given k))) (⊎-elim (λ k. differ-back (given k)) (λ k. differ-back (child-differ (given k)))) m
@@ -204,10 +203,10 @@ module _ (cs : List Constraint) (i : ℕ) (over : drop i cs ≡ []) (small : (c 
       settled (leaf x) m = given m
       settled (label x l) m = given m
 
-      pub seeded : Seeded (vars cs) (factsOf cs) f
+      pub seeded : (n : ℕ) → vars cs ≤ n → Seeded n (factsOf cs) f
       unfolding has
-      seeded = record {
-        inside = facts-inside (vars cs) cs (le-refl _);
+      seeded n l = record {
+        inside = facts-inside n cs l;
         held = λ φ m. exact φ .1 (holds φ m);
         sound = λ φ u. settled φ (exact φ .0 u);
         child-differ = λ x y u. exact (differ x y) .1 (inl (inr (exact (child x y) .0 u)));

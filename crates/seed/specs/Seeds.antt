@@ -88,4 +88,4 @@ pub record SeedsOf (file : List ℕ) (r : Seeds) : Type 0 where
   -- else the tables hold what is sown and no other fact; that `parent` is the columns of `child` is in seeded
   pub exact : r .clash ≡ false → (φ : Fact) → Yes (has (r .facts) φ) ↔ Sown (factsOf (constraintsIn file)) φ
   pub unmirrored : r .clash ≡ false → r .facts .above ≡ replicate 16 0
-  pub seeded : r .clash ≡ false → Seeded (vars (constraintsIn file)) (factsOf (constraintsIn file)) (r .facts)
+  pub seeded : r .clash ≡ false → (n : ℕ) → vars (constraintsIn file) ≤ n → Seeded n (factsOf (constraintsIn file)) (r .facts)

@@ -4,12 +4,12 @@ ghost use Prim.Native.Nat.{_≤_};
 ghost use lib.ListN.{length};
 ghost use Rattle.meaning.specs.Constraint.{factsOf};
 ghost use Rattle.theory.specs.Solve.{solve};
-ghost use Rattle.constraints.specs.Judgement.{judgement, constraintsIn};
-ghost use Rattle.constraints.specs.declared.Judgement.the-variants.{Accepted};
-ghost use Rattle.search.specs.Searching.{Line};
-ghost use Rattle.solver.specs.Solving.{SolverOf, AnswerOf};
+ghost use Rattle.constraints.specs.Judgement.{constraintsIn};
+ghost use Rattle.search.specs.Searching.{Line, Report};
+ghost use Rattle.solver.specs.Solving.{Covers, decidedAs, SolverOf, AnswerOf};
 use constraints::Judgement;
 use search::End;
+use search::Searched;
 use tables::Settled;
 
 pub enum Verdict {
@@ -21,9 +21,15 @@ pub enum Verdict {
     Refused(u8),
 }
 
+// The verdict and the count alone.
+pub struct Decided {
+    pub end: End,
+    pub count: u32,
+}
+
 // The line that the search starts from: the settled set of the given facts.
 fn first_line(constraints: &[u8], n: usize) -> Settled
-    requires { ⌜ judgement (now constraints) ≡ Accepted n ⌝ }
+    requires { ⌜ Covers n (now constraints) ⌝ }
     ensures { λ r. ⌜ Line n (factsOf (constraintsIn (now (constraints .entry)))) r ⌝ }
 {
     let seeds = seed::seed(constraints);
@@ -34,18 +40,42 @@ fn first_line(constraints: &[u8], n: usize) -> Settled
     settle::settle(facts, n)
 }
 
-fn solve_accepted(constraints: &[u8], n: usize, answer: &mut [u8], allowance: u32) -> Verdict
-    requires { ⌜ (judgement (now constraints) ≡ Accepted n) × (132 ≤ length (now answer)) ⌝ }
-    ensures { λ r. ⌜ AnswerOf (solve allowance n (constraintsIn (now (constraints .entry)))) r (now (answer .entry)) (now (answer .exit)) ⌝ }
+fn search_over(constraints: &[u8], n: usize, allowance: u32) -> Searched
+    requires { ⌜ Covers n (now constraints) ⌝ }
+    ensures { λ r. ⌜ Report allowance n 0 (factsOf (constraintsIn (now (constraints .entry)))) r ⌝ }
 {
     let first = first_line(constraints, n);
-    let found = search::search(first, n, allowance);
+    search::search(first, n, allowance, 0)
+}
+
+// Decides the records of an accepted file over n variables, as many as they name or more.
+pub fn decide(constraints: &[u8], n: usize, allowance: u32) -> Decided
+    requires { ⌜ Covers n (now constraints) ⌝ }
+    ensures { λ r. ⌜ r ≡ decidedAs (solve allowance n (constraintsIn (now (constraints .entry)))) ⌝ }
+{
+    let found = search_over(constraints, n, allowance);
+    let end = found.end;
+    Decided {
+        end,
+        count: found.count,
+    }
+}
+
+// Decides them, and writes a tree into the buffer.
+pub fn solve_over(constraints: &[u8], n: usize, answer: &mut [u8], allowance: u32) -> Verdict
+    requires { ⌜ Covers n (now constraints) × (132 ≤ length (now answer)) ⌝ }
+    ensures { λ r. ⌜ AnswerOf (solve allowance n (constraintsIn (now (constraints .entry)))) r (now (answer .entry)) (now (answer .exit)) ⌝ }
+{
+    let found = search_over(constraints, n, allowance);
     let end = found.end;
     match end {
         End::None => Verdict::None { count: found.count },
         End::Spent => Verdict::Spent { count: found.count },
         End::Tree => {
-            let bytes = readoff::read_off(found.facts, n, answer);
+            let below = found.below;
+            let above = found.above;
+            let label = found.label;
+            let bytes = readoff::read_off(below, above, label, n, answer);
             Verdict::Tree {
                 bytes,
                 count: found.count,
@@ -65,7 +95,7 @@ pub fn solve(constraints: &[u8], answer: &mut [u8], allowance: u32) -> Verdict
             if answer.len() < 132 {
                 return Verdict::Refused(7);
             }
-            solve_accepted(constraints, n, answer, allowance)
+            solve_over(constraints, n, answer, allowance)
         }
     }
 }

@@ -25,6 +25,10 @@ has f (root x) = bit (f .root) x
 has f (leaf x) = bit (f .leaf) x
 has f (label x l) = eqb (row (f .label) x) l and neg (eqb l 0)
 
+-- tables with the rows that a tree is read off from in place of their own
+abbrev pub showing : (below above label : List ℕ) → Facts → Facts
+showing b a l f = record { child = f .child; parent = f .parent; below = b; above = a; differ = f .differ; root = f .root; label = l; leaf = f .leaf }
+
 -- t's columns are the rows of r
 abbrev pub Columns : List ℕ → List ℕ → Type 0
 Columns t r = (x y : ℕ) → x < 16 → y < 16 → bit (row r y) x ≡ bit (row t x) y

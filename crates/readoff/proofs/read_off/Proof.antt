@@ -5,7 +5,8 @@ use lib.ListN.{length, getD}
 use mir.Syntax.{w8}
 use mir.Val.{Fits}
 use borrow.Author.Needs.{needs}
-use Rattle.tables.specs.Tables.{row}
+use Rattle.tables.specs.Tables.{row, showing}
+use Rattle.tables.specs.declared.Facts.{Facts}
 use Rattle.readoff.specs.Numbering.{numbered, inFront}
 use Rattle.readoff.proofs.Layered.{Layered}
 use Rattle.readoff.proofs.Listing.{length-mapped}
@@ -13,19 +14,26 @@ use Rattle.readoff.proofs.Answer.{Ordered, room-for, groups-led, few-re
 use Rattle.readoff.proofs.read_off.Statement.{statement}
 use Rattle.readoff.proofs.read_off.Tie as tie
 
-label-bytes : (c : tie.Start) (g : ℕ) → row (c .args .f .label) g < 256
-label-bytes c g = let e : Fits w8 (getD (c .args .f .label) g 0) = search needs in e .fits
+label-bytes : (c : tie.Start) (g : ℕ) → row (c .args .label) g < 256
+label-bytes c g = let e : Fits w8 (getD (c .args .label) g 0) = search needs in e .fits
 
-layered : (c : tie.After-layers) → let s = c .before .before .before .before .before .before in Layered (s .args .f .below) (s .args .f .above) (s .args .n) (c .before .lows .result) (s .args .n) (c .layers .result)
+-- tables with the rows, whatever the others are; and those that are ready
+abbrev tables : tie.Start → Facts → Facts
+tables s g = showing (s .args .below) (s .args .above) (s .args .label) g
+
+abbrev ready : tie.Start → Facts
+ready s = tables s (s .pre .2 .1)
+
+layered : (c : tie.After-layers) → let s = c .before .before .before in Layered (s .args .below) (s .args .above) (s .args .n) (c .before .lows .result) (s .args .n) (c .layers .result)
 unfolding Layered
 layered c = c .layers .ensures
 
-ordered : (c : tie.After-in-order) → let s = c .before .before .before .before .before .before .before in Ordered (s .args .f) (s .args .n) (c .before .before .lows .result) (c .before .layers .result) (c .in-order .result)
-ordered c =
-    let s = c .before .before .before .before .before .before .before in
+ordered : (c : tie.After-in-order) (g : Facts) → let s = c .before .before .before .before in Ordered (tables s g) (s .args .n) (c .before .before .lows .result) (c .before .layers .result) (c .in-order .result)
+ordered c g =
+    let s = c .before .before .before .before in
     record {
       few = s .pre .0;
-      columns = s .pre .2 .1 .mirrored .ancestors;
+      columns = s .pre .2 .2 .mirrored .ancestors;
       low = c .before .before .lows .ensures;
       layered = layered (c .before);
       these = c .in-order .ensures;
@@ -35,10 +43,10 @@ ordered c =
 -- the bounds that the writers need
 module _ (c : tie.After-front-of) where
   abbrev s : tie.Start
-  s = c .before .before .before .before .before .before .before .before
+  s = c .before .before .before .before .before
 
   few : (numbered (c .front-of .result) (c .before .in-order .result .len) + s .args .n ≤ 33) × (length (inFront (c .front-of .result)) ≤ 33)
-  few = few-records (s .args .f) (s .args .n) (c .before .before .before .lows .result) (c .before .before .layers .result) (c .before .in-order .result) (ordered (c .before)) (c .front-of .result) (c .front-of .ensures)
+  few = few-records (ready s) (s .args .n) (c .before .before .before .lows .result) (c .before .before .layers .result) (c .before .in-order .result) (ordered (c .before) (s .pre .2 .1)) (c .front-of .result) (c .front-of .ensures)
 
 -- the places before the one where the number of nodes is known
 module _ (c : tie.After-node-at) where
@@ -62,8 +70,8 @@ layers-requires c κs = search needs
 
 in-order-requires : tie.Need-in-order-requires
 in-order-requires c κs =
-    let s = c .before .before .before .before .before .before in
-    (s .pre .0, room-for (s .args .f) (s .args .n) (c .before .lows .result) (c .layers .result) (s .pre .0) (s .pre .2 .1 .mirrored .ancestors) (c .before .lows .ensures) (layered c))
+    let s = c .before .before .before in
+    (s .pre .0, room-for (ready s) (s .args .n) (c .before .lows .result) (c .layers .result) (s .pre .0) (s .pre .2 .2 .mirrored .ancestors) (c .before .lows .ensures) (layered c))
 
 array-read-top : tie.Need-array-read-top
 array-read-top c = search needs
@@ -92,7 +100,7 @@ assign-requires c κs =
       b .before .in-order .ensures .small,
       omega (arith, few b .0),
       s b .pre .0,
-      groups-led (s b .args .f) (s b .args .n) (b .before .before .before .lows .result) (b .before .before .layers .result) (b .before .in-order .result) (ordered (b .before)) (s b .pre .2 .0) (s b .pre .2 .1),
+      groups-led (ready (s b)) (s b .args .n) (b .before .before .before .lows .result) (b .before .before .layers .result) (b .before .in-order .result) (ordered (b .before) (s b .pre .2 .1)) (s b .pre .2 .0) (s b .pre .2 .2),
     )
 
 put-places-requires : tie.Need-put-places-requires
@@ -116,7 +124,8 @@ returns c =
     let g = p .before .before in
     let a = g .before .before in
     let b = known a in
-    file-written (s b .args .f) (s b .args .n) (b .before .before .before .lows .result) (b .before .before .layers .result) (b .before .in-order .result) (ordered (b .before)) (b .front-of .result) (b .front-of .ensures)
+    λ t.
+    file-written (tables (s b) t) (s b .args .n) (b .before .before .before .lows .result) (b .before .before .layers .result) (b .before .in-order .result) (ordered (b .before) t) (b .front-of .result) (b .front-of .ensures)
     (a .node-at .result .0) (s b .args .answer .now) (front-put a .put-front .last .0) (nodes-put a .put-nodes .last .0) (p .put-places .last .0) _ (a .node-at .ensures) (s b .pre .1) (label-bytes (s b))
     (front-put a .put-front .ensures) (nodes-put a .put-nodes .ensures) (p .put-places .ensures) (g .assign .ensures)
 

@@ -1,7 +1,7 @@
 -- The questions in order, then the answer.
 use mathlib.Core.Path.{sym, _∙_}
 use native.Mathlib.Omega.{arith}
-use Rattle.solver.proofs.Answers.{refuses-file, refuses-buffer, answers-file}
+use Rattle.solver.proofs.Answers.{refuses-file, refuses-buffer, covers, answers-file}
 use borrow.Author.Needs.{needs}
 use Rattle.solver.proofs.solve.Statement.{statement}
 use Rattle.solver.proofs.solve.Tie as tie
@@ -22,10 +22,12 @@ returns c =
     let start = known .before in
     refuses-buffer _ (start .args .constraints .now) _ (λ i. omega (arith, known .shared-slice-known .given i)) _ (sym (judged .judge .ensures) ∙ c .before .before .judged2 .given .1) (omega arith)
 
-solve-accepted-requires : tie.Need-solve-accepted-requires
-solve-accepted-requires c κs =
+solve-over-requires : tie.Need-solve-over-requires
+solve-over-requires c κs =
     let judged = c .before .before .before .before .before in
-    (sym (judged .judge .ensures) ∙ c .before .before .before .judged2 .given .1, omega arith)
+    let known = judged .before .before in
+    let start = known .before in
+    (covers (start .args .constraints .now) (λ i. omega (arith, known .shared-slice-known .given i)) _ (sym (judged .judge .ensures) ∙ c .before .before .before .judged2 .given .1), omega arith)
 
 returns-2 : tie.Need-returns-2
 returns-2 c =
@@ -44,7 +46,7 @@ returns-3 c =
     let known = judged .before .before in
     let start = known .before in
     answers-file _ (start .args .constraints .now) _ (λ i. omega (arith, known .shared-slice-known .given i)) _ (sym (judged .judge .ensures) ∙ solved .before .before .before .before .judged2 .given .1)
-    (omega arith) _ _ (solved .solve-accepted .ensures)
+    (omega arith) _ _ (solved .solve-over .ensures)
 
 pub solve-spec : {M : Type 1} → statement M
 solve-spec =
@@ -54,7 +56,7 @@ solve-spec =
     enum-known-judged
     enum-known-judged-2
     returns
-    solve-accepted-requires
+    solve-over-requires
     returns-2
     same-length
     returns-3)
