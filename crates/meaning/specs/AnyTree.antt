@@ -1,5 +1,5 @@
 -- A tree as the paper has it (source 004, definition 2.1), without its document order ≺: the nodes are any finite set and bear no numbers.
--- When such a tree meets the constraints, and when a tree of document 01 is that tree with its nodes numbered.
+-- When such a tree meets the constraints, and when a tree of docs/FORMAT.md is that tree with its nodes numbered.
 use mathlib.Core.Path.{_≡_}
 use mathlib.Core.Logic.{_≢_, _↔_}
 use mathlib.Core.List.{List, List·Memᴰ}
@@ -27,7 +27,7 @@ pub record AnyTree (N : Type 0) : Type 1 where
   -- λ, with numbers for the paper's infinite set Σ of tag names
   pub label : N → Label
 
--- document 01 has the labels 0 to 255 only
+-- docs/FORMAT.md has the labels 0 to 255 only
 abbrev pub ByteLabelled : {N : Type 0} → AnyTree N → Type 0
 ByteLabelled {N} T = (v : N) → T .label v ≤ 255
 

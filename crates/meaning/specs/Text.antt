@@ -1,4 +1,4 @@
--- What the two programs print of an answer, in ASCII (document 01, "Program `solve`"): a line with the verdict and, of a tree, a line for each
+-- What the two programs print of an answer, in ASCII (docs/FORMAT.md, "The programs"): a line with the verdict and, of a tree, a line for each
 -- record of its answer file.
 use mathlib.Core.List.{List, [], _∷_, _++_}
 use Prim.Native.Nat.{ℕ, zero, suc, _+_, _/_, _%_}

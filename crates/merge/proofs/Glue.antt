@@ -6,7 +6,7 @@ use Prim.Native.Nat.{ℕ}
 use Rattle.meaning.specs.Tree.{Var}
 use Rattle.meaning.specs.Constraint.{Fact, child, below, differ, leaf}
 use Rattle.meaning.specs.Closed.{Within, Sharing}
-use Rattle.tables.proofs.Clashes.{Free}
+use Rattle.tables.specs.Free.{Free}
 use Rattle.tables.proofs.Groups.{Twin, Two, Shared, Order, flip, via, shared-sharing, embed}
 use Rattle.tables.proofs.Wider.{Ends, Wide, Mid, wide-chain, wide-cases}
 use Rattle.merge.specs.Merging.{Awaits, held, waits}

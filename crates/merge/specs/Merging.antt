@@ -12,7 +12,7 @@ use Rattle.meaning.specs.Finite.{Yes, neg, sum, one}
 use Rattle.meaning.specs.Closed.{Sharing, Inside}
 use Rattle.tables.specs.Tables.{row, has, Mirrored, Ready}
 use Rattle.tables.specs.declared.Facts.{Facts}
-use Rattle.tables.proofs.Clashes.{Free}
+use Rattle.tables.specs.Free.{Free}
 use Rattle.merge.specs.declared.Round.{Round}
 use Rattle.tables.specs.declared.Settled.{Settled as Result}
 use Rattle.merge.specs.Rows.{Gap}

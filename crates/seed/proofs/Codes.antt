@@ -10,7 +10,7 @@ use Rattle.meaning.proofs.Constraints.{fact-in, fact-from}
 use Rattle.meaning.proofs.Facts.{in-one, in-two}
 use Rattle.constraints.specs.Record.{kindOf, constraintAs}
 
--- document 01's number of its kind
+-- docs/FORMAT.md's number of its kind
 abbrev pub number : Constraint → ℕ
 number (is-child x y) = 1
 number (is-below x y) = 2

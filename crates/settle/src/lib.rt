@@ -1,4 +1,4 @@
-// Settling: the tables of rows, closed under the rules of document 01 by passes over x, y and z.
+// Settling: the tables of rows, closed under the rules of docs/FORMAT.md by passes over x, y and z.
 ghost use mathlib.Core.Path.{_≡_};
 ghost use mathlib.Core.List.{List};
 ghost use Rattle.meaning.specs.Constraint.{Fact};

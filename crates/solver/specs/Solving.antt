@@ -1,4 +1,4 @@
--- What the solver answers of records over n variables, document 01's numbers and values for each case of its verdict, and what it promises
+-- What the solver answers of records over n variables, docs/FORMAT.md's numbers and values for each case of its verdict, and what it promises
 -- of any bytes.
 use mathlib.Core.Path.{_≡_}
 use mathlib.Core.List.{List}

@@ -9,11 +9,8 @@ use Rattle.meaning.specs.Finite.{Yes}
 use Rattle.meaning.specs.ReadOff.{Decides}
 use Rattle.tables.specs.Tables.{has}
 use Rattle.tables.specs.declared.Facts.{Facts}
+use Rattle.tables.specs.Free.{Free}
 use Rattle.tables.proofs.Labels.{label-is}
-
--- no clash but that of two labels on one variable, which no tables hold; a field for each other kind
-pub record Free (P : Fact → Type 0) : Type 0 where
-  pub apart : (x : Var) → ¬ P (differ x x)
 
 pub free-less : {P Q : Fact → Type 0} → ((φ : Fact) → Q φ → P φ) → Free P → Free Q
 free-less to h = record { apart = λ x u. h .apart x (to _ u) }

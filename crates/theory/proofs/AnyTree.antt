@@ -1,4 +1,4 @@
--- Trees whose nodes bear no numbers and trees of document 01 meet the same constraints, since each is the other under a numbering. So 'none'
+-- Trees whose nodes bear no numbers and trees of docs/FORMAT.md meet the same constraints, since each is the other under a numbering. So 'none'
 -- also means that no tree in the sense of source 004, definition 2.1, meets the constraints.
 use mathlib.Core.Path.{_≡_, refl, sym, ap, _∙_, subst}
 use mathlib.Core.Logic.{_↔_, ⊎-elim}
@@ -110,13 +110,13 @@ module _ {N : Type 0} (T : AnyTree N) where
   with-bytes-meets a cs b (is-leaf x) m h = h
   with-bytes-meets a cs b (is-label x l) m h = byte-stays _ _ (subst (λ (k : Label). k ≤ 255) (sym h) (b x l m)) ∙ h
 
-  -- where a tree of the paper meets constraints whose labels are bytes, so does one of document 01
+  -- where a tree of the paper meets constraints whose labels are bytes, so does one of docs/FORMAT.md
   pub any-tree-meets : (n : ℕ) (a : Var → N) (cs : List Constraint) → ByteLabels cs → MeetsAllAny T a cs → (t : Tree) × IsTree t × ((b : Assignment) × MeetsAll n t b cs)
   any-tree-meets n a cs b h =
       let w = numbered with-bytes (λ v. byte-or-blank-small (T .label v) _) in
       (w .0, w .1, (_, numbering-meets-all with-bytes (w .0) (w .1) (w .2) n a cs .0 (λ c m. with-bytes-meets a cs b c m (h c m))))
 
--- ---- every tree of document 01 is a tree of the paper
+-- ---- every tree of docs/FORMAT.md is a tree of the paper
 
 abbrev pub NodeOf : Tree → Type 0
 NodeOf t = (v : Node) × (v < t .size)
@@ -178,7 +178,7 @@ module _ (t : Tree) (i : IsTree t) where
   on-node-same n a p x (yes l) k = refl
   on-node-same n a p x (no l) k = absurd (l k)
 
-  -- where a tree of document 01 meets the constraints, so does one of the paper
+  -- where a tree of docs/FORMAT.md meets the constraints, so does one of the paper
   pub tree-meets-any : (n : ℕ) (a : Assignment) (cs : List Constraint) → vars cs ≤ n → MeetsAll n t a cs → (b : Var → NodeOf t) × MeetsAllAny any-tree b cs
   unfolding any-tree-numbering
   tree-meets-any n a cs few h = (b, λ c m. numbering-meets any-tree t i any-tree-numbering b c .1 (meets-agree t a (λ x. b x .0) c (same c m) (h .every c m)))

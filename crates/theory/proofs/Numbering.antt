@@ -1,4 +1,4 @@
--- Every finite tree whose nodes bear no numbers has a numbering as document 01 wants, with the same parents and labels. A node's key is its
+-- Every finite tree whose nodes bear no numbers has a numbering as docs/FORMAT.md wants, with the same parents and labels. A node's key is its
 -- depth, then its place in the list of nodes; its number is how many keys are smaller. A parent is less deep, so its number is smaller.
 use mathlib.Core.Path.{_≡_, refl, sym, ap, _∙_, subst}
 use mathlib.Core.Logic.{_≢_, _↔_, _⊎_, inl, inr, ⊎-elim}
