@@ -31,8 +31,6 @@ module _ (n : ℕ) (S : List Fact) (f : Facts) (seed : Seeded n S f) (passed : P
   pub ready : Ready n S f
   ready = record { inside = seed .inside; free = no-clash; decides = decided; mirrored = record { parents = seed .parents; ancestors = passed .ancestors } }
 
--- ---- why it comes
-
 pub grew : {G : Facts → Type 0} {n : ℕ} {f : Facts} {r : Stepped} → SteppedOf G n f r → r .clash ≡ false → r .more ≡ true → weight f < weight (r .facts)
 unfolding pick
 grew {f = f} {r = r} w c m = let a : weight f + 1 ≤ weight (r .facts) = subst (λ (b : Bool). weight f + pick b 1 0 ≤ weight (r .facts)) m (w .grown c) in omega arith

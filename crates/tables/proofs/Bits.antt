@@ -136,9 +136,6 @@ all-has n i h =
 pub xor-zero : (a b : ℕ) → bitXor a b ≡ 0 → a ≡ b
 xor-zero a b e = let p = xor-add-and a b in let q = and-le-l a b in let r = and-le-r a b in omega arith
 
-pub or-zero : (a b : ℕ) → bitOr a b ≡ 0 → (a ≡ 0) × (b ≡ 0)
-or-zero a b e = let p = or-add-and a b in let q = and-le-l a b in let r = and-le-r a b in (omega arith, omega arith)
-
 -- ---- what is not in a row
 
 bit-is : (a i : ℕ) → (Yes (bit a i) × (a / 2 ^ i % 2 ≡ 1)) ⊎ ((¬ Yes (bit a i)) × (a / 2 ^ i % 2 ≡ 0))

@@ -1,11 +1,11 @@
 -- Every finite tree whose nodes bear no numbers has a numbering as docs/FORMAT.md wants, with the same parents and labels. A node's key is its
 -- depth, then its place in the list of nodes; its number is how many keys are smaller. A parent is less deep, so its number is smaller.
 use mathlib.Core.Path.{_≡_, refl, sym, ap, _∙_, subst}
-use mathlib.Core.Logic.{_≢_, _↔_, _⊎_, inl, inr, ⊎-elim}
+use mathlib.Core.Logic.{_≢_, _⊎_, inl, inr, ⊎-elim}
 use mathlib.Core.List.{List, [], _∷_, List·Memᴰ, List·Memᴰ·head, List·Memᴰ·tail, List·Memᴰ·cases-cons, List·Memᴰ·not-nil}
 use Prim.Native.Nat.{ℕ, suc, _+_, _*_, _%_, _<_, max, suc-le-suc}
 use native.Mathlib.Nat.{zero-lt-suc, suc-mul, mul-add-mod-self-right, mod-eq-of-lt}
-use native.Mathlib.Decide.{map-dec, decLt, ℕ-discrete}
+use native.Mathlib.Decide.{decLt, ℕ-discrete}
 use native.Mathlib.Omega.{arith}
 use lib.ListN.{length, getD}
 use Rattle.meaning.specs.Tree.{Node, Tree, IsTree}
@@ -57,23 +57,17 @@ module _ {N : Type 0} (T : AnyTree N) where
   unfolding depth steps
   depth-parent {u} {v} p = steps-same (T .reached v) (down p (T .reached u)) refl
 
-  -- ---- a node is the root or has a parent, and nodes can be told apart
+  -- ---- a node is the root or has a parent, and two nodes have two places
 
   root-or-last : {v : N} → Reaches (T .IsParent) (T .root) v → (v ≡ T .root) ⊎ ((u : N) × T .IsParent u v)
   root-or-last here = inl refl
   root-or-last (down {w = u} p h) = inr (u, p)
 
-  pub root-or-child : (v : N) → (v ≡ T .root) ⊎ ((u : N) × T .IsParent u v)
+  root-or-child : (v : N) → (v ≡ T .root) ⊎ ((u : N) × T .IsParent u v)
   root-or-child v = root-or-last (T .reached v)
-
-  pub no-parent-iff-root : (v : N) → ((u : N) → ¬ T .IsParent u v) ↔ (v ≡ T .root)
-  no-parent-iff-root v = (λ h. ⊎-elim (λ e. e) (λ w. absurd (h (w .0) (w .1))) (root-or-child v), λ e u p. T .no-parent u (subst (T .IsParent u) e p))
 
   place-one-to-one : (u v : N) → place (T .listed u) ≡ place (T .listed v) → u ≡ v
   place-one-to-one u v e = sym (place-at (T .listed u) (T .root)) ∙ ap (λ (i : ℕ). getD (T .nodes) i (T .root)) e ∙ place-at (T .listed v) (T .root)
-
-  pub nodes-discrete : (u v : N) → Dec (u ≡ v)
-  nodes-discrete u v = map-dec (place-one-to-one u v) (ap (λ (w : N). place (T .listed w))) (ℕ-discrete _ _)
 
   -- ---- the key of a node: its depth, then its place in the list
 

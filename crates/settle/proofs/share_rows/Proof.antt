@@ -61,9 +61,7 @@ x-small c = omega (arith, c .pass-test .taken, c .before .before .pre)
 visits-small : (c : tie.Start Inv-loop2 μ-loop2 Inv-loop μ-loop Inv-pass μ-pass) (i v : ℕ) → bitAnd (row (c .args .t1 .differ) i) v < 65536
 visits-small c i v =
     let h : Fits w16 (getD (c .args .t1 .differ) i 0) = search needs in
-    let k = h .fits in
-    let l = and-le-l (row (c .args .t1 .differ) i) v in
-    omega arith
+    omega (arith, h .fits, and-le-l (row (c .args .t1 .differ) i) v)
 
 pass-holds : tie.Need-pass-holds Inv-loop2 μ-loop2 Inv-loop μ-loop Inv-pass μ-pass
 pass-holds c = (
