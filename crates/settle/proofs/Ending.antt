@@ -1,11 +1,10 @@
 -- The end of settling: where no step has more to add, the groups of rules of the steps are together all rules, so the tables decide the settled set.
-use mathlib.Core.Path.{_≡_, sym, _∙_, subst}
+use mathlib.Core.Path.{_≡_, subst}
 use mathlib.Core.Bool.{Bool, true, false}
 use mathlib.Core.List.{List}
 use Prim.Native.Nat.{ℕ, _+_, _<_, _≤_}
 use native.Mathlib.Omega.{arith}
 use Rattle.meaning.specs.Constraint.{Fact}
-use Rattle.meaning.specs.Settled.{Clash, differs, labels}
 use Rattle.meaning.specs.ReadOff.{Decides}
 use Rattle.meaning.specs.Finite.{Yes, pick}
 use Rattle.meaning.proofs.Finite.{sum-bound}
@@ -13,7 +12,7 @@ use Rattle.meaning.specs.Closed.{Rules}
 use Rattle.theory.proofs.Closure.{rules-decide}
 use Rattle.tables.specs.Tables.{row, has, Seeded, Ready}
 use Rattle.tables.specs.declared.Facts.{Facts}
-use Rattle.tables.proofs.Labels.{label-is}
+use Rattle.tables.proofs.Clashes.{free-clash}
 use Rattle.settle.specs.Steps.{weight, SteppedOf, PassRules}
 use Rattle.settle.specs.declared.Stepped.{Stepped}
 
@@ -24,12 +23,8 @@ module _ (n : ℕ) (S : List Fact) (f : Facts) (seed : Seeded n S f) (passed : P
   decided : Decides n S (has f)
   decided = rules-decide n S (has f) (seed .sound) (seed .held) rules
 
-  no-clash : ¬ Clash n S
-  no-clash (differs {x} c) = passed .apart x (decided .complete c)
-  no-clash (labels {x} {l} {m} s t d) = d (sym (label-is f x l (decided .complete s) .0) ∙ label-is f x m (decided .complete t) .0)
-
   pub ready : Ready n S f
-  ready = record { inside = seed .inside; free = no-clash; decides = decided; mirrored = record { parents = seed .parents; ancestors = passed .ancestors } }
+  ready = record { inside = seed .inside; free = free-clash n S f decided (passed .free); decides = decided; mirrored = record { parents = seed .parents; ancestors = passed .ancestors } }
 
 pub grew : {G : Facts → Type 0} {n : ℕ} {f : Facts} {r : Stepped} → SteppedOf G n f r → r .clash ≡ false → r .more ≡ true → weight f < weight (r .facts)
 unfolding pick

@@ -436,7 +436,7 @@ module _ {n : ℕ} {f : Facts} {k : Groups} (o : Start n f k) (S : List Fact) (s
           same-label = rule-same-label;
         };
         one-parent = λ x y z u v. a .to x y (child-low x z u) (inr (z, u, to-parent y z v));
-        apart = no-differ;
+        free = record { apart = no-differ };
         ancestors = λ x y hx hy. transposed-columns (o .groups .columns) x y hx hy ∙ ap (λ (i : ℕ). bit i y) (sym (a .still still x));
       }
 
