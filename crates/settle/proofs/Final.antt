@@ -1,5 +1,6 @@
 -- After a pass: for every S that the tables are to settle from, all that the rows took is settled, and the rows are again tables to settle S
--- from. Where below did not grow they are closed under the rules of sharing and that of one parent.
+-- from. But for what joining added to below they have what the groups share of the given facts (tables/proofs/Groups), so where below did not
+-- grow they are closed under the rules of sharing and that of one parent.
 use mathlib.Core.Path.{_≡_, refl, sym, ap, _∙_, subst}
 use mathlib.Core.Logic.{_≢_, inl, inr, ⊎-elim}
 use mathlib.Core.Bool.{Bool, true, false, false≢true}
