@@ -62,6 +62,20 @@ module _ {B : Var → Var → Type 0} where
   pub turn : {R Q : Var → Var → Type 0} {x y : Var} → ((i j : Var) → R i j → Q j i) → Two B R x y → Two B Q y x
   turn h a = record { left = a .right; right = a .left; left-twin = a .right-twin; right-twin = a .left-twin; holds = h _ _ (a .holds) }
 
+-- what is held is shared
+module _ (n : ℕ) (P : Fact → Type 0) (B : Var → Var → Type 0) (keeps : (x y : Var) → P (below x y) → B x y) (self : (x : Var) → x < n → B x x)
+    (within : (φ : Fact) → P φ → Within n φ) where
+  own-twin : {x : Var} → x < n → Twin B x x
+  own-twin l = alone (self _ l)
+
+  pub embed-in : (φ : Fact) → P φ → Shared B P φ
+  embed-in (child x y) p = let w = within (child x y) p in pair (own-twin (w .0)) (own-twin (w .1)) p
+  embed-in (below x y) p = keeps x y p
+  embed-in (differ x y) p = let w = within (differ x y) p in pair (own-twin (w .0)) (own-twin (w .1)) p
+  embed-in (root x) p = own (own-twin (within (root x) p)) p
+  embed-in (leaf x) p = own (own-twin (within (leaf x) p)) p
+  embed-in (label x l) p = own (own-twin (within (label x l) p)) p
+
 module _ (n : ℕ) (P : Fact → Type 0) (B : Var → Var → Type 0) (o : Order n P B) where
   pub via : {x y z : Var} → Twin B x y → Twin B y z → Twin B x z
   via t u = record { to = o .chain _ _ _ (t .to) (u .to); fro = o .chain _ _ _ (u .fro) (t .fro) }
@@ -92,18 +106,8 @@ module _ (n : ℕ) (P : Fact → Type 0) (B : Var → Var → Type 0) (o : Order
     same-label = λ x u l a b. move-one a b;
   }
 
-  -- what is held is shared
-  module _ (within : (φ : Fact) → P φ → Within n φ) where
-    self : {x : Var} → x < n → Twin B x x
-    self l = alone (o .self _ l)
-
-    pub embed : (φ : Fact) → P φ → Shared B P φ
-    embed (child x y) p = let w = within (child x y) p in pair (self (w .0)) (self (w .1)) p
-    embed (below x y) p = o .keeps x y p
-    embed (differ x y) p = let w = within (differ x y) p in pair (self (w .0)) (self (w .1)) p
-    embed (root x) p = own (self (within (root x) p)) p
-    embed (leaf x) p = own (self (within (leaf x) p)) p
-    embed (label x l) p = own (self (within (label x l) p)) p
+  pub embed : ((φ : Fact) → P φ → Within n φ) → (φ : Fact) → P φ → Shared B P φ
+  embed = embed-in n P B (o .keeps) (o .self)
 
 -- what is shared is in every set that is closed under sharing and has P and B
 module _ (n : ℕ) (P Q : Fact → Type 0) (B : Var → Var → Type 0) (s : Sharing n Q) (has : (φ : Fact) → P φ → Q φ)

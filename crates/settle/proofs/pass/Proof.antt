@@ -13,6 +13,7 @@ started c =
     record {
       few = a .pre;
       groups = c .find-groups .ensures;
+      parent-long = search needs;
       parent-small = λ i. let h : Fits w16 (getD (a .args .f .parent) i 0) = search needs in h .fits;
     }
 
