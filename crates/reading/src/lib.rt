@@ -10,7 +10,8 @@ pub enum Filled {
     Failed,
 }
 
-// Reads until the buffer is full or the file ends. Unlike `io::read_full` it tells a read that fails from the end of the file.
+// Reads until the buffer is full or the file ends. Unlike `io::read_full` it tells a read that fails from the end of the file. It says how many
+// bytes it filled and not which: the kit's contract of `read` says nothing of them, since no contract can speak of what a file holds.
 pub fn fill(fd: i32, path: &[u8], buffer: &mut [u8]) -> Filled
     ensures { λ r. ⌜ Fills r (now (buffer .exit)) ⌝ }
 {
