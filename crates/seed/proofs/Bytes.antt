@@ -7,16 +7,17 @@ use native.Mathlib.Omega.{arith}
 use lib.Dec.{eqb, leb}
 use Rattle.meaning.specs.Tree.{Var}
 use Rattle.meaning.specs.Constraint.{Constraint, is-child, is-below, is-strictly-below, is-same, is-differ, is-root, is-leaf, is-label}
+use Rattle.meaning.specs.Marking.{kind}
 use Rattle.meaning.specs.Finite.{Yes, pick}
 use Rattle.meaning.specs.Files.{JudgedRecord, bad, good, judgePair, judgeSingle, judgeLabel, judgeRecord}
 use Rattle.meaning.proofs.Tests.{and-left, is-eq, is-le}
 use Rattle.constraints.proofs.ByKind.{high-kind}
-use Rattle.seed.proofs.Codes.{number, left, right}
+use Rattle.seed.proofs.Codes.{left, right}
 
 -- the record's bytes are the numbers of its constraint
 pub record GoodBytes (k x y l : ℕ) (c : Constraint) : Type 0 where
   pub most : k ≤ 8
-  pub is-number : number c ≡ k
+  pub is-number : kind c ≡ k
   pub is-left : left c ≡ x
   pub is-right : right c ≡ y
   pub named-label : k ≡ 8 → (c ≡ is-label x l) × (l ≢ 0)
@@ -44,11 +45,11 @@ label-is x y l e =
     (cc, is-eq (v .0), λ z. omega arith)
 
 module _ (k x y l : ℕ) {c : Constraint} where
-  unlabelled : (d : Constraint) → number d ≡ k → left d ≡ x → right d ≡ y → k < 8 → c ≡ d → GoodBytes k x y l c
+  unlabelled : (d : Constraint) → kind d ≡ k → left d ≡ x → right d ≡ y → k < 8 → c ≡ d → GoodBytes k x y l c
   unlabelled d n p q h e = rw e (record { most = omega arith; is-number = n; is-left = p; is-right = q; named-label = λ z. absurd (omega arith) })
 
 pub good-bytes : (k x y l : ℕ) {c : Constraint} → judgeRecord k x y l ≡ good c → GoodBytes k x y l c
-unfolding judgeRecord pick
+unfolding kind judgeRecord pick
 good-bytes zero x y l e = let z : _≡_ {A = ℕ} 0 1 = cc in absurd (omega arith)
 good-bytes (suc zero) x y l e = unlabelled 1 x y l (is-child x y) refl refl refl (omega arith) (pair-is is-child x y l e)
 good-bytes (suc (suc zero)) x y l e = unlabelled 2 x y l (is-below x y) refl refl refl (omega arith) (pair-is is-below x y l e)

@@ -5,21 +5,11 @@ use mathlib.Core.List.{List, _∷_, List·Memᴰ, List·Memᴰ·head, List·Mem�
 use Prim.Native.Nat.{ℕ, _<_}
 use native.Mathlib.Omega.{arith}
 use Rattle.meaning.specs.Constraint.{Constraint, is-child, is-below, is-strictly-below, is-same, is-differ, is-root, is-leaf, is-label, named, Fact, child, below, differ, root, leaf, label, facts, factsOf}
+use Rattle.meaning.specs.Marking.{kind}
 use Rattle.meaning.specs.Finite.{pick}
 use Rattle.meaning.proofs.Constraints.{fact-in, fact-from}
 use Rattle.meaning.proofs.Facts.{in-one, in-two}
 use Rattle.constraints.specs.Record.{kindOf, constraintAs}
-
--- docs/FORMAT.md's number of its kind
-abbrev pub number : Constraint → ℕ
-number (is-child x y) = 1
-number (is-below x y) = 2
-number (is-strictly-below x y) = 3
-number (is-same x y) = 4
-number (is-differ x y) = 5
-number (is-root x) = 6
-number (is-leaf x) = 7
-number (is-label x l) = 8
 
 abbrev pub left : Constraint → ℕ
 left (is-child x y) = x
@@ -52,8 +42,8 @@ name (is-root x) = 0
 name (is-leaf x) = 0
 name (is-label x l) = l
 
-spelt : (c : Constraint) → c ≡ constraintAs (kindOf (number c)) (left c) (right c) (name c)
-unfolding constraintAs kindOf pick
+spelt : (c : Constraint) → c ≡ constraintAs (kindOf (kind c)) (left c) (right c) (name c)
+unfolding kind constraintAs kindOf pick
 spelt (is-child x y) = refl
 spelt (is-below x y) = refl
 spelt (is-strictly-below x y) = refl
@@ -63,7 +53,7 @@ spelt (is-root x) = refl
 spelt (is-leaf x) = refl
 spelt (is-label x l) = refl
 
-pub spelt-as : (c : Constraint) {k x y : ℕ} → number c ≡ k → left c ≡ x → right c ≡ y → c ≡ constraintAs (kindOf k) x y (name c)
+pub spelt-as : (c : Constraint) {k x y : ℕ} → kind c ≡ k → left c ≡ x → right c ≡ y → c ≡ constraintAs (kindOf k) x y (name c)
 spelt-as c a b d = rw (sym a, sym b, sym d) (spelt c)
 
 pub variables-named : (c : Constraint) → (left c < named c) × (right c < named c)

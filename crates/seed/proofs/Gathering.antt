@@ -12,6 +12,7 @@ use lib.ListN.{length, set, drop, replicate, length-set, length-replicate, take-
 use lib.Seq.{getD-set-same, getD-set-other}
 use Rattle.rowbits.specs.Bit.{bit}
 use Rattle.meaning.specs.Constraint.{Constraint, is-label, label, factsOf}
+use Rattle.meaning.specs.Marking.{kind}
 use Rattle.meaning.specs.Finite.{Yes, neg, pick}
 use Rattle.meaning.proofs.Tests.{clash, and-left, and-right, and-both, no-neg, is-eq, eq-yes, yes-case, pick-yes, pick-no}
 use Rattle.tables.specs.Tables.{row}
@@ -20,7 +21,7 @@ use Rattle.tables.proofs.Tested.{not-yes}
 use Rattle.tables.proofs.Loops.{zeros}
 use Rattle.seed.specs.Seeds.{labelled, secondLabel, GivesTwoLabels}
 use Rattle.seed.proofs.Bytes.{GoodBytes}
-use Rattle.seed.proofs.Codes.{number, left, name, sourced}
+use Rattle.seed.proofs.Codes.{left, name, sourced}
 
 -- ---- a bit more
 
@@ -56,8 +57,8 @@ module _ (t : List ℕ) (j y : ℕ) (long : length t ≡ 256) (h : j < 256) wher
 
 pub record Gathered (cs : List Constraint) (i : ℕ) (p q : Constraint → ℕ) (t : List ℕ) : Type 0 where
   pub long : length t ≡ 256
-  pub from : (u v : ℕ) → Yes (bit (row t u) v) → (c : Constraint) × List·Memᴰ c cs × (number c * 16 + p c ≡ u) × (q c ≡ v)
-  pub to : (c : Constraint) → List·Memᴰ c cs → List·Memᴰ c (drop i cs) ⊎ Yes (bit (row t (number c * 16 + p c)) (q c))
+  pub from : (u v : ℕ) → Yes (bit (row t u) v) → (c : Constraint) × List·Memᴰ c cs × (kind c * 16 + p c ≡ u) × (q c ≡ v)
+  pub to : (c : Constraint) → List·Memᴰ c cs → List·Memᴰ c (drop i cs) ⊎ Yes (bit (row t (kind c * 16 + p c)) (q c))
 
 pub record Labels (cs : List Constraint) (i : ℕ) (t : List ℕ) : Type 0 where
   pub long : length t ≡ 16
@@ -90,7 +91,7 @@ module _ (cs : List Constraint) (i : ℕ) (d : Constraint) (at : drop i cs ≡ d
   next : (c : Constraint) → List·Memᴰ c (drop i cs) → (c ≡ d) ⊎ List·Memᴰ c (drop (i + 1) cs)
   next c m = List·Memᴰ·cases-cons (rw at at m)
 
-  pub gathered-more : (p q : Constraint → ℕ) (t : List ℕ) (j v : ℕ) → number d * 16 + p d ≡ j → q d ≡ v → j < 256 → Gathered cs i p q t
+  pub gathered-more : (p q : Constraint → ℕ) (t : List ℕ) (j v : ℕ) → kind d * 16 + p d ≡ j → q d ≡ v → j < 256 → Gathered cs i p q t
       → Gathered cs (i + 1) p q (set t j (bitOr (row t j) (2 ^ v)))
   gathered-more p q t j v a b h g = record {
     long = length-set t _ _ ∙ g .long;
@@ -100,7 +101,7 @@ module _ (cs : List Constraint) (i : ℕ) (d : Constraint) (at : drop i cs ≡ d
   }
     where
       Stands : Constraint → Type 0
-      Stands c = Yes (bit (row (set t j (bitOr (row t j) (2 ^ v))) (number c * 16 + p c)) (q c))
+      Stands c = Yes (bit (row (set t j (bitOr (row t j) (2 ^ v))) (kind c * 16 + p c)) (q c))
 
   module _ (k x y l : ℕ) (w : GoodBytes k x y l d) (h : x < 16) (t : List ℕ) (s : Labels cs i t) where
     abbrev now : List ℕ
@@ -139,8 +140,9 @@ module _ (cs : List Constraint) (i : ℕ) (d : Constraint) (at : drop i cs ≡ d
           go (yes a) (inr v) f = ap (row now) a ∙ stored-old v ∙ ap (row t) (sym a) ∙ e
 
       this : (u m : ℕ) → is-label u m ≡ d → (row now u ≡ m) × (m ≢ 0)
+      unfolding kind
       this u m e =
-          let eight : k ≡ 8 = sym (w .is-number) ∙ ap number (sym e) in
+          let eight : k ≡ 8 = sym (w .is-number) ∙ ap kind (sym e) in
           let g = w .named-label eight in
           let a : u ≡ x = ap left (e ∙ g .0) in
           let b : m ≡ l = ap name (e ∙ g .0) in

@@ -12,6 +12,7 @@ use Rattle.rowbits.specs.Bit.{bit}
 use Rattle.meaning.specs.Tree.{Var}
 use Rattle.meaning.specs.Constraint.{Constraint, is-child, is-below, is-strictly-below, is-same, is-differ, is-root, is-leaf, is-label, vars, Fact, child, below, differ, root, leaf, label, factsOf}
 use Rattle.meaning.specs.Settled.{Settled, given, child-differ, differ-back}
+use Rattle.meaning.specs.Marking.{kind}
 use Rattle.meaning.specs.Finite.{Yes, pick}
 use Rattle.meaning.proofs.Tests.{yes-eq}
 use Rattle.meaning.proofs.Constraints.{facts-inside}
@@ -21,7 +22,7 @@ use Rattle.tables.specs.declared.Facts.{Facts}
 use Rattle.tables.proofs.Bits.{or-case, or-l, or-r, none-in}
 use Rattle.tables.proofs.Labels.{label-is, label-has}
 use Rattle.seed.specs.Seeds.{kindRow, bothWays, RowsOf, TogetherOf, Sown, GivesTwoLabels}
-use Rattle.seed.proofs.Codes.{number, left, right, name, spelt-as, Source, source, sourced}
+use Rattle.seed.proofs.Codes.{left, right, name, spelt-as, Source, source, sourced}
 use Rattle.seed.proofs.Gathering.{Gathered}
 use Rattle.seed.proofs.Seeding.{Seeding}
 
@@ -49,16 +50,16 @@ told {r = r} {P = P} w a x y = (λ u. from u (decLt x 16), λ p. let v = a .to x
 
 -- a record of these numbers spells c, whose numbers they are, whatever its label
 abbrev Spells : ℕ → ℕ → ℕ → ℕ → Constraint → Type 0
-Spells k x y l c = (constraintAs (kindOf k) x y l ≡ c) × (number c ≡ k) × (left c ≡ x) × (right c ≡ y)
+Spells k x y l c = (constraintAs (kindOf k) x y l ≡ c) × (kind c ≡ k) × (left c ≡ x) × (right c ≡ y)
 
 module _ (cs : List Constraint) (i : ℕ) (over : drop i cs ≡ []) (small : (c : Constraint) → List·Memᴰ c cs → (left c < 16) × (right c < 16)) where
   -- the only constraint of its numbers
-  same-in : {k x y : ℕ} {c d : Constraint} → ((l : ℕ) → Spells k x y l d) → List·Memᴰ c cs → number c ≡ k → left c ≡ x → right c ≡ y → List·Memᴰ d cs
+  same-in : {k x y : ℕ} {c d : Constraint} → ((l : ℕ) → Spells k x y l d) → List·Memᴰ c cs → kind c ≡ k → left c ≡ x → right c ≡ y → List·Memᴰ d cs
   same-in {c = c} w m a b e = subst (λ (d : Constraint). List·Memᴰ d cs) (spelt-as c a b e ∙ w (name c) .0) m
 
-  -- a constraint of number k and these two others
+  -- a constraint of kind k and these two others
   abbrev Given : (Constraint → ℕ) → (Constraint → ℕ) → ℕ → ℕ → ℕ → Type 0
-  Given p q k x y = (c : Constraint) × List·Memᴰ c cs × (number c ≡ k) × (p c ≡ x) × (q c ≡ y)
+  Given p q k x y = (c : Constraint) × List·Memᴰ c cs × (kind c ≡ k) × (p c ≡ x) × (q c ≡ y)
 
   module _ (p q : Constraint → ℕ) (low : (c : Constraint) → List·Memᴰ c cs → p c < 16) (t : List ℕ) (g : Gathered cs i p q t) (k : ℕ) where
     part : Tells (kindRow t k) (Given p q k)
@@ -73,7 +74,7 @@ module _ (cs : List Constraint) (i : ℕ) (over : drop i cs ≡ []) (small : (c 
 
         given-in : (x y : ℕ) → Given p q k x y → Yes (bit (kindRow t k x) y)
         given-in x y w =
-            let u : Yes (bit (row t (number (w .0) * 16 + p (w .0))) (q (w .0))) = ⊎-elim (λ n. absurd (List·Memᴰ·not-nil (rw over at n))) (λ b. b) (g .to (w .0) (w .1)) in
+            let u : Yes (bit (row t (kind (w .0) * 16 + p (w .0))) (q (w .0))) = ⊎-elim (λ n. absurd (List·Memᴰ·not-nil (rw over at n))) (λ b. b) (g .to (w .0) (w .1)) in
             rw (sym (w .2), sym (w .3), sym (w .4)) u
 
   module _ (rows columns names : List ℕ) (s : Seeding cs i rows columns names) where
@@ -121,33 +122,33 @@ module _ (cs : List Constraint) (i : ℕ) (over : drop i cs ≡ []) (small : (c 
 
     module _ (f : Facts) (w : TogetherOf rows columns names f) where
       child-are : Bits (f .child) (Of is-child)
-      unfolding constraintAs kindOf pick
+      unfolding kind constraintAs kindOf pick
       child-are = told (w .child-rows) (rows-are 1 is-child (λ x y l. (refl, refl, refl, refl)))
 
       parent-are : Bits (f .parent) (Back is-child)
-      unfolding constraintAs kindOf pick
+      unfolding kind constraintAs kindOf pick
       parent-are = told (w .parent-rows) (columns-are 1 is-child (λ x y l. (refl, refl, refl, refl)))
 
       below-are : Bits (f .below) (λ x y. Source cs (below x y))
-      unfolding constraintAs kindOf pick
+      unfolding kind constraintAs kindOf pick
       below-are =
           told (w .below-rows)
           (unite (rows-are 2 is-below (λ x y l. (refl, refl, refl, refl)))
           (unite (rows-are 3 is-strictly-below (λ x y l. (refl, refl, refl, refl))) (both-are 4 is-same (λ x y l. (refl, refl, refl, refl)))))
 
       differ-are : Bits (f .differ) Unlike
-      unfolding constraintAs kindOf pick
+      unfolding kind constraintAs kindOf pick
       differ-are =
           told (w .differ-rows)
           (unite (both-are 1 is-child (λ x y l. (refl, refl, refl, refl)))
           (unite (both-are 3 is-strictly-below (λ x y l. (refl, refl, refl, refl))) (both-are 5 is-differ (λ x y l. (refl, refl, refl, refl)))))
 
       root-is : (x : ℕ) → Yes (bit (f .root) x) ↔ List·Memᴰ (is-root x) cs
-      unfolding constraintAs kindOf pick
+      unfolding kind constraintAs kindOf pick
       root-is x = rw (w .root-row) (column-is 6 is-root (λ x l. (refl, refl, refl, refl)) x)
 
       leaf-is : (x : ℕ) → Yes (bit (f .leaf) x) ↔ List·Memᴰ (is-leaf x) cs
-      unfolding constraintAs kindOf pick
+      unfolding kind constraintAs kindOf pick
       leaf-is x = rw (w .leaf-row) (column-is 7 is-leaf (λ x l. (refl, refl, refl, refl)) x)
 
       label-are : (x l : ℕ) → Yes (has f (label x l)) ↔ List·Memᴰ (is-label x l) cs
