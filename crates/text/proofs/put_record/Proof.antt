@@ -1,4 +1,4 @@
--- The line of a node and the line of a place.
+-- The line of a node and the line of a place. Room is shown for any byte as the last number, so that a wrong one is refused by what is printed.
 use native.Mathlib.Omega.{arith}
 use Rattle.meaning.specs.Text.{ascii}
 use Rattle.text.proofs.Stores.{put-same, put-then}
@@ -61,7 +61,7 @@ put-number-requires c κs =
     let start = pair .before .before .before .before .before in
     let p = pair .put-pair2 .ensures in
     let q = space .put2 .ensures in
-    omega (arith, p .end, p .same-length, q .end, q .same-length, pair-short (start .args .a) (start .args .b) (omega arith) (omega arith), byte-digits (start .args .c) (omega arith))
+    omega (arith, p .end, p .same-length, q .end, q .same-length, pair-short (start .args .a) (start .args .b) (omega arith) (omega arith), byte-digits (start .args .b) (omega arith), byte-digits (start .args .c) (omega arith))
 
 slice-aggregate-put-3 : tie.Need-slice-aggregate-put-3
 slice-aggregate-put-3 c = search needs
@@ -76,7 +76,7 @@ put-requires-3 c κs =
     let p = pair .put-pair2 .ensures in
     let q = space .put2 .ensures in
     let r = label .put-number .ensures in
-    omega (arith, p .end, p .same-length, q .end, q .same-length, r .end, r .same-length, pair-short (start .args .a) (start .args .b) (omega arith) (omega arith), byte-digits (start .args .c) (omega arith))
+    omega (arith, p .end, p .same-length, q .end, q .same-length, r .end, r .same-length, pair-short (start .args .a) (start .args .b) (omega arith) (omega arith), byte-digits (start .args .b) (omega arith), byte-digits (start .args .c) (omega arith))
 
 same-length-2 : tie.Need-same-length-2
 same-length-2 c = search needs
