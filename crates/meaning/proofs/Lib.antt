@@ -14,3 +14,10 @@ pub mod Joins
 pub mod Choices
 -- how many nodes are read off
 pub mod Nodes
+-- questions set as paths: the records of four texts, what every sheet of records has, how many variables and records there are, and when the
+-- records can be met
+pub mod PathCases
+pub mod PathSheets
+pub mod PathCounts
+pub mod PathMoves
+pub mod PathMeaning

@@ -1,16 +1,19 @@
--- What solver and marker promise, of any bytes: demands 1 to 3 in two records.
+-- What solver, marker and path reader promise, of any bytes: demands 1 to 3 in two records, and questions set as paths in a third.
 use mathlib.Core.Path.{_≡_}
 use mathlib.Core.Logic.{_↔_}
-use mathlib.Core.List.{List}
+use mathlib.Core.List.{List, List·Memᴰ}
 use Prim.Native.Nat.{ℕ, _+_, _≤_, _<_}
 use lib.ListN.{length}
-use Rattle.meaning.specs.Tree.{Node, IsTree}
+use Rattle.meaning.specs.Tree.{Node, Assignment, Tree, IsTree}
 use Rattle.meaning.specs.Constraint.{Constraint, MeetsAll, vars}
 use Rattle.meaning.specs.ReadOff.{NodeRecord, treeOf}
 use Rattle.meaning.specs.Demand.{Answer, a-tree, Demand3}
 use Rattle.meaning.specs.Marking.{Mark, met, Marks}
 use Rattle.meaning.specs.Files.{refused, accepted, judge, refused-answer, accepted-answer, judgeAnswer, assigned}
-use Rattle.meaning.specs.Results.{Solved, solver-refuses, solver-answers, Marked, marker-refuses, marker-answers, written}
+use Rattle.meaning.specs.Results.{Solved, solver-refuses, solver-answers, Marked, marker-refuses, marker-answers, written, PathsRead, paths-refused, paths-written, pathsWrote}
+use Rattle.meaning.specs.Paths.{Path, OfForm}
+use Rattle.meaning.specs.Selection.{Selects, SomeTreeSelects}
+use Rattle.meaning.specs.PathRecords.{recordsOf, variablesOf, fileBytes, CanBeMet}
 
 -- a mark of an accepted tree and assignment: the first unmet constraint, or met exactly when all are met
 pub record RightMark (n : ℕ) (cs : List Constraint) (vs : List NodeRecord) (ps : List Node) (m : Mark) : Type 0 where
@@ -49,3 +52,26 @@ pub record MarkerPromise (file answer : List ℕ) (r : Marked) : Type 0 where
   pub refuses-answer : {cs : List Constraint} {q : ℕ} → judge file ≡ accepted cs → judgeAnswer (vars cs) answer ≡ refused-answer q → r ≡ marker-refuses q
   pub answers : {cs : List Constraint} {vs : List NodeRecord} {ps : List Node} → judge file ≡ accepted cs → judgeAnswer (vars cs) answer ≡ accepted-answer vs ps
       → (m : Mark) × (r ≡ marker-answers m) × RightMark (vars cs) cs vs ps m
+
+-- the records of some lines are a constraint file, and "can be met if and only if some tree has a node selected by every line"; of one tree, these
+-- nodes are those where variable 0 can stand
+pub record RightRecords (ps : List Path) : Type 0 where
+  pub accepts : judge (fileBytes (recordsOf ps)) ≡ accepted (recordsOf ps)
+  pub met-iff : CanBeMet (recordsOf ps) ↔ SomeTreeSelects ps
+  pub ends-iff : {t : Tree} → IsTree t → {v : Node} → v < t .size
+      → ((p : Path) → List·Memᴰ p ps → Selects t p v) ↔ ((a : Assignment) × (a 0 ≡ v) × MeetsAll (vars (recordsOf ps)) t a (recordsOf ps))
+
+-- r is the path reader's answer to a text and a lent buffer, and `after` is the buffer afterwards
+pub record PathsPromise (text buffer : List ℕ) (r : PathsRead) (after : List ℕ) : Type 0 where
+  -- 7, asked before 13
+  pub short-buffer : length buffer < 1024 → r ≡ paths-refused 7
+  -- 13: the text is not of this form
+  pub no-form : 1024 ≤ length buffer → ((ps : List Path) → ¬ OfForm text ps) → r ≡ paths-refused 13
+  -- 14: it needs more than 16 variables
+  pub too-many : 1024 ≤ length buffer → {ps : List Path} → OfForm text ps → 16 < variablesOf ps → r ≡ paths-refused 14
+  -- every other text is read, as these paths and no others
+  pub writes : 1024 ≤ length buffer → {ps : List Path} → OfForm text ps → variablesOf ps ≤ 16 → (r ≡ paths-written (fileBytes (recordsOf ps))) × RightRecords ps
+  pub only : {ps qs : List Path} → OfForm text ps → OfForm text qs → ps ≡ qs
+  -- every byte of the buffer
+  pub wrote : after ≡ pathsWrote r buffer
+  pub same-length : length after ≡ length buffer

@@ -1,4 +1,4 @@
--- What solver and marker answer of any bytes, the lent buffer afterwards, and the number that a host program is told of each answer.
+-- What solver, marker and path reader answer of any bytes, the lent buffer afterwards, and the number that a host program is told of each answer.
 use mathlib.Core.List.{List, _++_}
 use Prim.Native.Nat.{ℕ, _+_, _*_, _^_}
 use lib.ListN.{length, drop}
@@ -14,12 +14,22 @@ pub data Marked : Type 0 where
   marker-refuses : ℕ → Marked
   marker-answers : Mark → Marked
 
+-- the bytes of the records, or the number of the first question that is answered no
+pub data PathsRead : Type 0 where
+  paths-refused : ℕ → PathsRead
+  paths-written : List ℕ → PathsRead
+
 -- the lent buffer afterwards: only a tree writes, at the front
 unfoldable pub written : Solved → List ℕ → List ℕ
 written (solver-refuses q) buffer = buffer
 written (solver-answers (a-none c)) buffer = buffer
 written (solver-answers (a-spent c)) buffer = buffer
 written (solver-answers (a-tree c bs)) buffer = bs ++ drop (length bs) buffer
+
+-- of the path reader: the records at its front, or as it was
+unfoldable pub pathsWrote : PathsRead → List ℕ → List ℕ
+pathsWrote (paths-refused q) buffer = buffer
+pathsWrote (paths-written bs) buffer = bs ++ drop (length bs) buffer
 
 -- verdict, middle and low of a host's number
 unfoldable pub told : ℕ → ℕ → ℕ → ℕ
@@ -37,3 +47,8 @@ unfoldable pub markedNumber : Marked → ℕ
 markedNumber (marker-answers met) = told 0 0 0
 markedNumber (marker-answers (unmet position kind)) = told 1 kind position
 markedNumber (marker-refuses q) = told 3 0 q
+
+-- written with how many bytes, or refused with the question's number
+unfoldable pub pathsNumber : PathsRead → ℕ
+pathsNumber (paths-written bs) = told 0 (length bs) 0
+pathsNumber (paths-refused q) = told 3 0 q

@@ -1,27 +1,23 @@
--- What the two programs print of an answer, in ASCII (docs/FORMAT.md, "The programs"): a line with the verdict and, of a tree, a line for each
--- record of its answer file.
+-- What the programs print of an answer, in ASCII (docs/FORMAT.md, "The programs"): a line with the verdict and, of a tree, a line for each record
+-- of its answer file. `paths` writes the bytes of the records instead, for `solve` to read.
 use mathlib.Core.List.{List, [], _∷_, _++_}
 use Prim.Native.Nat.{ℕ, zero, suc, _+_, _/_, _%_}
-use Prim.Native.Char.{code}
-use Prim.Native.String.{String, [] as none-left, _∷_ as _then_}
+use Prim.Native.String.{String}
 use lib.Dec.{eqb}
 use Rattle.meaning.specs.Finite.{pick}
+use Rattle.meaning.specs.Ascii.{ascii}
 use Rattle.meaning.specs.Demand.{a-tree, a-none, a-spent}
 use Rattle.meaning.specs.Marking.{met, unmet}
 use Rattle.meaning.specs.Files.{Quad, quads}
-use Rattle.meaning.specs.Results.{Solved, solver-refuses, solver-answers, Marked, marker-refuses, marker-answers}
+use Rattle.meaning.specs.Results.{Solved, solver-refuses, solver-answers, Marked, marker-refuses, marker-answers, PathsRead, paths-refused, paths-written}
 
--- "Program `solve` reads up to 1,025 bytes of standard input, with allowance 1,000,000": one byte more than question 1 lets in
+-- "Program `solve` reads up to 1,025 bytes of standard input, with allowance 1,000,000": one byte more than question 1 lets in, and than a text
+-- of paths has; `paths` reads as many
 abbrev pub bytesRead : ℕ
 bytesRead = 1025
 
 abbrev pub solveAllowance : ℕ
 solveAllowance = 1000000
-
--- the codes of the characters
-unfoldable pub ascii : String → List ℕ
-ascii none-left = []
-ascii (c then s) = code c ∷ ascii s
 
 -- ---- numbers
 
@@ -78,3 +74,7 @@ unfoldable pub markedText : Marked → List ℕ
 markedText (marker-answers met) = ascii "met\n"
 markedText (marker-answers (unmet position kind)) = ascii "unmet " ++ (decimal position ++ (ascii " " ++ (ascii (kindName kind) ++ ascii "\n")))
 markedText (marker-refuses question) = numbered "refused " question
+
+unfoldable pub pathsText : PathsRead → List ℕ
+pathsText (paths-written records) = records
+pathsText (paths-refused question) = numbered "refused " question

@@ -10,7 +10,8 @@ use lib.ListN.{length, drop, length-append}
 use borrow.Author.Tests.{eq-eqb, ne-eqb}
 use Rattle.meaning.specs.Files.{Quad, quads}
 use Rattle.meaning.specs.Finite.{pick}
-use Rattle.meaning.specs.Text.{ascii, decimal, numbered, recordLine, recordLines, kindName}
+use Rattle.meaning.specs.Ascii.{ascii}
+use Rattle.meaning.specs.Text.{decimal, numbered, recordLine, recordLines, kindName}
 use Rattle.constraints.specs.Record.{kindNumber}
 use Rattle.constraints.specs.declared.Kind.{Kind}
 use Rattle.constraints.specs.declared.Kind.the-variants.{Child, Below, StrictlyBelow, Same, Differ, Root, Leaf, Label}

@@ -12,7 +12,7 @@ use native.Mathlib.Omega.{arith}
 use lib.ListN.{length}
 use Rattle.meaning.specs.Tree.{Var, Node, Label, Assignment, Tree, IsTree, Parent, Above, self, up}
 use Rattle.meaning.specs.Constraint.{Constraint, is-child, is-below, is-strictly-below, is-same, is-differ, is-root, is-leaf, is-label, Meets, vars, MeetsAll, ByteLabels}
-use Rattle.meaning.specs.AnyTree.{Reaches, here, down, AnyTree, MeetsAny, MeetsAllAny, NoAnyTree, Numbering}
+use Rattle.meaning.specs.AnyTree.{Reaches, here, down, AnyTree, ByteLabelled, MeetsAny, MeetsAllAny, NoAnyTree, Numbering}
 use Rattle.meaning.specs.FixedSearch.{Outcome, in-none, in-tree}
 use Rattle.meaning.specs.Demand.{a-none, FixedSearch, Demand3}
 use Rattle.meaning.specs.Files.{accepted, judge}
@@ -27,13 +27,13 @@ use Rattle.theory.proofs.Numbering.{numbered}
 -- ---- one tree, numbered or not, meets the same constraints
 
 module _ {N : Type 0} (T : AnyTree N) (t : Tree) (s : Numbering T t) where
-  number-reaches : {u v : N} → Reaches (T .IsParent) u v → Above t (s .number u) (s .number v)
+  pub number-reaches : {u v : N} → Reaches (T .IsParent) u v → Above t (s .number u) (s .number v)
   number-reaches here = self
   number-reaches (down p h) = up (s .same-parents _ _ .0 p) (number-reaches h)
 
 module _ {N : Type 0} (T : AnyTree N) (t : Tree) (i : IsTree t) (s : Numbering T t) where
   -- a numbered node with a parent has one in T
-  parent-numbered : {k : Node} {v : N} → Parent t k (s .number v) → (u : N) × T .IsParent u v
+  pub parent-numbered : {k : Node} {v : N} → Parent t k (s .number v) → (u : N) × T .IsParent u v
   parent-numbered {k} {v} p =
       let l : t .parent (s .number v) < s .number v = i .smaller (s .number v) (p .not-first) (p .inside) in
       let e : t .parent (s .number v) ≡ k = p .is in
@@ -44,7 +44,7 @@ module _ {N : Type 0} (T : AnyTree N) (t : Tree) (i : IsTree t) (s : Numbering T
   child-numbered {u} p = let w = s .onto _ (p .inside) in (w .0, s .same-parents u (w .0) .1 (subst (λ (j : Node). Parent t (s .number u) j) (sym (w .1)) p))
 
   -- what is above in t reaches in T
-  above-numbered : {k j : Node} → Above t k j → (v : N) → s .number v ≡ j → (u : N) → s .number u ≡ k → Reaches (T .IsParent) u v
+  pub above-numbered : {k j : Node} → Above t k j → (v : N) → s .number v ≡ j → (u : N) → s .number u ≡ k → Reaches (T .IsParent) u v
   above-numbered self v e u f = subst (λ (w : N). Reaches (T .IsParent) u w) (s .one-to-one u v (f ∙ sym e)) here
   above-numbered (up {v = j} {w = m} p h) v e u f =
       let w = parent-numbered {v = v} (subst (λ (x : Node). Parent t m x) (sym e) p) in
@@ -73,7 +73,7 @@ module _ {N : Type 0} (T : AnyTree N) (t : Tree) (i : IsTree t) (s : Numbering T
 
 -- ---- labels that are no bytes: where the constraints name only bytes, blank does as well
 
-byte-or-blank : (l : Label) → Dec (l ≤ 255) → Label
+pub byte-or-blank : (l : Label) → Dec (l ≤ 255) → Label
 byte-or-blank l (yes h) = l
 byte-or-blank l (no h) = 0
 
@@ -82,13 +82,13 @@ unfolding byte-or-blank
 byte-or-blank-small l (yes h) = h
 byte-or-blank-small l (no h) = zero-le
 
-byte-stays : (l : Label) (d : Dec (l ≤ 255)) → l ≤ 255 → byte-or-blank l d ≡ l
+pub byte-stays : (l : Label) (d : Dec (l ≤ 255)) → l ≤ 255 → byte-or-blank l d ≡ l
 unfolding byte-or-blank
 byte-stays l (yes h) k = refl
 byte-stays l (no h) k = absurd (h k)
 
 module _ {N : Type 0} (T : AnyTree N) where
-  abbrev with-bytes : AnyTree N
+  abbrev pub with-bytes : AnyTree N
   with-bytes = record {
     nodes = T .nodes;
     listed = T .listed;
@@ -99,6 +99,9 @@ module _ {N : Type 0} (T : AnyTree N) where
     reached = T .reached;
     label = λ v. byte-or-blank (T .label v) (decLe (T .label v) 255);
   }
+
+  pub with-bytes-small : ByteLabelled with-bytes
+  with-bytes-small v = byte-or-blank-small (T .label v) _
 
   with-bytes-meets : (a : Var → N) (cs : List Constraint) → ByteLabels cs → (c : Constraint) → List·Memᴰ c cs → MeetsAny T a c → MeetsAny with-bytes a c
   with-bytes-meets a cs b (is-child x y) m h = h
@@ -113,7 +116,7 @@ module _ {N : Type 0} (T : AnyTree N) where
   -- where a tree of the paper meets constraints whose labels are bytes, so does one of docs/FORMAT.md
   pub any-tree-meets : (n : ℕ) (a : Var → N) (cs : List Constraint) → ByteLabels cs → MeetsAllAny T a cs → (t : Tree) × IsTree t × ((b : Assignment) × MeetsAll n t b cs)
   any-tree-meets n a cs b h =
-      let w = numbered with-bytes (λ v. byte-or-blank-small (T .label v) _) in
+      let w = numbered with-bytes with-bytes-small in
       (w .0, w .1, (_, numbering-meets-all with-bytes (w .0) (w .1) (w .2) n a cs .0 (λ c m. with-bytes-meets a cs b c m (h c m))))
 
 -- ---- every tree of docs/FORMAT.md is a tree of the paper
@@ -122,7 +125,7 @@ abbrev pub NodeOf : Tree → Type 0
 NodeOf t = (v : Node) × (v < t .size)
 
 module _ (t : Tree) (i : IsTree t) where
-  node-same : (u v : NodeOf t) → u .0 ≡ v .0 → u ≡ v
+  pub node-same : (u v : NodeOf t) → u .0 ≡ v .0 → u ≡ v
   node-same u v e = Σ-prop-path (λ (k : Node). le-prop) {u = u} {v = v} e
 
   nodes-below : (m : ℕ) → m ≤ t .size → List (NodeOf t)
@@ -158,7 +161,7 @@ module _ (t : Tree) (i : IsTree t) where
   }
 
   -- its nodes under their own numbers
-  pub any-tree-numbering : Numbering any-tree t
+  unfoldable pub any-tree-numbering : Numbering any-tree t
   unfolding any-tree
   any-tree-numbering = record {
     number = λ v. v .0;
@@ -216,13 +219,17 @@ module _ {n : ℕ} {cs : List Constraint} (b : ByteLabels cs) where
       go (no l) = absurd (let q = d .answers .spent-iff .0 (omega arith) in let z : _≡_ {A = ℕ} 0 1 = cc in omega arith)
 
 -- and so does a solver that keeps its promise, of any constraint file
-pub solver-none : {A c : ℕ} {file buffer after : List ℕ} {r : Solved} {cs : List Constraint} → Bytes file → SolverPromise A file buffer r after
+pub promised-none : {A c : ℕ} {file buffer after : List ℕ} {r : Solved} {cs : List Constraint} → ByteLabels cs → SolverPromise A file buffer r after
     → judge file ≡ accepted cs → r ≡ solver-answers (a-none c) → NoAnyTree cs
-solver-none {A} {c} {file} {buffer} {r = r} {cs = cs} b p e q = go (decLe 132 (length buffer))
+promised-none {A} {c} {file} {buffer} {r = r} {cs = cs} b p e q = go (decLe 132 (length buffer))
   where
     go : Dec (132 ≤ length buffer) → NoAnyTree cs
     go (no l) = absurd (let s = p .short-buffer e (omega arith) in let z : _≡_ {A = ℕ} 0 1 = cc in omega arith)
     go (yes l) =
         let w = p .answers e l in
         let s : w .0 ≡ a-none c = let h = w .1 in cc in
-        answered-none (accepted-labels file b cs e) (subst (Demand3 A (vars cs) cs) s (w .2 .demand-3))
+        answered-none b (subst (Demand3 A (vars cs) cs) s (w .2 .demand-3))
+
+pub solver-none : {A c : ℕ} {file buffer after : List ℕ} {r : Solved} {cs : List Constraint} → Bytes file → SolverPromise A file buffer r after
+    → judge file ≡ accepted cs → r ≡ solver-answers (a-none c) → NoAnyTree cs
+solver-none {file = file} {cs = cs} b p e q = promised-none (accepted-labels file b cs e) p e q

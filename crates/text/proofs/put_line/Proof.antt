@@ -1,6 +1,6 @@
 -- A word, a number, and the end of the line.
 use native.Mathlib.Omega.{arith}
-use Rattle.meaning.specs.Text.{ascii}
+use Rattle.meaning.specs.Ascii.{ascii}
 use Rattle.text.proofs.Stores.{put-then}
 use Rattle.text.proofs.Numbers.{count-digits}
 use borrow.Author.Needs.{needs}

@@ -1,6 +1,7 @@
 -- Verdict by verdict.
 use mathlib.Core.Path.{sym, ap}
-use Rattle.meaning.specs.Text.{ascii, numbered, markedText}
+use Rattle.meaning.specs.Ascii.{ascii}
+use Rattle.meaning.specs.Text.{numbered, markedText}
 use Rattle.marker.specs.Verdict.{markedOf}
 use Rattle.text.specs.Putting.{markerText}
 use Rattle.text.proofs.Stores.{put-same}

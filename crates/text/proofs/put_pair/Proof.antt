@@ -1,6 +1,6 @@
 -- A word and two numbers with a space between them.
 use native.Mathlib.Omega.{arith}
-use Rattle.meaning.specs.Text.{ascii}
+use Rattle.meaning.specs.Ascii.{ascii}
 use Rattle.text.proofs.Stores.{put-then}
 use Rattle.text.proofs.Numbers.{byte-digits}
 use borrow.Author.Needs.{needs}

@@ -1,6 +1,6 @@
 -- The line of a node and the line of a place. Room is shown for any byte as the last number, so that a wrong one is refused by what is printed.
 use native.Mathlib.Omega.{arith}
-use Rattle.meaning.specs.Text.{ascii}
+use Rattle.meaning.specs.Ascii.{ascii}
 use Rattle.text.proofs.Stores.{put-same, put-then}
 use Rattle.text.proofs.Numbers.{byte-digits}
 use Rattle.text.proofs.Lines.{pair-short, place-line, node-line}

@@ -2,7 +2,8 @@
 use mathlib.Core.Path.{sym, ap}
 use native.Mathlib.Omega.{arith}
 use lib.ListN.{length-append}
-use Rattle.meaning.specs.Text.{ascii, decimal, numbered, solvedText}
+use Rattle.meaning.specs.Ascii.{ascii}
+use Rattle.meaning.specs.Text.{decimal, numbered, solvedText}
 use Rattle.solver.specs.declared.Verdict.{Verdict}
 use Rattle.text.specs.Putting.{solverText}
 use Rattle.text.proofs.Stores.{put-same, put-then}

@@ -1,6 +1,7 @@
 -- The line of an unmet record.
 use native.Mathlib.Omega.{arith}
-use Rattle.meaning.specs.Text.{ascii, markedText}
+use Rattle.meaning.specs.Ascii.{ascii}
+use Rattle.meaning.specs.Text.{markedText}
 use Rattle.marker.specs.Verdict.{markedOf}
 use Rattle.text.proofs.Stores.{put-then}
 use Rattle.text.proofs.Numbers.{position-digits}
