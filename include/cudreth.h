@@ -1,17 +1,20 @@
 /*
- * Cudreth: solves and marks constraints on trees as XPath sees them.
+ * Cudreth: solves and marks constraints on trees as XPath sees them, and writes the constraints of a question set as paths.
  *
  * Link with libcapi.a (x86-64 Linux), which `rt staticlib capi` writes to target/staticlib/. docs/FORMAT.md says what the bytes mean,
  * examples/host.c is a host program, and cudreth.rs is this file for Rust.
  *
- * Both functions take any bytes of any length and always return: damaged files and buffers that are too short are refused by a number.
- * They have no globals, allocate nothing, print nothing and set no errno, so any number of threads may call them at once. Threads may
- * share what they only read, constraint files and answer files; a buffer lent to cudreth_solve belongs to that one call until it
- * returns. cudreth_mark uses about 2 KiB of stack. cudreth_solve recurses once for each alternative that is open, at most 240 deep;
- * give its thread CUDRETH_STACK bytes (examples/stack.c measures what it uses).
+ * All three functions take any bytes of any length and always return: damaged files, texts that are no paths and buffers that are too
+ * short are refused by a number. They have no globals, allocate nothing, print nothing and set no errno, so any number of threads may
+ * call them at once. Threads may share what they only read, constraint files, answer files and texts; a buffer lent to cudreth_solve or
+ * cudreth_paths belongs to that one call until it returns.
  *
- * Each pointer must be valid for its length and not NULL, also where the length is 0. The buffer lent to cudreth_solve may not overlap
- * the constraints. No byte of a constraint file or of a candidate's answer is changed.
+ * cudreth_mark uses about 2 KiB of stack. cudreth_solve recurses once for each alternative that is open, at most 240 deep; give its
+ * thread CUDRETH_STACK bytes. cudreth_paths recurses once for each bracket that is open, at most 127 deep; give its thread
+ * CUDRETH_PATHS_STACK bytes. examples/stack.c measures what both use.
+ *
+ * Each pointer must be valid for its length and not NULL, also where the length is 0. The answer lent to cudreth_solve may not overlap
+ * the constraints, nor the records lent to cudreth_paths the text. No byte of what is only read is changed.
  */
 #ifndef CUDRETH_H
 #define CUDRETH_H
@@ -24,7 +27,7 @@ extern "C" {
 #endif
 
 /* Rises with each landing that a host can notice. The archive does not know it: take header and archive from one commit. */
-#define CUDRETH_VERSION 1
+#define CUDRETH_VERSION 2
 
 /* Every record has 4 bytes; a file has no header. */
 #define CUDRETH_RECORD_BYTES 4
@@ -36,8 +39,15 @@ extern "C" {
 #define CUDRETH_VARIABLES 16
 /* The most nodes that a candidate's tree may have. */
 #define CUDRETH_NODES 64
+/* The longest text of paths, and the most lines that it may have; more are refused with 13. */
+#define CUDRETH_TEXT_BYTES 1024
+#define CUDRETH_LINES 8
+/* The shortest buffer that may be lent to cudreth_paths. What is written has at most 180 bytes, 45 records. */
+#define CUDRETH_RECORDS_BYTES 1024
 /* Stack enough for cudreth_solve. */
 #define CUDRETH_STACK (256 * 1024)
+/* Stack enough for cudreth_paths. */
+#define CUDRETH_PATHS_STACK (64 * 1024)
 
 /* The first byte of a constraint record: kind, x, y, label. Bytes that a kind does not use are 0. */
 enum cudreth_kind {
@@ -64,12 +74,14 @@ enum cudreth_answer_record {
 /* Verdicts of cudreth_mark. */
 #define CUDRETH_MET 0u   /* every record is met */
 #define CUDRETH_UNMET 1u /* some record is not */
-/* Of both: a question was answered with no. */
+/* Verdict of cudreth_paths. */
+#define CUDRETH_WRITTEN 0u /* the records were written to the front of the buffer */
+/* Of all three: a question was answered with no. */
 #define CUDRETH_REFUSED 3u
 
-/* The questions by number, in the order in which they are asked; cudreth_question_words says what a refusal by each means. */
+/* The questions by number; each function asks its own in this order. cudreth_question_words says what a refusal by each means. */
 enum cudreth_question_number {
-    /* of the whole constraint file */
+    /* of the whole constraint file, by cudreth_solve and cudreth_mark */
     CUDRETH_Q_CONSTRAINTS_LONG = 1,
     CUDRETH_Q_CONSTRAINTS_CUT = 2,
     /* of each of its records, before the next record */
@@ -77,14 +89,17 @@ enum cudreth_question_number {
     CUDRETH_Q_VARIABLE = 4,
     CUDRETH_Q_LABEL = 5,
     CUDRETH_Q_UNUSED = 6,
-    /* of the lent buffer, by cudreth_solve alone */
+    /* of the lent buffer, by cudreth_solve (CUDRETH_ANSWER_BYTES) and cudreth_paths (CUDRETH_RECORDS_BYTES) */
     CUDRETH_Q_BUFFER = 7,
     /* of the answer file, by cudreth_mark alone, each of the whole file before the next question */
     CUDRETH_Q_ANSWER_CUT = 8,
     CUDRETH_Q_ANSWER_KIND = 9,
     CUDRETH_Q_NODE_COUNT = 10,
     CUDRETH_Q_NODES = 11,
-    CUDRETH_Q_PLACES = 12
+    CUDRETH_Q_PLACES = 12,
+    /* of the text, by cudreth_paths alone */
+    CUDRETH_Q_TEXT_FORM = 13,
+    CUDRETH_Q_TEXT_VARIABLES = 14
 };
 
 /*
@@ -97,10 +112,17 @@ uint64_t cudreth_solve(const uint8_t *constraints, size_t constraints_len, uint8
 /* Marks a candidate's answer file. */
 uint64_t cudreth_mark(const uint8_t *constraints, size_t constraints_len, const uint8_t *answer, size_t answer_len);
 
+/*
+ * Reads a text of 1 to 8 paths, each a line, and writes the constraint file that some tree meets if and only if some tree has a node
+ * that every line selects; variable 0 stands for that node. Only the verdict CUDRETH_WRITTEN writes: cudreth_written(result) bytes at
+ * the front of `records`; all other bytes stay as they were. `records_len` is the length lent, at least CUDRETH_RECORDS_BYTES.
+ */
+uint64_t cudreth_paths(const uint8_t *text, size_t text_len, uint8_t *records, size_t records_len);
+
 /* A result is verdict * 2^48 + middle * 2^32 + low; these take it apart. */
 static inline unsigned cudreth_verdict(uint64_t result) { return (unsigned)(result >> 48); }
 
-/* solve, CUDRETH_TREE: bytes written. */
+/* solve, CUDRETH_TREE, and paths, CUDRETH_WRITTEN: bytes written. */
 static inline size_t cudreth_written(uint64_t result) { return (size_t)(result >> 32 & 0xffff); }
 
 /* solve, not refused: alternatives entered. */
@@ -113,7 +135,7 @@ static inline uint32_t cudreth_unmet_position(uint64_t result) { return (uint32_
 /* CUDRETH_REFUSED: the number of the question, an enum cudreth_question_number. */
 static inline uint32_t cudreth_question(uint64_t result) { return (uint32_t)result; }
 
-/* Why a file or a buffer was refused, by the number of the question. */
+/* Why a file, a buffer or a text was refused, by the number of the question. */
 static inline const char *cudreth_question_words(uint32_t question)
 {
     switch (question) {
@@ -123,12 +145,14 @@ static inline const char *cudreth_question_words(uint32_t question)
     case CUDRETH_Q_VARIABLE: return "a constraint record names a variable above 15";
     case CUDRETH_Q_LABEL: return "a label record has the label 0";
     case CUDRETH_Q_UNUSED: return "a byte that the record's kind does not use is not 0";
-    case CUDRETH_Q_BUFFER: return "the lent buffer has less than 132 bytes";
+    case CUDRETH_Q_BUFFER: return "the lent buffer has less than 132 bytes for an answer, or less than 1,024 for records";
     case CUDRETH_Q_ANSWER_CUT: return "the length of the answer file is not a multiple of 4";
     case CUDRETH_Q_ANSWER_KIND: return "an answer record is neither node nor place, or a node comes after a place";
     case CUDRETH_Q_NODE_COUNT: return "there are not 1 to 64 node records";
     case CUDRETH_Q_NODES: return "a node's number is not its position, or its parent is not smaller (0 for node 0)";
     case CUDRETH_Q_PLACES: return "the places are not variables 0 to n-1 in order, each on a node of the tree, fourth byte 0";
+    case CUDRETH_Q_TEXT_FORM: return "the text is not 1 to 8 lines of paths, each ended by byte 10, in at most 1,024 bytes";
+    case CUDRETH_Q_TEXT_VARIABLES: return "the paths need more than 16 variables";
     default: return "a question that this version does not know";
     }
 }

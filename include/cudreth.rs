@@ -1,4 +1,4 @@
-//! Cudreth for a host program in Rust: the two functions of libcapi.a over slices. cudreth.h says more of what they take and answer,
+//! Cudreth for a host program in Rust: the three functions of libcapi.a over slices. cudreth.h says more of what they take and answer,
 //! docs/FORMAT.md what the bytes mean, and examples/host.rs is a host program.
 //!
 //! It is a module of the host, which is linked with the archive:
@@ -11,13 +11,13 @@
 //! ```
 //!
 //! Editions 2018, 2021 and 2024, with rustc 1.82 or newer. Any number of threads may call at once; one that calls `solve` wants `STACK`
-//! bytes of stack, which is less than a Rust thread has unless told otherwise.
+//! bytes of stack, one that calls `paths` wants `PATHS_STACK`, and a Rust thread has more than both unless told otherwise.
 
 // A host need not use all of it.
 #![allow(dead_code)]
 
 /// Rises with each landing that a host can notice. The archive does not know it: take this file and the archive from one commit.
-pub const VERSION: u32 = 1;
+pub const VERSION: u32 = 2;
 
 /// Every record has 4 bytes; a file has no header.
 pub const RECORD_BYTES: usize = 4;
@@ -29,8 +29,16 @@ pub const ANSWER_BYTES: usize = 132;
 pub const VARIABLES: usize = 16;
 /// The most nodes that a candidate's tree may have.
 pub const NODES: usize = 64;
+/// The longest text of paths; a longer one is refused with 13.
+pub const TEXT_BYTES: usize = 1024;
+/// The most lines that a text of paths may have; more are refused with 13.
+pub const LINES: usize = 8;
+/// The shortest buffer that may be lent to `paths`. What is written has at most 180 bytes, 45 records.
+pub const RECORDS_BYTES: usize = 1024;
 /// Stack enough for `solve`.
 pub const STACK: usize = 256 * 1024;
+/// Stack enough for `paths`.
+pub const PATHS_STACK: usize = 64 * 1024;
 
 // The first byte of a constraint record: kind, x, y, label. Bytes that a kind does not use are 0.
 /// The node of x is the parent of the node of y.
@@ -63,11 +71,13 @@ pub const SPENT: u64 = 2;
 // Verdicts of `cudreth_mark`.
 pub const MET: u64 = 0;
 pub const UNMET: u64 = 1;
-// Of both.
+// Verdict of `cudreth_paths`.
+pub const WRITTEN: u64 = 0;
+// Of all three.
 pub const REFUSED: u64 = 3;
 
-// The questions by number, in the order in which they are asked; `question_words` says what a refusal by each means.
-// Of the whole constraint file:
+// The questions by number; each function asks its own in this order. `question_words` says what a refusal by each means.
+// Of the whole constraint file, by `solve` and `mark`:
 pub const Q_CONSTRAINTS_LONG: u32 = 1;
 pub const Q_CONSTRAINTS_CUT: u32 = 2;
 // of each of its records, before the next record:
@@ -75,7 +85,7 @@ pub const Q_KIND: u32 = 3;
 pub const Q_VARIABLE: u32 = 4;
 pub const Q_LABEL: u32 = 5;
 pub const Q_UNUSED: u32 = 6;
-// of the lent buffer, by `solve` alone:
+// of the lent buffer, by `solve` (`ANSWER_BYTES`) and `paths` (`RECORDS_BYTES`):
 pub const Q_BUFFER: u32 = 7;
 // of the answer file, by `mark` alone, each of the whole file before the next question:
 pub const Q_ANSWER_CUT: u32 = 8;
@@ -83,6 +93,9 @@ pub const Q_ANSWER_KIND: u32 = 9;
 pub const Q_NODE_COUNT: u32 = 10;
 pub const Q_NODES: u32 = 11;
 pub const Q_PLACES: u32 = 12;
+// of the text, by `paths` alone:
+pub const Q_TEXT_FORM: u32 = 13;
+pub const Q_TEXT_VARIABLES: u32 = 14;
 
 unsafe extern "C" {
     pub fn cudreth_solve(
@@ -93,6 +106,7 @@ unsafe extern "C" {
         allowance: u32,
     ) -> u64;
     pub fn cudreth_mark(constraints: *const u8, constraints_len: usize, answer: *const u8, answer_len: usize) -> u64;
+    pub fn cudreth_paths(text: *const u8, text_len: usize, records: *mut u8, records_len: usize) -> u64;
 }
 
 /// What `solve` answers. `count` is the number of alternatives entered.
@@ -115,6 +129,15 @@ pub enum Marked {
     Met,
     /// The kind of the first unmet record, and its position, from 0.
     Unmet { kind: u8, position: u32 },
+    /// The question of that number was answered with no.
+    Refused { question: u32 },
+}
+
+/// What `paths` answers.
+#[derive(Clone, Copy, Debug, PartialEq, Eq)]
+pub enum PathsRead {
+    /// The records were written to the front of the buffer, in so many bytes.
+    Written { written: usize },
     /// The question of that number was answered with no.
     Refused { question: u32 },
 }
@@ -147,6 +170,16 @@ impl Marked {
     }
 }
 
+impl PathsRead {
+    /// The meaning of a result of `cudreth_paths`.
+    pub fn decode(result: u64) -> PathsRead {
+        match parts(result) {
+            (WRITTEN, written, _) => PathsRead::Written { written: usize::from(written) },
+            (_, _, question) => PathsRead::Refused { question },
+        }
+    }
+}
+
 /// Solves the constraint file, entering at most `allowance` alternatives. Only `Solved::Tree` writes: `written` bytes at the front of
 /// `answer`; all other bytes stay as they were. `answer` has at least `ANSWER_BYTES` bytes, or is refused.
 pub fn solve(constraints: &[u8], answer: &mut [u8], allowance: u32) -> Solved {
@@ -162,7 +195,15 @@ pub fn mark(constraints: &[u8], answer: &[u8]) -> Marked {
     Marked::decode(unsafe { cudreth_mark(constraints.as_ptr(), constraints.len(), answer.as_ptr(), answer.len()) })
 }
 
-/// Why a file or a buffer was refused, by the number of the question.
+/// Reads a text of 1 to 8 paths, each a line, and writes the constraint file that some tree meets if and only if some tree has a node
+/// that every line selects; variable 0 stands for that node. Only `PathsRead::Written` writes: `written` bytes at the front of `records`;
+/// all other bytes stay as they were. `records` has at least `RECORDS_BYTES` bytes, or is refused.
+pub fn paths(text: &[u8], records: &mut [u8]) -> PathsRead {
+    // Safe: as in `solve`.
+    PathsRead::decode(unsafe { cudreth_paths(text.as_ptr(), text.len(), records.as_mut_ptr(), records.len()) })
+}
+
+/// Why a file, a buffer or a text was refused, by the number of the question.
 pub fn question_words(question: u32) -> &'static str {
     match question {
         Q_CONSTRAINTS_LONG => "the constraint file has more than 1,024 bytes",
@@ -171,12 +212,14 @@ pub fn question_words(question: u32) -> &'static str {
         Q_VARIABLE => "a constraint record names a variable above 15",
         Q_LABEL => "a label record has the label 0",
         Q_UNUSED => "a byte that the record's kind does not use is not 0",
-        Q_BUFFER => "the lent buffer has less than 132 bytes",
+        Q_BUFFER => "the lent buffer has less than 132 bytes for an answer, or less than 1,024 for records",
         Q_ANSWER_CUT => "the length of the answer file is not a multiple of 4",
         Q_ANSWER_KIND => "an answer record is neither node nor place, or a node comes after a place",
         Q_NODE_COUNT => "there are not 1 to 64 node records",
         Q_NODES => "a node's number is not its position, or its parent is not smaller (0 for node 0)",
         Q_PLACES => "the places are not variables 0 to n-1 in order, each on a node of the tree, fourth byte 0",
+        Q_TEXT_FORM => "the text is not 1 to 8 lines of paths, each ended by byte 10, in at most 1,024 bytes",
+        Q_TEXT_VARIABLES => "the paths need more than 16 variables",
         _ => "a question that this version does not know",
     }
 }

@@ -3,3 +3,4 @@ pub mod Numbers
 pub mod Lines
 pub mod Answers
 pub mod Read
+pub mod Records

@@ -1,4 +1,4 @@
--- What a program reads of a constraint file is enough: the first 1,025 bytes get the answer of the whole file.
+-- What a program reads is enough: the first 1,025 bytes of a constraint file or of a text of paths get the answer of the whole.
 use mathlib.Core.Path.{_≡_, sym, ap, _∙_}
 use mathlib.Core.List.{List}
 use Prim.Native.Nat.{ℕ, _≤_, _<_}
@@ -6,21 +6,30 @@ use native.Mathlib.Decide.{decLe}
 use native.Mathlib.Omega.{arith}
 use lib.ListN.{length, take}
 use lib.Seq.{length-take-le, take-all}
+use lib.Dec.{leb}
+use Rattle.meaning.specs.Finite.{pick}
+use Rattle.meaning.specs.Paths.{Path}
 use Rattle.meaning.specs.Files.{Judged, refused, judge}
+use Rattle.meaning.specs.Results.{PathsRead, paths-refused}
 use Rattle.meaning.specs.Text.{bytesRead}
 use Rattle.meaning.proofs.Tests.{pick-no, is-le}
 use Rattle.theory.specs.Programs.{solvedBy, solver, markedBy, marker}
+use Rattle.theory.specs.PathReader.{Got, nothing, textPaths, answerOf, readPaths}
 
 too-long : (file : List ℕ) → 1024 < length file → judge file ≡ refused 1
 unfolding judge
 too-long file l = pick-no _ _ (λ y. let m : length file ≤ 1024 = is-le y in omega arith)
 
-judge-read : (file : List ℕ) → judge (take bytesRead file) ≡ judge file
-judge-read file = by (decLe (length file) 1025)
+-- what refuses every longer file needs no more
+read-enough : {A : Type 0} (f : List ℕ → A) (none : A) → ((file : List ℕ) → 1024 < length file → f file ≡ none) → (file : List ℕ) → f (take bytesRead file) ≡ f file
+read-enough {A} f none long file = by (decLe (length file) 1025)
   where
-    by : Dec (length file ≤ 1025) → judge (take 1025 file) ≡ judge file
-    by (yes l) = ap judge (take-all 1025 file l)
-    by (no l) = let n = length-take-le 1025 file (omega arith) in too-long (take 1025 file) (omega arith) ∙ sym (too-long file (omega arith))
+    by : Dec (length file ≤ 1025) → f (take 1025 file) ≡ f file
+    by (yes l) = ap f (take-all 1025 file l)
+    by (no l) = let n = length-take-le 1025 file (omega arith) in long (take 1025 file) (omega arith) ∙ sym (long file (omega arith))
+
+judge-read : (file : List ℕ) → judge (take bytesRead file) ≡ judge file
+judge-read = read-enough judge (refused 1) too-long
 
 pub solver-read : (A : ℕ) (file buffer : List ℕ) → solver A (take bytesRead file) buffer ≡ solver A file buffer
 unfolding solver
@@ -29,3 +38,11 @@ solver-read A file buffer = ap (λ (j : Judged). solvedBy A j buffer) (judge-rea
 pub marker-read : (file answer : List ℕ) → marker (take bytesRead file) answer ≡ marker file answer
 unfolding marker
 marker-read file answer = ap (λ (j : Judged). markedBy j answer) (judge-read file)
+
+no-text : (text : List ℕ) → 1024 < length text → textPaths text ≡ nothing
+unfolding textPaths
+no-text text l = pick-no _ _ (λ y. let m : length text ≤ 1024 = is-le y in omega arith)
+
+pub paths-read : (text buffer : List ℕ) → readPaths (take bytesRead text) buffer ≡ readPaths text buffer
+unfolding readPaths
+paths-read text buffer = ap (λ (g : Got (List Path)). pick (leb 1024 (length buffer)) (answerOf g) (paths-refused 7)) (read-enough textPaths nothing no-text text)

@@ -1,12 +1,13 @@
--- What is put at the front of the buffer: the text of what solver and marker promise of any bytes.
+-- What is put at the front of the buffer: the text of what solver, marker and path reader promise of any bytes.
 use mathlib.Core.Path.{_≡_}
 use mathlib.Core.List.{List, _++_}
 use Prim.Native.Nat.{ℕ}
 use lib.ListN.{length, drop, replicate}
-use Rattle.meaning.specs.Results.{Solved, Marked, written}
-use Rattle.meaning.specs.Promises.{SolverPromise, MarkerPromise}
-use Rattle.meaning.specs.Text.{solvedText, markedText}
+use Rattle.meaning.specs.Results.{Solved, Marked, written, pathsWrote}
+use Rattle.meaning.specs.Promises.{SolverPromise, MarkerPromise, PathsPromise}
+use Rattle.meaning.specs.Text.{solvedText, markedText, pathsText}
 use Rattle.theory.specs.Programs.{solver, marker}
+use Rattle.theory.specs.PathReader.{readPaths}
 
 -- a buffer for the answer file, as short as question 7 lets in
 abbrev pub room : List ℕ
@@ -25,3 +26,11 @@ pub record SolvedAs (A : ℕ) (file before : List ℕ) (r : ℕ) (after : List �
 pub record MarkedAs (file answer before : List ℕ) (r : ℕ) (after : List ℕ) : Type 0 where
   pub text : Fronted (markedText (marker file answer)) before r after
   pub promise : MarkerPromise file answer (marker file answer)
+
+-- a buffer for the records, as short as question 7 lets in
+abbrev pub recordsRoom : List ℕ
+recordsRoom = replicate 1024 0
+
+pub record PathsAs (text before : List ℕ) (r : ℕ) (after : List ℕ) : Type 0 where
+  pub output : Fronted (pathsText (readPaths text recordsRoom)) before r after
+  pub promise : PathsPromise text recordsRoom (readPaths text recordsRoom) (pathsWrote (readPaths text recordsRoom) recordsRoom)

@@ -1,4 +1,4 @@
-// The text of a verdict, as the programs print it, at the front of a lent buffer.
+// What the programs print, at the front of a lent buffer: the text of a verdict, or the records of a text of paths.
 ghost use mathlib.Core.Path.{_≡_};
 ghost use mathlib.Core.List.{_++_};
 ghost use Prim.Native.Nat.{_+_, _*_, _/_, _≤_};
@@ -9,7 +9,7 @@ ghost use Rattle.meaning.specs.Text.{solveAllowance, decimal, kindName, recordL
 ghost use Rattle.constraints.specs.Record.{kindNumber};
 ghost use Rattle.marker.specs.declared.Verdict.the-variants.{Unmet};
 ghost use Rattle.text.specs.Putting.{Put, quadOf, bytesOf, solverText, markerText};
-ghost use Rattle.text.specs.Printing.{SolvedAs, MarkedAs};
+ghost use Rattle.text.specs.Printing.{SolvedAs, MarkedAs, PathsAs};
 use constraints::Kind;
 use solver::Verdict;
 
@@ -18,6 +18,9 @@ pub const ALLOWANCE: u32 = 1_000_000;
 
 // Room for every text: a first line of at most 16 bytes and 33 records of at most 17.
 pub const TEXT_BYTES: usize = 577;
+
+// Room for the records of every text of paths: as much as question 7 asks of the buffer that is lent for them.
+pub const RECORDS_BYTES: usize = 1024;
 
 // Puts a word from `at` on, and says where the next one goes.
 fn put(out: &mut [u8], at: usize, word: &[u8]) -> usize
@@ -174,4 +177,15 @@ pub fn mark(constraints: &[u8], answer: &[u8], out: &mut [u8; TEXT_BYTES]) -> us
     ensures { λ r. ⌜ MarkedAs (now (constraints .entry)) (now (answer .entry)) (now (out .entry)) r (now (out .exit)) ⌝ }
 {
     put_mark(out, marker::mark(constraints, answer))
+}
+
+// Puts what `paths` writes of the bytes it read at the front of the buffer, and answers how many bytes that are.
+pub fn paths(text: &[u8], out: &mut [u8; RECORDS_BYTES]) -> usize
+    ensures { λ r. ⌜ PathsAs (now (text .entry)) (now (out .entry)) r (now (out .exit)) ⌝ }
+{
+    let answer = xpath::read(text, out);
+    match answer {
+        xpath::Answer::Written(bytes) => bytes,
+        xpath::Answer::Refused(question) => put_line(out, 0, b"refused ", question as u32),
+    }
 }

@@ -1,0 +1,10 @@
+pub mod Front
+pub mod Moves
+pub mod Follow
+pub mod Copying
+pub mod Small
+pub mod Scan
+pub mod Returns
+pub mod LineReturns
+pub mod Answering
+pub mod Answered
