@@ -1,6 +1,7 @@
 /*
- * A host program: solves the question of document 01's listing (M10), prints the tree, marks four candidates, and lists what a refusal
- * can say. What it prints is held to examples/host.stdout. It is C99 and C++; host.rs is the same in Rust.
+ * A host program: solves the question of document 01's listing (M10), prints the tree and marks four candidates; reads a question set as
+ * paths and solves it; and lists what a refusal can say. What it prints is held to examples/host.stdout. It is C99 and C++; host.rs is the
+ * same in Rust.
  */
 #include <inttypes.h>
 #include <stdio.h>
@@ -57,7 +58,33 @@ static void print_marked(uint64_t result)
     }
 }
 
-int main(void)
+static void print_records(const uint8_t *records, size_t length)
+{
+    for (size_t at = 0; at < length; at += CUDRETH_RECORD_BYTES) {
+        const uint8_t *record = records + at;
+        printf("%s %d %d %d\n", cudreth_kind_words(record[0]), record[1], record[2], record[3]);
+    }
+}
+
+static void print_read(uint64_t result, const uint8_t *records)
+{
+    if (cudreth_verdict(result) == CUDRETH_WRITTEN)
+        print_records(records, cudreth_written(result));
+    else
+        print_refused(cudreth_question(result));
+}
+
+/* How much was written to a buffer that was filled with 0xee, and how much of it is as it was. */
+static void print_written(const uint8_t *buffer, size_t length, size_t written)
+{
+    size_t unchanged = written;
+    while (unchanged < length && buffer[unchanged] == 0xee)
+        unchanged++;
+    printf("%zu bytes written, %zu left as they were\n", written, unchanged - written);
+}
+
+/* M10: solved, and four answers to it marked. */
+static void solve_and_mark(uint8_t *answer)
 {
     const uint8_t question[] = {
         CUDRETH_ROOT,   1, 0, 0,
@@ -65,25 +92,14 @@ int main(void)
         CUDRETH_BELOW,  0, 2, 0,
         CUDRETH_DIFFER, 0, 1, 0,
     };
-    printf("version %d\n", CUDRETH_VERSION);
-    /* Lent from the heap, at its exact length, so that a memory checker sees every byte too far. */
-    uint8_t *answer = (uint8_t *)malloc(CUDRETH_ANSWER_BYTES);
-    if (!answer)
-        return 1;
-    memset(answer, 0xee, CUDRETH_ANSWER_BYTES);
-
     printf("allowance 1: ");
     print_solved(cudreth_solve(question, sizeof question, answer, CUDRETH_ANSWER_BYTES, 1), answer);
     printf("buffer 131: ");
     print_solved(cudreth_solve(question, sizeof question, answer, CUDRETH_ANSWER_BYTES - 1, 1), answer);
     uint64_t solved = cudreth_solve(question, sizeof question, answer, CUDRETH_ANSWER_BYTES, UINT32_MAX);
     print_solved(solved, answer);
-
     size_t written = cudreth_written(solved);
-    size_t unchanged = written;
-    while (unchanged < CUDRETH_ANSWER_BYTES && answer[unchanged] == 0xee)
-        unchanged++;
-    printf("%zu bytes written, %zu left as they were\n", written, unchanged - written);
+    print_written(answer, CUDRETH_ANSWER_BYTES, written);
 
     printf("that answer: ");
     print_marked(cudreth_mark(question, sizeof question, answer, written));
@@ -100,8 +116,41 @@ int main(void)
     print_marked(cudreth_mark(question, sizeof question, answer, written - 1));
     printf("empty files: ");
     print_marked(cudreth_mark(question, 0, answer, 0));
-    for (uint32_t number = CUDRETH_Q_CONSTRAINTS_LONG; number <= CUDRETH_Q_PLACES; number++)
+}
+
+/* A node that both lines select: its records, then a tree that has it, as the node of variable 0. */
+static void read_and_solve(uint8_t *records, uint8_t *answer)
+{
+    const char lines[] = "/child::a/descendant::c\nchild::b/child::c\n";
+    const uint8_t *text = (const uint8_t *)lines;
+    const size_t length = sizeof lines - 1;
+
+    printf("%s", lines);
+    uint64_t read = cudreth_paths(text, length, records, CUDRETH_RECORDS_BYTES);
+    print_read(read, records);
+    size_t written = cudreth_written(read);
+    print_written(records, CUDRETH_RECORDS_BYTES, written);
+    print_solved(cudreth_solve(records, written, answer, CUDRETH_ANSWER_BYTES, UINT32_MAX), answer);
+    printf("the last byte lost: ");
+    print_read(cudreth_paths(text, length - 1, records, CUDRETH_RECORDS_BYTES), records);
+}
+
+int main(void)
+{
+    printf("version %d\n", CUDRETH_VERSION);
+    /* Lent from the heap, at their exact lengths, so that a memory checker sees every byte too far. */
+    uint8_t *answer = (uint8_t *)malloc(CUDRETH_ANSWER_BYTES);
+    uint8_t *records = (uint8_t *)malloc(CUDRETH_RECORDS_BYTES);
+    if (!answer || !records)
+        return 1;
+    memset(answer, 0xee, CUDRETH_ANSWER_BYTES);
+    memset(records, 0xee, CUDRETH_RECORDS_BYTES);
+
+    solve_and_mark(answer);
+    read_and_solve(records, answer);
+    for (uint32_t number = CUDRETH_Q_CONSTRAINTS_LONG; number <= CUDRETH_Q_TEXT_VARIABLES; number++)
         print_refused(number);
+    free(records);
     free(answer);
     return 0;
 }

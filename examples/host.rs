@@ -3,7 +3,9 @@
 #[path = "../include/cudreth.rs"]
 mod cudreth;
 
-use cudreth::{Marked, Solved, ANSWER_BYTES, BELOW, CHILD, DIFFER, NODE, PLACE, RECORD_BYTES, ROOT};
+use cudreth::{
+    Marked, PathsRead, Solved, ANSWER_BYTES, BELOW, CHILD, DIFFER, NODE, PLACE, RECORDS_BYTES, RECORD_BYTES, ROOT,
+};
 
 fn print_answer(answer: &[u8]) {
     for record in answer.chunks(RECORD_BYTES) {
@@ -39,6 +41,25 @@ fn print_marked(marked: Marked) {
     }
 }
 
+fn print_records(records: &[u8]) {
+    for record in records.chunks(RECORD_BYTES) {
+        println!("{} {} {} {}", cudreth::kind_words(record[0]), record[1], record[2], record[3]);
+    }
+}
+
+fn print_read(read: PathsRead, records: &[u8]) {
+    match read {
+        PathsRead::Written { written } => print_records(&records[..written]),
+        PathsRead::Refused { question } => print_refused(question),
+    }
+}
+
+/// How much was written to a buffer that was filled with 0xee, and how much of it is as it was.
+fn print_written(buffer: &[u8], written: usize) {
+    let unchanged = buffer[written..].iter().take_while(|byte| **byte == 0xee).count();
+    println!("{} bytes written, {} left as they were", written, unchanged);
+}
+
 #[rustfmt::skip]
 const QUESTION: [u8; 16] = [
     ROOT,   1, 0, 0,
@@ -56,21 +77,18 @@ const WRONG: [u8; 20] = [
     PLACE, 2, 1, 0,
 ];
 
-fn main() {
-    println!("version {}", cudreth::VERSION);
-    // Lent from the heap, at its exact length, so that a memory checker sees every byte too far.
-    let mut answer = vec![0xee; ANSWER_BYTES];
+const LINES: &str = "/child::a/descendant::c\nchild::b/child::c\n";
 
+/// M10: solved, and four answers to it marked.
+fn solve_and_mark(answer: &mut [u8]) {
     print!("allowance 1: ");
-    print_solved(cudreth::solve(&QUESTION, &mut answer, 1), &answer);
+    print_solved(cudreth::solve(&QUESTION, answer, 1), answer);
     print!("buffer 131: ");
-    print_solved(cudreth::solve(&QUESTION, &mut answer[..ANSWER_BYTES - 1], 1), &answer);
-    let solved = cudreth::solve(&QUESTION, &mut answer, u32::MAX);
-    print_solved(solved, &answer);
-
+    print_solved(cudreth::solve(&QUESTION, &mut answer[..ANSWER_BYTES - 1], 1), answer);
+    let solved = cudreth::solve(&QUESTION, answer, u32::MAX);
+    print_solved(solved, answer);
     let written = if let Solved::Tree { written, .. } = solved { written } else { 0 };
-    let unchanged = answer[written..].iter().take_while(|byte| **byte == 0xee).count();
-    println!("{} bytes written, {} left as they were", written, unchanged);
+    print_written(answer, written);
 
     print!("that answer: ");
     print_marked(cudreth::mark(&QUESTION, &answer[..written]));
@@ -80,7 +98,30 @@ fn main() {
     print_marked(cudreth::mark(&QUESTION, &answer[..written - 1]));
     print!("empty files: ");
     print_marked(cudreth::mark(&[], &[]));
-    for question in cudreth::Q_CONSTRAINTS_LONG..=cudreth::Q_PLACES {
+}
+
+/// A node that both lines select: its records, then a tree that has it, as the node of variable 0.
+fn read_and_solve(records: &mut [u8], answer: &mut [u8]) {
+    let text = LINES.as_bytes();
+    print!("{}", LINES);
+    let read = cudreth::paths(text, records);
+    print_read(read, records);
+    let written = if let PathsRead::Written { written } = read { written } else { 0 };
+    print_written(records, written);
+    print_solved(cudreth::solve(&records[..written], answer, u32::MAX), answer);
+    print!("the last byte lost: ");
+    print_read(cudreth::paths(&text[..text.len() - 1], records), records);
+}
+
+fn main() {
+    println!("version {}", cudreth::VERSION);
+    // Lent from the heap, at their exact lengths, so that a memory checker sees every byte too far.
+    let mut answer = vec![0xee; ANSWER_BYTES];
+    let mut records = vec![0xee; RECORDS_BYTES];
+
+    solve_and_mark(&mut answer);
+    read_and_solve(&mut records, &mut answer);
+    for question in cudreth::Q_CONSTRAINTS_LONG..=cudreth::Q_TEXT_VARIABLES {
         print_refused(question);
     }
 }

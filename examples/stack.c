@@ -1,7 +1,8 @@
 /*
- * Measures the stack that cudreth_solve uses: in a thread with the header's CUDRETH_STACK bytes, once without a choice and once with 105
- * alternatives open at the end (15 variables above a sixteenth: one chain join for each pair). From the two it tells what the most
- * that can be open, n * (n - 1) = 240, would need, and fails if CUDRETH_STACK is not enough.
+ * Measures stack. cudreth_solve: in a thread with the header's CUDRETH_STACK bytes, once without a choice and once with 105 alternatives
+ * open at the end (15 variables above a sixteenth: one chain join for each pair). From the two it tells what the most that can be open,
+ * n * (n - 1) = 240, would need, and fails if CUDRETH_STACK is not enough. cudreth_paths: on the texts of 1,024 bytes that nest deepest or
+ * go on longest, and fails if one needs more than CUDRETH_PATHS_STACK.
  */
 #define _POSIX_C_SOURCE 200809L
 #include <inttypes.h>
@@ -11,51 +12,122 @@
 
 #include "cudreth.h"
 
-#define STACK CUDRETH_STACK
 #define MOST_OPEN (CUDRETH_VARIABLES * (CUDRETH_VARIABLES - 1))
+/* Lent to a thread that reads paths, so that what is used beyond CUDRETH_PATHS_STACK is measured too. */
+#define STACK (1024 * 1024)
 
 static uint8_t stack[STACK] __attribute__((aligned(4096)));
+static uint64_t result;
+
 static uint8_t question[4 * 15];
 static size_t question_length;
 
-static void *solve(void *answer)
+static uint8_t text[CUDRETH_TEXT_BYTES];
+static size_t text_length;
+
+static void *solve(void *unused)
 {
-    static uint64_t result;
-    result = cudreth_solve(question, question_length, answer, CUDRETH_ANSWER_BYTES, UINT32_MAX);
-    return &result;
+    static uint8_t answer[CUDRETH_ANSWER_BYTES];
+    result = cudreth_solve(question, question_length, answer, sizeof answer, UINT32_MAX);
+    return unused;
 }
 
-/* Bytes of stack that changed in a run, the thread's own among them. */
-static size_t used(uint32_t expected_count)
+static void *paths(void *unused)
+{
+    static uint8_t records[CUDRETH_RECORDS_BYTES];
+    result = cudreth_paths(text, text_length, records, sizeof records);
+    return unused;
+}
+
+/* Bytes that changed of the stack of a thread that runs, its own among them; all of them if it does not end in `expected`. */
+static size_t used(void *(*run)(void *), size_t length, uint64_t expected)
 {
     pthread_attr_t attributes;
     pthread_t thread;
-    void *result;
-    uint8_t answer[CUDRETH_ANSWER_BYTES];
     size_t unused = 0;
 
-    memset(stack, 0x5c, STACK);
-    if (pthread_attr_init(&attributes) || pthread_attr_setstack(&attributes, stack, STACK)
-        || pthread_create(&thread, &attributes, solve, answer) || pthread_join(thread, &result)
-        || cudreth_verdict(*(uint64_t *)result) != CUDRETH_TREE || cudreth_count(*(uint64_t *)result) != expected_count)
-        return STACK;
-    while (unused < STACK && stack[unused] == 0x5c)
+    memset(stack, 0x5c, length);
+    if (pthread_attr_init(&attributes) || pthread_attr_setstack(&attributes, stack, length)
+        || pthread_create(&thread, &attributes, run, NULL) || pthread_join(thread, NULL)
+        || pthread_attr_destroy(&attributes) || (result & ~(0xffffULL << 32)) != expected)
+        return length;
+    while (unused < length && stack[unused] == 0x5c)
         unused++;
-    return STACK - unused;
+    return length - unused;
 }
 
-int main(void)
+static int solving(void)
 {
     for (int x = 0; x < 15; x++) {
         const uint8_t record[] = {CUDRETH_BELOW, (uint8_t)x, 15, 0};
         memcpy(question + 4 * x, record, sizeof record);
     }
+    /* the verdict is CUDRETH_TREE, the count low */
     question_length = 0;
-    size_t without = used(0);
+    size_t without = used(solve, CUDRETH_STACK, 0);
     question_length = sizeof question;
-    size_t with = used(105);
+    size_t with = used(solve, CUDRETH_STACK, 105);
     size_t most = without + (with - without) * MOST_OPEN / 105;
     printf("stack: %zu bytes with the thread's own and no choice, %zu with 105 alternatives open, so %zu with %d\n",
            without, with, most, MOST_OPEN);
-    return most <= CUDRETH_STACK ? 0 : 1;
+    return most <= CUDRETH_STACK;
+}
+
+/* Head, `open` as often as CUDRETH_TEXT_BYTES bytes allow, middle, `close` as often, newline. */
+static const struct shape {
+    const char *name, *head, *open, *middle, *close;
+    uint64_t expected;
+} shapes[] = {
+#define MANY ((uint64_t)CUDRETH_REFUSED << 48 | CUDRETH_Q_TEXT_VARIABLES)
+#define NO_FORM ((uint64_t)CUDRETH_REFUSED << 48 | CUDRETH_Q_TEXT_FORM)
+    {"nested brackets", "", "self::*[", "/", "]", MANY},
+    {"brackets that are never closed", "", "self::*[", "", "", NO_FORM},
+    {"nested from the root", "", "/self::*[", "/", "]", MANY},
+    {"nested at second brackets", "", "self::*[/][", "/", "]", MANY},
+    {"nested at second steps", "", "self::*/self::*[", "/", "]", MANY},
+    {"nested in the eighth line", "/\n/\n/\n/\n/\n/\n/\n", "self::*[", "/", "]", MANY},
+    {"[/] again and again", "self::*", "[/]", "", "", CUDRETH_WRITTEN},
+    {"steps", "", "self::*/", "self::*", "", MANY},
+};
+
+static void add(const char *piece)
+{
+    memcpy(text + text_length, piece, strlen(piece));
+    text_length += strlen(piece);
+}
+
+static int reading(void)
+{
+    size_t most = 0;
+
+    text_length = 0;
+    add("/\n");
+    printf("stack of cudreth_paths: %zu bytes with the thread's own on / alone", used(paths, STACK, CUDRETH_WRITTEN));
+    for (size_t i = 0; i < sizeof shapes / sizeof *shapes; i++) {
+        const struct shape *s = &shapes[i];
+        size_t times = (CUDRETH_TEXT_BYTES - strlen(s->head) - strlen(s->middle) - 1) / (strlen(s->open) + strlen(s->close));
+        size_t bytes;
+
+        text_length = 0;
+        add(s->head);
+        for (size_t j = 0; j < times; j++)
+            add(s->open);
+        add(s->middle);
+        for (size_t j = 0; j < times; j++)
+            add(s->close);
+        add("\n");
+        bytes = used(paths, STACK, s->expected);
+        printf(", %zu on %zu %s", bytes, times, s->name);
+        most = bytes > most ? bytes : most;
+    }
+    printf("\n");
+    if (most > CUDRETH_PATHS_STACK)
+        printf("stack of cudreth_paths: %zu bytes are more than %d\n", most, CUDRETH_PATHS_STACK);
+    return most <= CUDRETH_PATHS_STACK;
+}
+
+int main(void)
+{
+    int solved = solving(), read = reading();
+    return solved && read ? 0 : 1;
 }

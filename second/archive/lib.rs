@@ -4,8 +4,8 @@
 #[path = "../../include/cudreth.rs"]
 mod cudreth;
 
-use cudreth::{cudreth_mark, cudreth_solve};
-use second::verdict::{hex, MarkerVerdict, SolverVerdict};
+use cudreth::{cudreth_mark, cudreth_paths, cudreth_solve};
+use second::verdict::{hex, MarkerVerdict, PathsVerdict, SolverVerdict};
 use second::Refusal;
 
 /// Where and how the archive differs, with the whole input.
@@ -104,7 +104,37 @@ pub fn hold_marker(file: &[u8], answer_file: &[u8], expected: &MarkerVerdict) ->
     Ok(())
 }
 
-/// Both results are verdict · 2^48 + middle · 2^32 + low.
+pub fn hold_paths(text: &[u8], buffer: usize, expected: &PathsVerdict) -> Result<(), Disagreement> {
+    let written: &[u8] = match expected {
+        PathsVerdict::Written(records) => records,
+        PathsVerdict::Refused(_) => &[],
+    };
+    for way in &WAYS {
+        let mut lines = Lent::holding(text, way);
+        let mut records = Lent::noise(buffer, way);
+        let (text_lent, records_lent) = (lines.bytes(), records.bytes());
+        let result = unsafe {
+            cudreth_paths(text_lent.as_ptr(), text_lent.len(), records_lent.as_mut_ptr(), records_lent.len())
+        };
+        let as_expected =
+            result == paths_number(expected) && records.changed_only_by(written) && lines.changed_only_by(&[]);
+        if !as_expected {
+            let after = records.bytes();
+            let front = &after[..after.len().min(1024)];
+            return Err(Disagreement(format!(
+                "paths, buffer {buffer}\ntext {}\nbytes {}\nexpected {expected} = {:#x}\narchive  {:#x}\nfront of the buffer after {}",
+                String::from_utf8_lossy(text),
+                hex(text),
+                paths_number(expected),
+                result,
+                hex(front),
+            )));
+        }
+    }
+    Ok(())
+}
+
+/// Every result is verdict · 2^48 + middle · 2^32 + low.
 fn number(verdict: u64, middle: u64, low: u64) -> u64 {
     (verdict << 48) + (middle << 32) + low
 }
@@ -123,5 +153,12 @@ fn marker_number(verdict: &MarkerVerdict) -> u64 {
         MarkerVerdict::Met => number(0, 0, 0),
         MarkerVerdict::Unmet { position, kind } => number(1, *kind as u64, *position as u64),
         MarkerVerdict::Refused(Refusal(question)) => number(3, 0, *question as u64),
+    }
+}
+
+fn paths_number(verdict: &PathsVerdict) -> u64 {
+    match verdict {
+        PathsVerdict::Written(records) => number(0, records.len() as u64, 0),
+        PathsVerdict::Refused(Refusal(question)) => number(3, 0, *question as u64),
     }
 }

@@ -1,4 +1,4 @@
-//! Holds the second solver and the archive to the stored questions and to the examples. After a change of the rules, `again` prints a
+//! Holds the second side and the archive to the stored questions and to the examples. After a change of the rules, `again` prints a
 //! stored file with the verdicts that the second solver now gives: its diff with the file lists the stored answers that change.
 //!
 //! usage: check stored FILE... | check examples FILE... | check again FILE
@@ -31,14 +31,14 @@ fn hold_files(files: &[&str], read: fn(&str) -> Result<Vec<Question>, String>) {
         held += questions.len();
     }
     println!(
-        "check: {held} questions of {} files: the second solver and the archive both give what is written",
+        "check: {held} questions of {} files: the second side and the archive both give what is written",
         files.len()
     );
 }
 
 fn print_again(path: &str) {
     for line in text_of(path).lines() {
-        let Some(Question { name, constraints, expected }) = written::stored_question(line) else {
+        let Some(Question { name, file: constraints, expected }) = written::stored_question(line) else {
             println!("{line}");
             continue;
         };
@@ -51,6 +51,8 @@ fn print_again(path: &str) {
             Expected::Marker { answer, .. } => {
                 println!("{name} mark {file} {} {}", hex(&answer), second::mark(&constraints, &answer));
             }
+            // No stored question is set as paths.
+            Expected::Paths { .. } => println!("{line}"),
         }
     }
 }
@@ -67,19 +69,25 @@ fn fail(path: &str, how: &str) -> ! {
 fn hold(question: &Question) -> Result<(), String> {
     match &question.expected {
         Expected::Solver { buffer, allowance, verdict } => {
-            let said = second::solve(&question.constraints, *buffer, *allowance);
+            let said = second::solve(&question.file, *buffer, *allowance);
             if said != *verdict {
                 return Err(format!("written {verdict}, the second solver says {said}"));
             }
-            archive::hold_solver(&question.constraints, *buffer, *allowance, verdict)
-                .map_err(|disagreement| disagreement.0)
+            archive::hold_solver(&question.file, *buffer, *allowance, verdict).map_err(|disagreement| disagreement.0)
         }
         Expected::Marker { answer, verdict } => {
-            let said = second::mark(&question.constraints, answer);
+            let said = second::mark(&question.file, answer);
             if said != *verdict {
                 return Err(format!("written {verdict}, the second marker says {said}"));
             }
-            archive::hold_marker(&question.constraints, answer, verdict).map_err(|disagreement| disagreement.0)
+            archive::hold_marker(&question.file, answer, verdict).map_err(|disagreement| disagreement.0)
+        }
+        Expected::Paths { buffer, verdict } => {
+            let said = second::paths(&question.file, *buffer);
+            if said != *verdict {
+                return Err(format!("written {verdict}, the second reader of paths says {said}"));
+            }
+            archive::hold_paths(&question.file, *buffer, verdict).map_err(|disagreement| disagreement.0)
         }
     }
 }

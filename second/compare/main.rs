@@ -1,15 +1,21 @@
-//! Compares the archive with the second solver, and the second solver with the meaning itself on small questions. Stops at the first
+//! Compares the archive with the second side, and the second side with the meaning itself on small questions. Stops at the first
 //! disagreement with the input in hex and exit status 1.
 //!
 //! usage: compare [--seconds N] [--seed S]
 
+mod path_rounds;
+mod path_sorts;
+mod paths;
 mod rounds;
+mod selection;
 mod small;
 
+use path_sorts::PathSorts;
 use questions::Random;
 use second::constraint::{self, number_of_variables, Constraint};
 use second::verdict::{hex, MarkerVerdict, SolverVerdict};
 use second::{answer, brute, Refusal};
+use selection::{Selections, SmallTrees};
 use std::collections::BTreeMap;
 use std::time::{Duration, Instant};
 
@@ -23,6 +29,9 @@ struct Comparison {
     counts: BTreeMap<usize, u64>,
     /// How many verdicts of the second solver were held against every small tree.
     against_all_small_trees: u64,
+    path_sorts: PathSorts,
+    selections: Selections,
+    small_trees: SmallTrees,
 }
 
 fn main() {
@@ -39,7 +48,7 @@ fn main() {
             }
         }
     }
-    println!("compare: seed {seed}; all small questions, then random ones for {seconds} s");
+    println!("compare: seed {seed}; all small questions and texts of paths, then random ones for {seconds} s");
     let start = Instant::now();
     let mut comparison = Comparison {
         random: Random::new(seed),
@@ -47,14 +56,20 @@ fn main() {
         seen: BTreeMap::new(),
         counts: BTreeMap::new(),
         against_all_small_trees: 0,
+        path_sorts: PathSorts::default(),
+        selections: Selections::default(),
+        small_trees: SmallTrees::default(),
     };
     comparison.empty_files();
     comparison.long_answers();
     comparison.all_small_questions();
     comparison.all_small_answers();
+    comparison.all_small_paths();
     let deadline = Instant::now() + Duration::from_secs(seconds);
     while Instant::now() < deadline {
         comparison.round();
+        comparison.round();
+        comparison.path_round();
     }
     comparison.report(start.elapsed());
 }
@@ -144,18 +159,23 @@ impl Comparison {
             .map(|question| format!("solver refused {question}"))
             .chain((1..=6).chain(8..=12).map(|question| format!("marker refused {question}")))
             .chain(constraint::KIND_NAMES.iter().map(|name| format!("unmet {name}")))
-            .chain(["tree", "none", "spent", "met"].map(String::from));
-        for verdict in must_be_seen {
-            if !self.seen.contains_key(&verdict) {
-                println!("compare: '{verdict}' never came up; a longer run is needed");
-                std::process::exit(1);
-            }
+            .chain([7, 13, 14].map(|question| format!("paths refused {question}")))
+            .chain(["tree", "none", "spent", "met", "paths written"].map(String::from));
+        let not_seen = must_be_seen.into_iter().find(|verdict| !self.seen.contains_key(verdict));
+        if let Some(sort) = not_seen.or_else(|| self.path_sort_not_seen()) {
+            println!("compare: '{sort}' never came up; a longer run is needed");
+            std::process::exit(1);
         }
         let verdicts: Vec<String> = self.seen.iter().map(|(verdict, times)| format!("{verdict} {times}")).collect();
         println!("compare: verdicts: {}", verdicts.join(", "));
         let counts: Vec<String> = self.counts.iter().map(|(digits, times)| format!("{digits} in {times}")).collect();
         println!("compare: digits of the count of choices in random questions: {}", counts.join(", "));
         println!("compare: {} verdicts of the second solver agree with all small trees", self.against_all_small_trees);
+        let Selections { trees, nones, tree_by_tree } = self.selections;
+        println!(
+            "compare: paths against definition 2.3: variable 0 selected in {trees} trees found; {nones} times none, and no tree of up to \
+             n + 1 nodes has a node selected; {tree_by_tree} texts tree by tree"
+        );
         let sorts: Vec<String> = self.compared.iter().map(|(sort, count)| format!("{count} {sort}")).collect();
         let total: u64 = self.compared.iter().map(|(_, count)| count).sum();
         println!("compare: {total} inputs compared in {} s, none disagreed: {}", took.as_secs(), sorts.join("; "));

@@ -87,7 +87,7 @@ impl Trial {
             for file in [&[][..], &LISTING, &LISTING[..15], &full, &full[..1_023], &too_long[..1_025], &too_long] {
                 let said = self.run(self.solving(&in_pieces(file, length)).command());
                 let verdict = second::solve(file, LEAST_BUFFER, ALLOWANCE);
-                hold_verdict(&name, &said, &text::of_solve(&verdict), &[("constraints", file)]);
+                hold_verdict(&name, &said, text::of_solve(&verdict), &[("constraints", file)]);
                 self.seen.note("solve: in pieces");
             }
             for file in [&[][..], &CHILD_0_1, &full, &too_long[..1_025], &UNMET.concat()] {
@@ -106,7 +106,7 @@ impl Trial {
     fn mark_in_pieces(&mut self, name: &str, call: Call, constraints: &[u8], answer: &[u8]) {
         let said = self.run(call.command());
         let verdict = second::mark(constraints, answer);
-        hold_verdict(name, &said, &text::of_mark(&verdict), &[("constraints", constraints), ("answer", answer)]);
+        hold_verdict(name, &said, text::of_mark(&verdict), &[("constraints", constraints), ("answer", answer)]);
         self.seen.note("mark: in pieces");
     }
 }

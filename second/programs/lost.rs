@@ -3,9 +3,10 @@
 
 use crate::call::{nothing, open, written, Call};
 use crate::limits::{CHILD_0_1, LISTING, NODE_0, PARENT_AND_CHILD};
+use crate::paths::{SELF_A, SEVENTEEN_VARIABLES};
 use crate::run::Said;
 use crate::{fail, hold_errors, text, Trial, ALLOWANCE, FILES};
-use second::LEAST_BUFFER;
+use second::{LEAST_BUFFER, LEAST_RECORDS_BUFFER};
 use std::fs::File;
 use std::io::Seek;
 
@@ -15,38 +16,43 @@ enum Line<'a> {
     Names(&'a str),
 }
 
-/// A verdict to be printed: by which program, on what, and its text.
+/// A verdict to be printed: by which program, and on what. `paths` has a text, and no other program an answer but `mark`.
 struct Printing {
     program: &'static str,
-    constraints: &'static [u8],
+    file: &'static [u8],
     answer: &'static [u8],
 }
 
 impl Printing {
     fn call(&self, trial: &Trial) -> Call {
         match self.program {
-            "solve" => trial.solving(&open(&written("constraints", self.constraints))),
-            _ => trial.marking(self.constraints, self.answer),
+            "solve" => trial.solving(&open(&written("constraints", self.file))),
+            "paths" => trial.reading_paths(&open(&written("text", self.file))),
+            _ => trial.marking(self.file, self.answer),
         }
     }
 
-    fn text(&self) -> String {
+    fn bytes(&self) -> Vec<u8> {
         match self.program {
-            "solve" => text::of_solve(&second::solve(self.constraints, LEAST_BUFFER, ALLOWANCE)),
-            _ => text::of_mark(&second::mark(self.constraints, self.answer)),
+            "solve" => text::of_solve(&second::solve(self.file, LEAST_BUFFER, ALLOWANCE)).into_bytes(),
+            "paths" => text::of_paths(&second::paths(self.file, LEAST_RECORDS_BUFFER)),
+            _ => text::of_mark(&second::mark(self.file, self.answer)).into_bytes(),
         }
     }
 }
 
 /// Every verdict but spent, which differs from none by a word.
-const PRINTINGS: [Printing; 7] = [
-    Printing { program: "solve", constraints: &[], answer: &[] },
-    Printing { program: "solve", constraints: &LISTING, answer: &[] },
-    Printing { program: "solve", constraints: &[1, 0, 0, 0], answer: &[] },
-    Printing { program: "solve", constraints: &[0], answer: &[] },
-    Printing { program: "mark", constraints: &CHILD_0_1, answer: &PARENT_AND_CHILD },
-    Printing { program: "mark", constraints: &[6, 1, 0, 0], answer: &PARENT_AND_CHILD },
-    Printing { program: "mark", constraints: &CHILD_0_1, answer: &NODE_0 },
+const PRINTINGS: [Printing; 10] = [
+    Printing { program: "solve", file: &[], answer: &[] },
+    Printing { program: "solve", file: &LISTING, answer: &[] },
+    Printing { program: "solve", file: &[1, 0, 0, 0], answer: &[] },
+    Printing { program: "solve", file: &[0], answer: &[] },
+    Printing { program: "mark", file: &CHILD_0_1, answer: &PARENT_AND_CHILD },
+    Printing { program: "mark", file: &[6, 1, 0, 0], answer: &PARENT_AND_CHILD },
+    Printing { program: "mark", file: &CHILD_0_1, answer: &NODE_0 },
+    Printing { program: "paths", file: SELF_A, answer: &[] },
+    Printing { program: "paths", file: b"", answer: &[] },
+    Printing { program: "paths", file: SEVENTEEN_VARIABLES, answer: &[] },
 ];
 
 impl Trial {
@@ -56,7 +62,9 @@ impl Trial {
             self.output_closed(printing);
             self.output_cut_short(printing);
         }
-        self.usage_of_solve();
+        let (solve, paths) = (self.solve.clone(), self.paths.clone());
+        self.usage_of_reader("solve", &solve, &written("constraints", &LISTING), "usage: solve < CONSTRAINTS");
+        self.usage_of_reader("paths", &paths, &written("text", SELF_A), "usage: paths < TEXT");
         self.usage_of_mark();
         self.no_input();
         self.no_file();
@@ -83,20 +91,19 @@ impl Trial {
         let said = self.run_into(output, printing.call(self).after("trap '' XFSZ; ulimit -f 1"));
         self.hold_lost(printing.program, SORT, &said, Line::Names("standard output"));
         let put = std::fs::read(&path).unwrap_or_else(|error| fail(&path, &error))[509..].to_vec();
-        if put != printing.text().as_bytes()[..3] {
+        if put != printing.bytes()[..3] {
             fail(SORT, &format!("{:?} was put", String::from_utf8_lossy(&put)));
         }
     }
 
-    fn usage_of_solve(&mut self) {
-        let path = written("constraints", &LISTING);
-        for words in [&[path.as_str()][..], &["--help"], &["-"], &[""], &[&path, &path]] {
-            let mut input = open(&path);
-            let said =
-                self.run(Call::new(&self.solve, words, input.try_clone().expect("an open file is lent")).command());
-            self.hold_lost("solve", "usage", &said, Line::Is("usage: solve < CONSTRAINTS"));
+    /// Of a program that reads its standard input, which lies at `path`.
+    fn usage_of_reader(&mut self, name: &str, program: &str, path: &str, line: &str) {
+        for words in [&[path][..], &["--help"], &["-"], &[""], &[path, path]] {
+            let mut input = open(path);
+            let said = self.run(Call::new(program, words, input.try_clone().expect("an open file is lent")).command());
+            self.hold_lost(name, "usage", &said, Line::Is(line));
             if input.stream_position().expect("a file has a position") != 0 {
-                fail("usage", &"solve with an argument has read its standard input");
+                fail("usage", &format!("{name} with an argument has read its standard input"));
             }
         }
     }
@@ -110,10 +117,14 @@ impl Trial {
     }
 
     fn no_input(&mut self) {
-        let said = self.run(self.solving(&open(FILES)).command());
-        self.hold_lost("solve", "standard input is a folder", &said, Line::Names("standard input"));
-        let said = self.run(self.solving(&nothing()).after("exec <&-"));
-        self.hold_lost("solve", "standard input is closed", &said, Line::Names("standard input"));
+        let readers: [(&str, fn(&Trial, &File) -> Call); 2] =
+            [("solve", Trial::solving), ("paths", Trial::reading_paths)];
+        for (program, reading) in readers {
+            let said = self.run(reading(self, &open(FILES)).command());
+            self.hold_lost(program, "standard input is a folder", &said, Line::Names("standard input"));
+            let said = self.run(reading(self, &nothing()).after("exec <&-"));
+            self.hold_lost(program, "standard input is closed", &said, Line::Names("standard input"));
+        }
     }
 
     fn no_file(&mut self) {

@@ -1,12 +1,13 @@
-//! Runs the built programs `solve` and `mark` and holds what they print, byte for byte, to what document 01 says of them: the written
-//! questions, the benchmark files with their known counts, every limit, and what happens where a verdict cannot be given or printed.
-//! Stops at the first run that differs, with its name and exit status 1. What is expected is written, or the second solver's.
+//! Runs the built programs `solve`, `mark` and `paths` and holds what they print, byte for byte, to what documents 01 and 02 say of them: the
+//! written questions, the benchmark files with their known counts, every limit, and what happens where a verdict cannot be given or
+//! printed. Stops at the first run that differs, with its name and exit status 1. What is expected is written, or the second side's.
 //!
-//! usage: programs FOLDER OF solve AND mark      from the root of the repository
+//! usage: programs FOLDER OF solve, mark AND paths      from the root of the repository
 
 mod call;
 mod limits;
 mod lost;
+mod paths;
 mod questions;
 mod run;
 mod seen;
@@ -15,7 +16,7 @@ mod together;
 
 use call::{nothing, open, written, Call};
 use run::Said;
-use second::verdict::{hex, MarkerVerdict, SolverVerdict};
+use second::verdict::{hex, MarkerVerdict, PathsVerdict, SolverVerdict};
 use seen::Seen;
 use std::fmt::Display;
 use std::fs::File;
@@ -25,7 +26,7 @@ use std::time::Instant;
 
 /// What `solve` allows its search.
 const ALLOWANCE: u32 = 1_000_000;
-/// `solve` reads so many bytes of its standard input, and no more.
+/// `solve` and `paths` read so many bytes of their standard input, and no more.
 const MOST_READ: usize = 1_025;
 /// Where the files lie that the programs are given.
 const FILES: &str = "target/second/files";
@@ -33,6 +34,7 @@ const FILES: &str = "target/second/files";
 struct Trial {
     solve: String,
     mark: String,
+    paths: String,
     runs: u64,
     seen: Seen,
     /// Written questions whose result under `solve`'s allowance and buffer the second solver was asked for.
@@ -42,14 +44,17 @@ struct Trial {
 }
 
 /// What is run, in this order.
-const PARTS: [(&str, fn(&mut Trial)); 9] = [
+const PARTS: [(&str, fn(&mut Trial)); 12] = [
     ("written questions", Trial::written_questions),
     ("benchmark files", Trial::known_counts),
     ("constraint files by length", Trial::lengths_of_constraints),
     ("labels", Trial::every_label),
     ("positions", Trial::every_position),
     ("answer files by length", Trial::lengths_of_answers),
+    ("texts of paths by length", Trial::lengths_of_texts),
+    ("texts of paths piped on to solve", Trial::piped_to_solve),
     ("files in pieces", Trial::pieces),
+    ("texts of paths in pieces", Trial::texts_in_pieces),
     ("usages and losses", Trial::lost),
     ("at once into one pipe", Trial::together),
 ];
@@ -57,7 +62,7 @@ const PARTS: [(&str, fn(&mut Trial)); 9] = [
 fn main() {
     let words: Vec<String> = std::env::args().skip(1).collect();
     let [folder] = words.as_slice() else {
-        eprintln!("usage: programs FOLDER OF solve AND mark");
+        eprintln!("usage: programs FOLDER OF solve, mark AND paths");
         std::process::exit(2);
     };
     std::fs::create_dir_all(FILES).unwrap_or_else(|error| fail(FILES, &error));
@@ -65,6 +70,7 @@ fn main() {
     let mut trial = Trial {
         solve: format!("{folder}/solve"),
         mark: format!("{folder}/mark"),
+        paths: format!("{folder}/paths"),
         runs: 0,
         seen: Seen::default(),
         asked_anew: 0,
@@ -115,35 +121,55 @@ impl Trial {
         Call::new(&self.mark, &[&written("constraints", constraints), &written("answer", answer)], nothing())
     }
 
+    fn reading_paths(&self, input: &File) -> Call {
+        Call::new(&self.paths, &[], input.try_clone().expect("an open file is lent"))
+    }
+
     /// Holds `solve` to the text of a verdict, and to reading no byte too many.
     fn solve(&mut self, name: &str, constraints: &[u8], verdict: &SolverVerdict) {
-        let mut input = open(&written("constraints", constraints));
+        let input = open(&written("constraints", constraints));
         let said = self.run(self.solving(&input).command());
-        hold_verdict(name, &said, &text::of_solve(verdict), &[("constraints", constraints)]);
-        let read = input.stream_position().expect("a file has a position");
-        if read != constraints.len().min(MOST_READ) as u64 {
-            fail(name, &format!("solve read {read} of {} bytes", constraints.len()));
-        }
+        hold_verdict(name, &said, text::of_solve(verdict), &[("constraints", constraints)]);
+        hold_read(name, input, constraints);
         self.seen.solve(constraints, verdict);
+    }
+
+    /// Holds `paths` to the bytes of a verdict, and to reading no byte too many.
+    fn paths(&mut self, name: &str, lines: &[u8], verdict: &PathsVerdict) {
+        let input = open(&written("text", lines));
+        let said = self.run(self.reading_paths(&input).command());
+        hold_verdict(name, &said, text::of_paths(verdict), &[("text", lines)]);
+        hold_read(name, input, lines);
+        self.seen.paths(lines, verdict);
     }
 
     /// Holds `mark` to the text of a verdict.
     fn mark(&mut self, name: &str, constraints: &[u8], answer: &[u8], verdict: &MarkerVerdict) {
         let said = self.run(self.marking(constraints, answer).command());
-        hold_verdict(name, &said, &text::of_mark(verdict), &[("constraints", constraints), ("answer", answer)]);
+        hold_verdict(name, &said, text::of_mark(verdict), &[("constraints", constraints), ("answer", answer)]);
         self.seen.mark(constraints, answer, verdict);
     }
 }
 
 /// The verdict is printed as one write, with nothing on standard error and exit status 0.
-fn hold_verdict(name: &str, said: &Said, expected: &str, files: &[(&str, &[u8])]) {
+fn hold_verdict(name: &str, said: &Said, expected: impl AsRef<[u8]>, files: &[(&str, &[u8])]) {
     let files: String = files.iter().map(|(name, bytes)| format!("\n{name} {}", shown(bytes))).collect();
-    if said.text() != expected {
-        fail(name, &format!("printed {:?}\nexpected {expected:?}{files}", said.text()));
+    let (printed, expected) = (said.writes.concat(), expected.as_ref());
+    let expected_shown = expected.escape_ascii();
+    if printed != expected {
+        fail(name, &format!("printed \"{}\"\nexpected \"{expected_shown}\"{files}", printed.escape_ascii()));
     }
     hold_errors(name, said, "");
     if said.writes.len() != 1 {
-        fail(name, &format!("{expected:?} was printed in {} writes, expected 1{files}", said.writes.len()));
+        fail(name, &format!("\"{expected_shown}\" was printed in {} writes, expected 1{files}", said.writes.len()));
+    }
+}
+
+/// The program has read its standard input to the end, or as much of it as it reads.
+fn hold_read(name: &str, mut input: File, bytes: &[u8]) {
+    let read = input.stream_position().expect("a file has a position");
+    if read != bytes.len().min(MOST_READ) as u64 {
+        fail(name, &format!("{read} of {} bytes were read", bytes.len()));
     }
 }
 

@@ -3,7 +3,7 @@
 use crate::call::open;
 use crate::{fail, hold_verdict, text, Trial, ALLOWANCE};
 use second::verdict::{hex, MarkerVerdict, SolverVerdict};
-use second::{Refusal, LEAST_BUFFER};
+use second::{Refusal, LEAST_BUFFER, LEAST_RECORDS_BUFFER};
 use written::{Expected, Question};
 
 /// The second solver is asked where it can tell within so many choices.
@@ -23,9 +23,14 @@ impl Trial {
     }
 
     fn written_question(&mut self, name: &str, question: &Question) {
-        let file = &question.constraints;
+        let file = &question.file;
         match &question.expected {
             Expected::Marker { answer, verdict } => self.mark(name, file, answer, verdict),
+            // The program's own buffer is long enough.
+            Expected::Paths { buffer, .. } if *buffer < LEAST_RECORDS_BUFFER => {
+                self.paths(name, file, &second::paths(file, LEAST_RECORDS_BUFFER));
+            }
+            Expected::Paths { verdict, .. } => self.paths(name, file, verdict),
             Expected::Solver { verdict, .. } if holds_for_the_program(verdict) => self.solve(name, file, verdict),
             Expected::Solver { .. } => match second::solve(file, LEAST_BUFFER, AFFORDABLE) {
                 SolverVerdict::Spent { .. } => self.left_out += 1,
@@ -69,7 +74,7 @@ impl Trial {
             fail(path, &format!("printed {printed:?}, which does not meet\nconstraints {}", hex(file)));
         }
         let verdict = SolverVerdict::Tree { count, answer };
-        hold_verdict(path, &said, &text::of_solve(&verdict), &[("constraints", file)]);
+        hold_verdict(path, &said, text::of_solve(&verdict), &[("constraints", file)]);
         self.seen.solve(file, &verdict);
     }
 }

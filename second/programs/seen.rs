@@ -1,7 +1,7 @@
 //! The sorts of what has been run, and which must come up.
 
 use second::constraint::KIND_NAMES;
-use second::verdict::{MarkerVerdict, SolverVerdict};
+use second::verdict::{MarkerVerdict, PathsVerdict, SolverVerdict};
 use second::Refusal;
 use std::collections::BTreeSet;
 
@@ -54,6 +54,18 @@ impl Seen {
         }
     }
 
+    pub fn paths(&mut self, text: &[u8], verdict: &PathsVerdict) {
+        self.note(format!("paths: {}", length_of(text)));
+        match verdict {
+            PathsVerdict::Written(records) => self.note(match records.len() {
+                4 => "paths: one record written",
+                180 => "paths: 45 records written",
+                _ => "paths: records written",
+            }),
+            PathsVerdict::Refused(Refusal(question)) => self.note(format!("paths: refused {question}")),
+        }
+    }
+
     /// How many sorts must come up, or the first of them that did not.
     pub fn all_that_must(&self) -> Result<usize, String> {
         let sorts = must_be_seen();
@@ -66,25 +78,32 @@ impl Seen {
 
 fn must_be_seen() -> Vec<String> {
     let mut sorts: Vec<String> = Vec::new();
-    for program in ["solve", "mark"] {
+    for program in ["solve", "mark", "paths"] {
         sorts.extend(LENGTHS.map(|length| format!("{program}: {length}")));
         let lost = ["is a full device", "is closed", "has room for three bytes"];
         sorts.extend(lost.map(|how| format!("{program}: standard output {how}")));
-        sorts.extend((1..=6).map(|question| format!("{program}: refused {question}")));
         sorts.extend(["usage", "in pieces", "at once"].map(|sort| format!("{program}: {sort}")));
+    }
+    for program in ["solve", "mark"] {
+        sorts.extend((1..=6).map(|question| format!("{program}: refused {question}")));
+    }
+    for program in ["solve", "paths"] {
+        sorts.extend(["is a folder", "is closed"].map(|how| format!("{program}: standard input {how}")));
     }
     sorts.extend(["tree", "none", "spent 1000000"].map(|sort| format!("solve: {sort}")));
     sorts.extend((1..=6).map(|count| format!("solve: {} in a count", digits_of(count))));
     for (number, most) in [("parent", 2), ("label", 3)] {
         sorts.extend((1..=most).map(|count| format!("solve: {} in a {number}", digits_of(count))));
     }
-    sorts.extend(["is a folder", "is closed"].map(|how| format!("solve: standard input {how}")));
     sorts.extend(["met", "a file that is not there", "a folder"].map(|sort| format!("mark: {sort}")));
     sorts.extend(KIND_NAMES.map(|kind| format!("mark: unmet {kind}")));
     sorts.extend((1..=3).map(|count| format!("mark: {} in a position", digits_of(count))));
     sorts.extend((8..=12).map(|question| format!("mark: refused {question}")));
     let answers = ["below 4,096", "of 4,096", "above 4,096", "above 65,536"];
     sorts.extend(answers.map(|length| format!("mark: an answer {length} bytes")));
+    sorts.extend(["one record", "records", "45 records"].map(|count| format!("paths: {count} written")));
+    sorts.extend([13, 14].map(|question| format!("paths: refused {question}")));
+    sorts.extend(["tree", "none", "refused 2"].map(|verdict| format!("paths: piped on to solve, {verdict}")));
     sorts
 }
 

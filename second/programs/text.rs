@@ -1,7 +1,7 @@
-//! What the programs print (document 01, 'Program `solve`'), made of a verdict.
+//! What the programs print (document 01, 'Program `solve`'; `paths` prints bytes), made of a verdict.
 
 use second::constraint::KIND_NAMES;
-use second::verdict::{MarkerVerdict, SolverVerdict};
+use second::verdict::{MarkerVerdict, PathsVerdict, SolverVerdict};
 use second::Refusal;
 
 pub fn of_solve(verdict: &SolverVerdict) -> String {
@@ -18,6 +18,14 @@ pub fn of_mark(verdict: &MarkerVerdict) -> String {
         MarkerVerdict::Met => "met\n".to_string(),
         MarkerVerdict::Unmet { position, kind } => format!("unmet {position} {}\n", KIND_NAMES[*kind as usize - 1]),
         MarkerVerdict::Refused(Refusal(question)) => format!("refused {question}\n"),
+    }
+}
+
+/// The records as they are, or a line of text that is no constraint file: its length is no multiple of 4.
+pub fn of_paths(verdict: &PathsVerdict) -> Vec<u8> {
+    match verdict {
+        PathsVerdict::Written(records) => records.clone(),
+        PathsVerdict::Refused(Refusal(question)) => format!("refused {question}\n").into_bytes(),
     }
 }
 

@@ -2,8 +2,9 @@
 
 use crate::call::{nothing, open, written, Call};
 use crate::limits::{CHILD_0_1, LISTING, PARENT_AND_CHILD};
+use crate::paths::right_text;
 use crate::{fail, hold_errors, run, text, Trial, ALLOWANCE};
-use second::LEAST_BUFFER;
+use second::{LEAST_BUFFER, LEAST_RECORDS_BUFFER};
 use std::io::Read;
 use std::sync::atomic::{AtomicU64, Ordering};
 
@@ -15,15 +16,21 @@ impl Trial {
         let words = [&*written("constraints", &unmet_at_12), &*written("answer", &PARENT_AND_CHILD)];
         let expected = text::of_mark(&second::mark(&unmet_at_12, &PARENT_AND_CHILD));
         let mark = self.mark.clone();
-        self.at_once("mark: at once", 2_000, &expected, || Call::new(&mark, &words, nothing()));
+        self.at_once("mark: at once", 2_000, expected.as_bytes(), || Call::new(&mark, &words, nothing()));
 
         let path = written("constraints", &LISTING);
         let expected = text::of_solve(&second::solve(&LISTING, LEAST_BUFFER, ALLOWANCE));
         let solve = self.solve.clone();
-        self.at_once("solve: at once", 200, &expected, || Call::new(&solve, &[], open(&path)));
+        self.at_once("solve: at once", 200, expected.as_bytes(), || Call::new(&solve, &[], open(&path)));
+
+        let lines = right_text(100);
+        let path = written("text", &lines);
+        let expected = text::of_paths(&second::paths(&lines, LEAST_RECORDS_BUFFER));
+        let paths = self.paths.clone();
+        self.at_once("paths: at once", 200, &expected, || Call::new(&paths, &[], open(&path)));
     }
 
-    fn at_once(&mut self, name: &str, runs: u64, expected: &str, call: impl Fn() -> Call + Sync) {
+    fn at_once(&mut self, name: &str, runs: u64, expected: &[u8], call: impl Fn() -> Call + Sync) {
         let (mut reader, writer) = std::io::pipe().expect("a pipe is made");
         let left = AtomicU64::new(runs);
         let mut printed = Vec::new();
@@ -41,7 +48,7 @@ impl Trial {
             drop(writer);
             reader.read_to_end(&mut printed).expect("a pipe is read");
         });
-        hold_repeated(name, &printed, expected.as_bytes(), runs);
+        hold_repeated(name, &printed, expected, runs);
         self.runs += runs;
         self.seen.note(name);
     }

@@ -2,6 +2,7 @@
 
 use crate::constraint::{number_of_variables, Constraint};
 use crate::tree::{first_unmet, Assignment, Node, Tree};
+use std::collections::BTreeSet;
 
 /// Every tree shape of this many nodes, as the list of the parents of nodes 1, 2, ...
 pub fn shapes(nodes: usize) -> Vec<Vec<Node>> {
@@ -55,4 +56,34 @@ fn asked_labels(constraints: &[Constraint], assignment: &Assignment, nodes: usiz
         }
     }
     labels
+}
+
+/// Every tree of this many nodes with labels of these, once up to the numbering of its nodes.
+pub fn trees(nodes: usize, labels: &[u8]) -> Vec<Tree> {
+    let mut known = BTreeSet::new();
+    let mut trees = Vec::new();
+    for shape in shapes(nodes) {
+        for labelling in words(labels, nodes) {
+            let tree = tree_of_shape(&shape, labelling);
+            if known.insert(code(&tree, Node(0))) {
+                trees.push(tree);
+            }
+        }
+    }
+    trees
+}
+
+fn words(letters: &[u8], length: usize) -> Vec<Vec<u8>> {
+    (0..length).fold(vec![Vec::new()], |words, _| {
+        words.iter().flat_map(|word| letters.iter().map(|&letter| [word.as_slice(), &[letter]].concat())).collect()
+    })
+}
+
+/// The same for two trees exactly where one is the other numbered anew: label, number of children, and their codes in order.
+fn code(tree: &Tree, node: Node) -> Vec<u8> {
+    let children = (0..tree.parents.len()).map(Node).filter(|&child| tree.parent(child) == Some(node));
+    let mut codes: Vec<Vec<u8>> = children.map(|child| code(tree, child)).collect();
+    codes.sort();
+    let head = vec![tree.label(node), codes.len() as u8];
+    std::iter::once(head).chain(codes).flatten().collect()
 }

@@ -1,17 +1,21 @@
-//! A second solver and marker, written from document 01 and the source papers and from nothing else, to be held against the proved ones.
+//! A second solver, marker and reader of paths, written from documents 01 and 02 and the source papers and from nothing else, to be held
+//! against the proved ones.
 //! Facts are kept in sets and closed by repeating the rules; nothing here is clever, so that each line can be read beside its sentence.
 
 pub mod answer;
 pub mod brute;
 pub mod closure;
 pub mod constraint;
+pub mod path;
 pub mod readoff;
 pub mod search;
+pub mod select;
+pub mod translate;
 pub mod tree;
 pub mod verdict;
 
 use search::Outcome;
-use verdict::{MarkerVerdict, SolverVerdict};
+use verdict::{MarkerVerdict, PathsVerdict, SolverVerdict};
 
 /// The number of the question that a file or buffer fails.
 #[derive(Clone, Copy, PartialEq, Eq, Debug)]
@@ -19,6 +23,8 @@ pub struct Refusal(pub u8);
 
 /// The shortest answer buffer that question 7 lets pass: 17 node records and 16 place records.
 pub const LEAST_BUFFER: usize = 132;
+/// The shortest buffer that question 7 lets pass for the records of paths.
+pub const LEAST_RECORDS_BUFFER: usize = 1024;
 
 pub fn solve(constraint_file: &[u8], buffer_length: usize, allowance: u32) -> SolverVerdict {
     let constraints = match constraint::read(constraint_file) {
@@ -53,4 +59,19 @@ pub fn mark(constraint_file: &[u8], answer_file: &[u8]) -> MarkerVerdict {
         None => MarkerVerdict::Met,
         Some(position) => MarkerVerdict::Unmet { position, kind: constraints[position].kind() },
     }
+}
+
+/// Question 7, then 13, then 14.
+pub fn paths(text: &[u8], buffer_length: usize) -> PathsVerdict {
+    if buffer_length < LEAST_RECORDS_BUFFER {
+        return PathsVerdict::Refused(Refusal(7));
+    }
+    let Some(lines) = path::read(text) else {
+        return PathsVerdict::Refused(Refusal(13));
+    };
+    let translation = translate::translate(&lines);
+    if translation.variables > translate::MOST_VARIABLES {
+        return PathsVerdict::Refused(Refusal(14));
+    }
+    PathsVerdict::Written(constraint::write(&translation.records))
 }

@@ -1,4 +1,4 @@
-//! What the solver and the marker answer, and the words for it in the stored files and the examples.
+//! What the solver, the marker and the reader of paths answer, and the words for it in the stored files and the examples.
 
 use crate::constraint::KIND_NAMES;
 use crate::Refusal;
@@ -16,6 +16,12 @@ pub enum SolverVerdict {
 pub enum MarkerVerdict {
     Met,
     Unmet { position: usize, kind: u8 },
+    Refused(Refusal),
+}
+
+#[derive(Clone, PartialEq, Eq, Debug)]
+pub enum PathsVerdict {
+    Written(Vec<u8>),
     Refused(Refusal),
 }
 
@@ -42,6 +48,15 @@ impl fmt::Display for MarkerVerdict {
     }
 }
 
+impl fmt::Display for PathsVerdict {
+    fn fmt(&self, f: &mut fmt::Formatter) -> fmt::Result {
+        match self {
+            PathsVerdict::Written(records) => write!(f, "written {}", hex(records)),
+            PathsVerdict::Refused(Refusal(question)) => write!(f, "refused {question}"),
+        }
+    }
+}
+
 /// Reads what `Display` writes.
 pub fn parse_solver(words: &[&str]) -> Option<SolverVerdict> {
     match *words {
@@ -62,6 +77,15 @@ pub fn parse_marker(words: &[&str]) -> Option<MarkerVerdict> {
             Some(MarkerVerdict::Unmet { position: position.parse().ok()?, kind })
         }
         ["refused", question] => Some(MarkerVerdict::Refused(Refusal(question.parse().ok()?))),
+        _ => None,
+    }
+}
+
+/// Reads what `Display` writes.
+pub fn parse_paths(words: &[&str]) -> Option<PathsVerdict> {
+    match *words {
+        ["written", records] => Some(PathsVerdict::Written(unhex(records)?)),
+        ["refused", question] => Some(PathsVerdict::Refused(Refusal(question.parse().ok()?))),
         _ => None,
     }
 }

@@ -1,30 +1,54 @@
 //! The line format of `examples/`.
 //!
 //!     # what the file is about
-//!     question NAME           starts a question; its constraint records follow
+//!     question NAME           starts a question; its constraint records or its paths follow
 //!     child 0 1               ... below, strictly-below, same, differ; root 0, leaf 0; label 0 a (or the label's number)
 //!     times 256 leaf 0        a record so many times
 //!     bytes 01 00 ff          bytes as they are
-//!     buffer 131              the lent buffer, 132 unless said
+//!     path child::a[/]        a line of paths with its byte 10, so the question is for the reader of paths
+//!     text child::a           the same without byte 10
+//!     paths                   the same without a byte, for a text that has neither of them
+//!     buffer 131              the lent buffer, 132 unless said, or 1024 for paths
 //!     allowance 5             1000000 unless said
 //!     answer                  a candidate's answer follows, so the question is for the marker
 //!     node 0 0 a              number, parent, label
 //!     var 0 0                 variable, node
-//!     gives tree 2            then its records; or none 2, spent 1, refused 7, met, unmet 0 child
+//!     gives tree 2            then its records; or none 2, spent 1, refused 7, met, unmet 0 child; of paths written, then the records
+//!     then none 0             what the solver gives to the records written: a question of its own
 
 use crate::{Expected, Question};
 use second::constraint::KIND_NAMES;
-use second::verdict::{parse_marker, parse_solver, SolverVerdict};
-use second::LEAST_BUFFER;
+use second::verdict::{parse_marker, parse_paths, parse_solver, PathsVerdict, SolverVerdict};
+use second::{LEAST_BUFFER, LEAST_RECORDS_BUFFER};
+
+/// A verdict in words and the records that follow it.
+type Gives = (Vec<String>, Vec<u8>);
 
 /// A question as far as it has been read.
 struct Draft {
     name: String,
-    constraints: Vec<u8>,
-    buffer: usize,
+    file: Vec<u8>,
+    is_paths: bool,
+    buffer: Option<usize>,
     allowance: u32,
     answer: Option<Vec<u8>>,
-    gives: Option<(Vec<String>, Vec<u8>)>,
+    gives: Option<Gives>,
+    then: Option<Gives>,
+}
+
+impl Draft {
+    fn new(name: String) -> Draft {
+        Draft {
+            name,
+            file: Vec::new(),
+            is_paths: false,
+            buffer: None,
+            allowance: 1_000_000,
+            answer: None,
+            gives: None,
+            then: None,
+        }
+    }
 }
 
 pub fn questions(text: &str) -> Result<Vec<Question>, String> {
@@ -34,36 +58,35 @@ pub fn questions(text: &str) -> Result<Vec<Question>, String> {
         match words.as_slice() {
             [] => {}
             [first, ..] if first.starts_with('#') => {}
-            ["question", name @ ..] => drafts.push(Draft {
-                name: name.join(" "),
-                constraints: Vec::new(),
-                buffer: LEAST_BUFFER,
-                allowance: 1_000_000,
-                answer: None,
-                gives: None,
-            }),
+            ["question", name @ ..] => drafts.push(Draft::new(name.join(" "))),
             _ => {
                 let draft = drafts.last_mut().ok_or("a line before the first question")?;
                 read_line(draft, &words).ok_or_else(|| format!("line {}: {line}", at + 1))?;
             }
         }
     }
-    drafts.into_iter().map(finish).collect()
+    let mut questions = Vec::new();
+    for draft in &drafts {
+        questions.extend(finish(draft).ok_or_else(|| format!("{}: no verdict that can be read", draft.name))?);
+    }
+    Ok(questions)
 }
 
 fn read_line(draft: &mut Draft, words: &[&str]) -> Option<()> {
+    let verdict_in = |words: &[&str]| Some((words.iter().map(|word| word.to_string()).collect(), Vec::new()));
     match words {
-        ["buffer", length] => draft.buffer = length.parse().ok()?,
+        ["buffer", length] => draft.buffer = Some(length.parse().ok()?),
         ["allowance", allowance] => draft.allowance = allowance.parse().ok()?,
         ["answer"] => draft.answer = Some(Vec::new()),
-        ["gives", verdict @ ..] => {
-            draft.gives = Some((verdict.iter().map(|word| word.to_string()).collect(), Vec::new()));
-        }
+        ["paths"] => draft.is_paths = true,
+        ["gives", verdict @ ..] => draft.gives = verdict_in(verdict),
+        ["then", verdict @ ..] => draft.then = verdict_in(verdict),
         _ => {
-            let file = match (&mut draft.gives, &mut draft.answer) {
-                (Some((_, records)), _) => records,
-                (None, Some(answer)) => answer,
-                (None, None) => &mut draft.constraints,
+            draft.is_paths |= words.contains(&"path") || words.contains(&"text");
+            let file = match (&mut draft.then, &mut draft.gives, &mut draft.answer) {
+                (Some((_, records)), _, _) | (None, Some((_, records)), _) => records,
+                (None, None, Some(answer)) => answer,
+                (None, None, None) => &mut draft.file,
             };
             file.extend(bytes_of(words)?);
         }
@@ -76,6 +99,8 @@ fn bytes_of(words: &[&str]) -> Option<Vec<u8>> {
     match words {
         ["times", times, record @ ..] => Some(bytes_of(record)?.repeat(times.parse().ok()?)),
         ["bytes", bytes @ ..] => bytes.iter().map(|byte| u8::from_str_radix(byte, 16).ok()).collect(),
+        ["path", line] => Some(format!("{line}\n").into_bytes()),
+        ["text", part] => Some(part.as_bytes().to_vec()),
         ["node", own, parent, label] => Some(vec![1, number(own)?, number(parent)?, label_of(label)?]),
         ["var", variable, node] => Some(vec![2, number(variable)?, number(node)?, 0]),
         [name, rest @ ..] => {
@@ -99,24 +124,41 @@ fn label_of(word: &str) -> Option<u8> {
     }
 }
 
-fn finish(draft: Draft) -> Result<Question, String> {
-    let incomplete = || format!("{}: no verdict that can be read", draft.name);
-    let (words, records) = draft.gives.as_ref().ok_or_else(incomplete)?;
-    let words: Vec<&str> = words.iter().map(String::as_str).collect();
-    let expected = match &draft.answer {
-        Some(answer) => {
-            Expected::Marker { answer: answer.clone(), verdict: parse_marker(&words).ok_or_else(incomplete)? }
+/// The question and, where the draft says what the solver gives then, that one too.
+fn finish(draft: &Draft) -> Option<Vec<Question>> {
+    let gives = draft.gives.as_ref()?;
+    let first = match &draft.answer {
+        _ if draft.is_paths => {
+            Expected::Paths { buffer: draft.buffer.unwrap_or(LEAST_RECORDS_BUFFER), verdict: paths_verdict(gives)? }
         }
-        None => {
-            let verdict = match words.as_slice() {
-                ["tree", count] => {
-                    let count = count.parse().map_err(|_| incomplete())?;
-                    SolverVerdict::Tree { count, answer: records.clone() }
-                }
-                _ => parse_solver(&words).ok_or_else(incomplete)?,
-            };
-            Expected::Solver { buffer: draft.buffer, allowance: draft.allowance, verdict }
-        }
+        Some(answer) => Expected::Marker { answer: answer.clone(), verdict: parse_marker(&words_of(gives))? },
+        None => solver_expected(draft, gives)?,
     };
-    Ok(Question { name: draft.name.clone(), constraints: draft.constraints.clone(), expected })
+    let mut questions = vec![Question { name: draft.name.clone(), file: draft.file.clone(), expected: first }];
+    if let Some(then) = &draft.then {
+        let expected = solver_expected(draft, then)?;
+        questions.push(Question { name: format!("{}, then solved", draft.name), file: gives.1.clone(), expected });
+    }
+    Some(questions)
+}
+
+fn words_of((words, _): &Gives) -> Vec<&str> {
+    words.iter().map(String::as_str).collect()
+}
+
+fn paths_verdict(gives: &Gives) -> Option<PathsVerdict> {
+    match words_of(gives).as_slice() {
+        ["written"] => Some(PathsVerdict::Written(gives.1.clone())),
+        words => parse_paths(words),
+    }
+}
+
+/// The records written are put to the solver with the shortest buffer.
+fn solver_expected(draft: &Draft, gives: &Gives) -> Option<Expected> {
+    let verdict = match words_of(gives).as_slice() {
+        ["tree", count] => SolverVerdict::Tree { count: count.parse().ok()?, answer: gives.1.clone() },
+        words => parse_solver(words)?,
+    };
+    let lent = draft.buffer.filter(|_| !draft.is_paths).unwrap_or(LEAST_BUFFER);
+    Some(Expected::Solver { buffer: lent, allowance: draft.allowance, verdict })
 }

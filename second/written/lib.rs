@@ -3,17 +3,19 @@
 mod example;
 
 pub use example::questions as examples;
-use second::verdict::{parse_marker, parse_solver, unhex, MarkerVerdict, SolverVerdict};
+use second::verdict::{parse_marker, parse_solver, unhex, MarkerVerdict, PathsVerdict, SolverVerdict};
 
 pub struct Question {
     pub name: String,
-    pub constraints: Vec<u8>,
+    /// The constraint file, or the text of paths.
+    pub file: Vec<u8>,
     pub expected: Expected,
 }
 
 pub enum Expected {
     Solver { buffer: usize, allowance: u32, verdict: SolverVerdict },
     Marker { answer: Vec<u8>, verdict: MarkerVerdict },
+    Paths { buffer: usize, verdict: PathsVerdict },
 }
 
 /// One question a line: its name, `solve`, constraints, buffer, allowance, verdict; or its name, `mark`, constraints, answer, verdict.
@@ -38,5 +40,5 @@ pub fn stored_question(line: &str) -> Option<Question> {
         }
         _ => return None,
     };
-    Some(Question { name: name.to_string(), constraints: unhex(constraints)?, expected })
+    Some(Question { name: name.to_string(), file: unhex(constraints)?, expected })
 }
