@@ -1,12 +1,14 @@
-// The proved solver, marker and gate (target/staticlib/libcapi.a) beside plain Rust, in one run: first that both give the same results,
-// then the times: medians of 31 rounds, taken in turn by both. bench/run builds and runs it.
+// The proved solver, marker, gate and reader of paths (target/staticlib/libcapi.a) beside plain Rust, in one run: first that both give the
+// same results, then the times: medians of 31 rounds, taken in turn by both. bench/run builds and runs it.
 use std::hint::black_box;
 
 #[path = "../include/cudreth.rs"]
 mod cudreth;
 mod gate;
+mod paths;
 #[path = "marker/plain.rs"]
 mod plain;
+mod readers;
 mod sets;
 #[path = "marker/cases.rs"]
 mod sheets;
@@ -305,9 +307,11 @@ fn main() {
     let inputs = inputs(&dir);
     let day = sets::day(20_261_115, 40_000);
     agree(&inputs, &day, 100_000);
+    readers::agree(100_000);
     time_files(&inputs);
     time_day(&day);
     time_marker();
     time_gate(&inputs);
     time_growth();
+    readers::time();
 }
