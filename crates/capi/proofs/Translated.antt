@@ -1,4 +1,4 @@
--- The number of what the path reader answers; it fits, since a text of 16 variables has at most 46 records.
+-- The number of what the path reader answers; it fits, since at most 45 records are written.
 use mathlib.Core.Path.{_≡_, refl, sym, ap, _∙_, subst}
 use mathlib.Core.List.{List}
 use Prim.Native.Nat.{ℕ, _+_, _*_, _≤_}
@@ -6,15 +6,13 @@ use native.Mathlib.Omega.{arith}
 use lib.ListN.{length}
 use lib.Dec.{leb}
 use Rattle.meaning.specs.Paths.{Path}
-use Rattle.meaning.specs.PathRecords.{recordsOf, variablesOf}
+use Rattle.meaning.specs.PathRecords.{variablesOf}
 use Rattle.meaning.specs.Results.{told, PathsRead, paths-refused, paths-written, pathsWrote, pathsNumber}
 use Rattle.meaning.specs.Promises.{PathsPromise}
 use Rattle.meaning.proofs.Tests.{is-le}
-use Rattle.meaning.proofs.PathCounts.{records-few}
 use Rattle.theory.specs.PathReader.{Got, nothing, got, textPaths, pathsAnswer, answerOf, readPaths}
 use Rattle.theory.proofs.PathForm.{both}
-use Rattle.theory.proofs.PathFile.{file-length}
-use Rattle.theory.proofs.PathPromise.{text-form, read-keeps}
+use Rattle.theory.proofs.PathPromise.{text-form, right-records, read-keeps}
 use Rattle.xpath.specs.declared.Answer.{Answer}
 use Rattle.xpath.specs.declared.Answer.the-variants.{Written, Refused}
 use Rattle.xpath.specs.Reading.{AnswerOf}
@@ -24,23 +22,21 @@ use Rattle.capi.specs.Translates.{Translates}
 -- few bytes are written
 abbrev Few : PathsRead → Type 0
 Few (paths-refused q) = Unit {0}
-Few (paths-written bs) = length bs ≤ 184
+Few (paths-written bs) = length bs ≤ 180
 
 answer-few : (s : List ℕ) (g : Got (List Path)) → textPaths s ≡ g → Few (answerOf g)
 unfolding answerOf pathsAnswer
 answer-few s nothing e = tt
 answer-few s (got ps q) e =
-    both Few (leb (variablesOf ps) 16) _ _
-    (λ y. let v : variablesOf ps ≤ 16 = is-le y in let f = text-form s (got ps q) e .few-lines in let r = records-few ps in let d = file-length (recordsOf ps) in omega arith)
-    tt
+    both Few (leb (variablesOf ps) 16) _ _ (λ y. right-records (text-form s (got ps q) e) (is-le y) .short) tt
 
 read-few : (s buffer : List ℕ) → Few (readPaths s buffer)
 unfolding readPaths
 read-few s buffer = both Few (leb 1024 (length buffer)) _ _ (λ y. answer-few s (textPaths s) refl) tt
 
 module _ (s buffer : List ℕ) (r : Answer) (n : ℕ) (h : AnswerOf (readPaths s buffer) r) where
-  pub bytes-few : r ≡ Written n → n ≤ 184
-  bytes-few e = let z = answer-written (readPaths s buffer) r n h e in let f : length (z .0) ≤ 184 = subst Few (z .1) (read-few s buffer) in let d = z .2 in omega arith
+  pub bytes-few : r ≡ Written n → n ≤ 180
+  bytes-few e = let z = answer-written (readPaths s buffer) r n h e in let f : length (z .0) ≤ 180 = subst Few (z .1) (read-few s buffer) in let d = z .2 in omega arith
 
   module _ (after : List ℕ) (w : after ≡ pathsWrote (readPaths s buffer) buffer) where
     translates : {k : ℕ} → k ≡ pathsNumber (readPaths s buffer) → Translates s buffer k after

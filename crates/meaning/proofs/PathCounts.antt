@@ -162,3 +162,22 @@ variables-are (p ∷ ps) l =
 pub records-few : (ps : List Path) → length (recordsOf ps) + 2 ≤ 2 * variablesOf ps + 2 * length ps
 unfolding variablesOf recordsOf linesSheet
 records-few ps = blank-short (linesSheet ps blankSheet) (2 * length ps) (lines-short ps blankSheet blank-fine blank-begun)
+
+-- the start of a first line has a number, and at most one record
+first-short : (p : Path) → length (lineSheet p blankSheet .records) + 2 ≤ 2 * lineSheet p blankSheet .next + 1
+unfolding lineSheet withRecords nextTaken rooted rootedBy blankSheet
+first-short alone = omega arith
+first-short (from-root ss) =
+    let w = rooted blankSheet in
+    let c = end-counted ss 1 w (named-next w 1 (rooted-counted blankSheet (begun-rooted blankSheet blank-fine blank-begun) .covered)) .short in omega (arith, c)
+first-short (from-here ss) = let c = end-counted ss 1 (nextTaken blankSheet) (omega arith) .short in omega (arith, c)
+
+-- so there is one record less
+pub records-most : (ps : List Path) → 1 ≤ length ps → length (recordsOf ps) + 3 ≤ 2 * variablesOf ps + 2 * length ps
+unfolding variablesOf recordsOf linesSheet
+records-most [] l = absurd (omega arith)
+records-most (p ∷ ps) l =
+    let v = lineSheet p blankSheet in
+    let c = lines-short ps v (line-grown p blankSheet blank-fine .fine) (covered-begun v (line-counted p blankSheet blank-fine blank-begun .covered)) in
+    let f = first-short p in
+    omega arith

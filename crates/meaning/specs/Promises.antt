@@ -53,10 +53,11 @@ pub record MarkerPromise (file answer : List ℕ) (r : Marked) : Type 0 where
   pub answers : {cs : List Constraint} {vs : List NodeRecord} {ps : List Node} → judge file ≡ accepted cs → judgeAnswer (vars cs) answer ≡ accepted-answer vs ps
       → (m : Mark) × (r ≡ marker-answers m) × RightMark (vars cs) cs vs ps m
 
--- the records of some lines are a constraint file, and "can be met if and only if some tree has a node selected by every line"; of one tree, these
--- nodes are those where variable 0 can stand
+-- the records of some lines are a constraint file of at most 45 records, and "can be met if and only if some tree has a node selected by every
+-- line"; of one tree, these nodes are those where variable 0 can stand
 pub record RightRecords (ps : List Path) : Type 0 where
   pub accepts : judge (fileBytes (recordsOf ps)) ≡ accepted (recordsOf ps)
+  pub short : length (fileBytes (recordsOf ps)) ≤ 180
   pub met-iff : CanBeMet (recordsOf ps) ↔ SomeTreeSelects ps
   pub ends-iff : {t : Tree} → IsTree t → {v : Node} → v < t .size
       → ((p : Path) → List·Memᴰ p ps → Selects t p v) ↔ ((a : Assignment) × (a 0 ≡ v) × MeetsAll (vars (recordsOf ps)) t a (recordsOf ps))

@@ -13,7 +13,7 @@ use Rattle.meaning.specs.Paths.{Path}
 use Rattle.meaning.specs.PathRecords.{blankSheet, recordsOf, variablesOf, recordBytes, fileBytes}
 use Rattle.meaning.proofs.Tests.{pick-yes, and-both, le-yes, eq-yes}
 use Rattle.meaning.proofs.PathSheets.{Lettered, blank-fine, lines-grown}
-use Rattle.meaning.proofs.PathCounts.{records-few}
+use Rattle.meaning.proofs.PathCounts.{records-few, records-most}
 
 pair-judged : (k : ℕ → ℕ → Constraint) (x y : ℕ) → suc (max x y) ≤ 16 → judgePair k x y 0 ≡ good (k x y)
 unfolding judgePair pick
@@ -82,3 +82,7 @@ bytes-accepted ps l h =
     let short : length (fileBytes (recordsOf ps)) ≤ 1024 = omega arith in
     let whole : length (fileBytes (recordsOf ps)) % 4 ≡ 0 = ap (λ k. k % 4) e ∙ mul-mod-left (length (recordsOf ps)) 4 in
     pick-yes _ _ (le-yes short) ∙ pick-yes _ _ (eq-yes whole) ∙ file-judged (recordsOf ps) (records-low ps h) (records-lettered ps)
+
+-- at most 45 records
+pub bytes-few : (ps : List Path) → 1 ≤ length ps → length ps ≤ 8 → variablesOf ps ≤ 16 → length (fileBytes (recordsOf ps)) ≤ 180
+bytes-few ps k l h = let e = file-length (recordsOf ps) in let m = records-most ps k in omega arith

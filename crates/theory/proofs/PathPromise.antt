@@ -16,8 +16,7 @@ use Rattle.meaning.specs.Promises.{RightRecords, PathsPromise}
 use Rattle.theory.specs.PathReader.{Got, nothing, got, andThen, linesAt, textPaths, pathsAnswer, answerOf, readPaths}
 use Rattle.theory.proofs.PathReader.{form-unique}
 use Rattle.theory.proofs.PathForm.{both, form-read, read-form}
-use Rattle.meaning.proofs.PathCounts.{records-few}
-use Rattle.theory.proofs.PathFile.{file-length, bytes-accepted}
+use Rattle.theory.proofs.PathFile.{bytes-accepted, bytes-few}
 use Rattle.meaning.proofs.PathMeaning.{met-iff-selected, ends-iff}
 use Rattle.meaning.proofs.Tests.{clash, yes-case, pick-yes, pick-no, is-le, le-yes}
 
@@ -72,7 +71,7 @@ text-form text (got ps r) e = subst (FormIf text) e (paths-form text)
 
 -- few records, so they fit
 fits : (text : List ℕ) (ps : List Path) → OfForm text ps → variablesOf ps ≤ 16 → length (fileBytes (recordsOf ps)) ≤ 1024
-fits text ps f h = let e = file-length (recordsOf ps) in let r = records-few ps in let l = f .few-lines in omega arith
+fits text ps f h = let e = bytes-few ps (f .some-line) (f .few-lines) h in omega arith
 
 -- what is written fits the buffer
 abbrev Fits : List ℕ → PathsRead → Type 0
@@ -96,7 +95,7 @@ kept-length buffer (paths-written bs) f = let e = length-append bs (drop (length
 
 -- what is written can be met exactly when some tree has a node that every line selects
 pub right-records : {text : List ℕ} {ps : List Path} → OfForm text ps → variablesOf ps ≤ 16 → RightRecords ps
-right-records {ps = ps} f h = record { accepts = bytes-accepted ps (f .few-lines) h; met-iff = met-iff-selected ps; ends-iff = ends-iff ps }
+right-records {ps = ps} f h = record { accepts = bytes-accepted ps (f .few-lines) h; short = bytes-few ps (f .some-line) (f .few-lines) h; met-iff = met-iff-selected ps; ends-iff = ends-iff ps }
 
 pub read-keeps : (text buffer : List ℕ) → PathsPromise text buffer (readPaths text buffer) (pathsWrote (readPaths text buffer) buffer)
 unfolding readPaths answerOf pathsAnswer
