@@ -10,7 +10,7 @@ use lib.Dec.{leb}
 use Rattle.meaning.specs.Finite.{pick}
 use Rattle.meaning.specs.Paths.{Path}
 use Rattle.meaning.specs.Files.{Judged, refused, judge}
-use Rattle.meaning.specs.Results.{PathsRead, paths-refused}
+use Rattle.meaning.specs.Results.{paths-refused}
 use Rattle.meaning.specs.Text.{bytesRead}
 use Rattle.meaning.proofs.Tests.{pick-no, is-le}
 use Rattle.theory.specs.Programs.{solvedBy, solver, markedBy, marker}

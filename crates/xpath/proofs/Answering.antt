@@ -2,14 +2,14 @@
 use mathlib.Core.Path.{_≡_, refl, sym, ap, _∙_, subst}
 use mathlib.Core.Bool.{Bool, true, false, false≢true}
 use mathlib.Core.List.{List, [], _∷_, _++_}
-use Prim.Native.Nat.{ℕ, zero, suc, _+_, _*_, _≤_, _<_, suc-le-suc, zero-le}
+use Prim.Native.Nat.{ℕ, _+_, _≤_, _<_, suc-le-suc, zero-le}
 use native.Mathlib.Omega.{arith}
 use native.Mathlib.Nat.{not-suc-le-zero}
 use native.Mathlib.Decide.{decLe}
 use lib.ListN.{length, getD, set, take, drop, replicate, length-replicate, length-set, getD-replicate}
 use lib.Seq.{getD-set-same, getD-set-other}
-use lib.Dec.{eqb, leb}
-use Rattle.meaning.specs.Finite.{Yes, pick}
+use lib.Dec.{leb}
+use Rattle.meaning.specs.Finite.{pick}
 use Rattle.meaning.specs.Paths.{Path, linesText, OfForm}
 use Rattle.meaning.specs.PathRecords.{Sheet, blankSheet, linesSheet, recordsOf, variablesOf, fileBytes}
 use Rattle.meaning.specs.Results.{PathsRead, paths-refused, paths-written, pathsWrote}

@@ -1,19 +1,16 @@
 -- Bytes copied one by one to the front of a buffer.
-use mathlib.Core.Path.{_≡_, refl, sym, ap, _∙_, subst}
-use mathlib.Core.List.{List, [], _∷_, _++_, append-assoc}
-use Prim.Native.Nat.{ℕ, zero, suc, _+_, _-_, _≤_, _<_}
+use mathlib.Core.Path.{_≡_, refl, sym, ap, _∙_}
+use mathlib.Core.List.{List, [], _∷_, _++_}
+use Prim.Native.Nat.{ℕ, zero, suc, _+_, _≤_, _<_}
 use native.Mathlib.Nat.{le-of-suc-le-suc}
 use native.Mathlib.Numerals.{add-one}
 use native.Mathlib.Omega.{arith}
-use lib.ListN.{length, getD, set, take, drop, length-append, length-drop, length-set}
+use lib.ListN.{length, getD, set, take, drop, length-append, length-drop}
 use lib.Seq.{length-take-le}
 
 -- what the loop holds
 abbrev Copied : ℕ → List ℕ → List ℕ → List ℕ
 Copied i bytes old = take i bytes ++ drop i old
-
-pub copied-none : (bytes old : List ℕ) → old ≡ Copied 0 bytes old
-copied-none bytes old = refl
 
 pub copied-length : (i : ℕ) (bytes old : List ℕ) → i ≤ length bytes → i ≤ length old → length (Copied i bytes old) ≡ length old
 copied-length i bytes old h k =

@@ -1,16 +1,15 @@
 -- A sheet of bytes follows a sheet of records through every function that changes it: a number given away, a record put, a start at the root, the
 -- records of a move. The records lie below the three bytes of state, so a store to one leaves the other.
 use mathlib.Core.Path.{_≡_, refl, sym, ap, _∙_, subst}
-use mathlib.Core.Logic.{_≢_, ⊎-elim}
-use mathlib.Core.Bool.{Bool, true, false}
+use mathlib.Core.Logic.{⊎-elim}
 use mathlib.Core.List.{List, [], _∷_, _++_, append-assoc, append-nil}
-use Prim.Native.Nat.{ℕ, zero, suc, _+_, _*_, _≤_, _<_}
+use Prim.Native.Nat.{ℕ, zero, suc, _+_, _≤_, _<_}
 use native.Mathlib.Decide.{decLe}
 use native.Mathlib.Omega.{arith}
 use lib.ListN.{length, getD, set, take, drop, length-append, length-set}
 use lib.Seq.{sets, take-at, sets-eq, length-sets, getD-set-same, getD-set-other, take-set-le}
 use lib.Dec.{eqb, ltb}
-use Rattle.meaning.specs.Finite.{Yes, pick}
+use Rattle.meaning.specs.Finite.{pick}
 use Rattle.meaning.specs.Tree.{Var}
 use Rattle.meaning.specs.Constraint.{Constraint, is-child, is-below, is-strictly-below, is-same, is-root, is-label}
 use Rattle.meaning.specs.Paths as spec

@@ -10,8 +10,8 @@ use lib.ListN.{length, getD, drop, length-drop}
 use lib.Dec.{eqb}
 use Rattle.meaning.specs.Finite.{Yes, pick}
 use Rattle.meaning.specs.Tree.{Var}
-use Rattle.meaning.specs.Constraint.{Constraint, is-same}
-use Rattle.meaning.specs.Paths.{isLetter, Path, alone, from-root, from-here, Steps, one, more, Step}
+use Rattle.meaning.specs.Constraint.{is-same}
+use Rattle.meaning.specs.Paths.{isLetter, Path, from-root, from-here, Steps, one, more, Step}
 use Rattle.meaning.specs.PathRecords.{Sheet, nextTaken, withRecords, rooted, stepSheet, endSheet, lineSheet, linesSheet, recordBytes}
 use Rattle.meaning.proofs.Tests.{pick-yes, pick-no, eq-yes, is-eq}
 use Rattle.meaning.proofs.PathSheets.{step-next}
@@ -22,7 +22,7 @@ use Rattle.xpath.specs.declared.Moved.{Moved}
 use Rattle.xpath.specs.declared.Moved.the-variants as moved
 use Rattle.xpath.specs.Reading.{MoveRead, nextIn, rootIn, numberedIn, putIn, rootedIn, moveIn, endNumber, endNumbered, Follows, For, ReadTo, BracketsRead, StepRead, EndRead, LineRead, AllRead, LinesRead}
 use Rattle.xpath.proofs.Follow.{numbered-follows, rooted-follows, put-follows}
-use Rattle.xpath.proofs.Returns.{above, read-nothing, read-got, read-along, read-map, byte-at, byte-yes, byte-no, one-on, letter-after, move-none, move-some, step-is}
+use Rattle.xpath.proofs.Returns.{above, read-nothing, read-got, read-along, read-map, byte-yes, byte-no, one-on, letter-after, move-none, move-some, step-is}
 
 -- ---- the steps of a line
 

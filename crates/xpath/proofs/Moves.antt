@@ -18,7 +18,6 @@ use Rattle.meaning.proofs.Tests.{clash, yes-case, pick-yes, pick-no, eq-yes, is
 use Rattle.theory.specs.PathReader.{Got, nothing, got, andThen, byte, front, afterName, axisAt, testBy, testAt, moveAt}
 use Rattle.xpath.specs.declared.Axis as code
 use Rattle.xpath.specs.declared.Named.{Named}
-use Rattle.xpath.specs.declared.Moved.{Moved}
 use Rattle.xpath.specs.declared.Named.the-variants as named
 use Rattle.xpath.specs.declared.Moved.the-variants as moved
 use Rattle.xpath.specs.Reading.{axisFor, AxisRead, MoveRead}

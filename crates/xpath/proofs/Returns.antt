@@ -1,6 +1,6 @@
 -- The readers of a path, its steps, a step and its brackets, return by return: what the callees answered gives what is answered.
 use mathlib.Core.Path.{_≡_, refl, sym, ap, _∙_, subst}
-use mathlib.Core.Bool.{Bool, true, false, false≢true}
+use mathlib.Core.Bool.{true, false, false≢true}
 use mathlib.Core.List.{List}
 use Prim.Native.Nat.{ℕ, zero, suc, _+_, _*_, _-_, _≤_, _<_}
 use native.Mathlib.Nat.{not-suc-le-zero, le-trans, add-zero, zero-lt-suc}
@@ -10,7 +10,7 @@ use lib.Seq.{drop-drop, getD-drop}
 use lib.Dec.{eqb}
 use Rattle.meaning.specs.Finite.{Yes, pick}
 use Rattle.meaning.specs.Tree.{Var}
-use Rattle.meaning.specs.Paths.{Axis, isLetter, Test, testByte, Path, alone, from-root, from-here, Steps, one, more, Step, move, having}
+use Rattle.meaning.specs.Paths.{Axis, isLetter, Test, testByte, Path, from-root, from-here, Steps, one, more, Step, move, having}
 use Rattle.meaning.specs.PathRecords.{Sheet, nextTaken, rooted, pathSheet, stepsSheet, stepSheet}
 use Rattle.meaning.proofs.Tests.{pick-yes, pick-no, eq-yes, is-eq}
 use Rattle.meaning.proofs.PathSheets.{path-next, step-next}

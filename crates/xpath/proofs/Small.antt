@@ -1,13 +1,11 @@
 -- The functions that change a sheet, by their cases.
-use mathlib.Core.Path.{_≡_, refl, sym, ap, _∙_, subst}
+use mathlib.Core.Path.{_≡_, sym, ap, _∙_}
 use mathlib.Core.Bool.{true, false, false≢true}
 use mathlib.Core.List.{List, [], _∷_}
 use Prim.Native.Nat.{ℕ, suc, _+_, _≤_, _<_}
 use native.Mathlib.Omega.{arith}
 use lib.ListN.{set}
 use lib.Seq.{sets}
-use lib.Dec.{eqb, ltb}
-use Rattle.meaning.specs.Finite.{pick}
 use Rattle.meaning.proofs.Tests.{pick-yes, pick-no, lt-yes, is-lt, eq-yes, is-eq}
 use Rattle.xpath.specs.declared.Axis.{Axis}
 use Rattle.xpath.specs.Reading.{nextIn, rootIn, bytesIn, numberedIn, putIn, rootedIn, axisIn, moveIn}
