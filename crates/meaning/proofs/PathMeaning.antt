@@ -8,10 +8,10 @@ use Prim.Native.Nat.{ℕ, zero, suc, _≤_, _<_, zero-le, suc-le-suc}
 use native.Mathlib.Nat.{le-refl, le-trans, not-suc-le-zero}
 use native.Mathlib.Omega.{arith}
 use Rattle.meaning.specs.Tree.{Var, Node, Assignment, Tree, IsTree}
-use Rattle.meaning.specs.Constraint.{Constraint, is-same, is-root, Meets, MeetsAll, vars}
+use Rattle.meaning.specs.Constraint.{Constraint, is-same, is-root, Meets, MeetsAll, CanBeMet, vars}
 use Rattle.meaning.specs.Paths.{Path, alone, from-root, from-here, Steps, one, more, Step, move, having}
 use Rattle.meaning.specs.Selection.{Expr, Denotes, pathExpr, stepsExpr, stepExpr, Selects, SomeTreeSelects}
-use Rattle.meaning.specs.PathRecords.{Sheet, blankSheet, nextTaken, withRecords, rootedBy, rooted, moveRecords, pathSheet, stepsSheet, stepSheet, endSheet, lineSheet, linesSheet, recordsOf, variablesOf, CanBeMet}
+use Rattle.meaning.specs.PathRecords.{Sheet, blankSheet, nextTaken, withRecords, rootedBy, rooted, moveRecords, pathSheet, stepsSheet, stepSheet, endSheet, lineSheet, linesSheet, recordsOf, variablesOf}
 use Rattle.meaning.proofs.Trees.{no-parent}
 use Rattle.meaning.specs.Finite.{pick}
 use Rattle.meaning.proofs.Tests.{pick-yes, pick-no, is-eq, self-eq}
@@ -308,12 +308,12 @@ pub ends-iff : (ps : List Path) {t : Tree} → IsTree t → {v : Node} → v < t
     → ((p : Path) → List·Memᴰ p ps → Selects t p v) ↔ ((a : Assignment) × (a 0 ≡ v) × MeetsAll (vars (recordsOf ps)) t a (recordsOf ps))
 ends-iff ps {t} i {v} l = (placed-at ps t i v l, λ m p h. subst (Selects t p) (m .1) (selected-at ps t i (m .0) (m .2) p h))
 
-pub met-if-selected : (ps : List Path) → SomeTreeSelects ps → CanBeMet (recordsOf ps)
+pub met-if-selected : (ps : List Path) → SomeTreeSelects ps → CanBeMet (vars (recordsOf ps)) (recordsOf ps)
 met-if-selected ps s =
     let e = placed-at ps (s .tree) (s .is-tree) (s .node) (s .inside) (s .by-every) in
     record { tree = s .tree; is-tree = s .is-tree; assignment = e .0; meets = e .2 }
 
-pub selected-if-met : (ps : List Path) → CanBeMet (recordsOf ps) → SomeTreeSelects ps
+pub selected-if-met : (ps : List Path) → CanBeMet (vars (recordsOf ps)) (recordsOf ps) → SomeTreeSelects ps
 selected-if-met [] m =
     record { tree = m .tree; is-tree = m .is-tree; node = 0; inside = m .is-tree .some-node; by-every = λ p h. absurd (List·Memᴰ·not-nil h) }
 selected-if-met (p ∷ ps) m =
@@ -327,5 +327,5 @@ selected-if-met (p ∷ ps) m =
     }
 
 -- "The records written can be met if and only if some tree has a node selected by every line"
-pub met-iff-selected : (ps : List Path) → CanBeMet (recordsOf ps) ↔ SomeTreeSelects ps
+pub met-iff-selected : (ps : List Path) → CanBeMet (vars (recordsOf ps)) (recordsOf ps) ↔ SomeTreeSelects ps
 met-iff-selected ps = (selected-if-met ps, met-if-selected ps)

@@ -2,8 +2,8 @@
 -- one definition.
 use mathlib.Core.List.{List, [], _∷_, _++_}
 use Prim.Native.Nat.{ℕ, zero, suc}
-use Rattle.meaning.specs.Tree.{Var, Assignment, Tree, IsTree}
-use Rattle.meaning.specs.Constraint.{Constraint, is-child, is-below, is-strictly-below, is-same, is-differ, is-root, is-leaf, is-label, MeetsAll, vars}
+use Rattle.meaning.specs.Tree.{Var}
+use Rattle.meaning.specs.Constraint.{Constraint, is-child, is-below, is-strictly-below, is-same, is-differ, is-root, is-leaf, is-label}
 use Rattle.meaning.specs.Paths.{Axis, to-self, to-child, to-parent, to-descendant, to-ancestor, to-descendant-or-self, to-ancestor-or-self, Test, letter, any, Path, alone, from-root, from-here, Steps, one, more, Step, move, having}
 
 -- what has been written so far: the next number, the root's number (0 while it has none, since 0 is never the root's), the records
@@ -94,13 +94,6 @@ recordsOf ps = linesSheet ps blankSheet .records
 unfoldable pub variablesOf : List Path → ℕ
 unfolding linesSheet blankSheet
 variablesOf ps = linesSheet ps blankSheet .next
-
--- "The records written can be met"
-pub record CanBeMet (cs : List Constraint) : Type 0 where
-  pub tree : Tree
-  pub is-tree : IsTree tree
-  pub assignment : Assignment
-  pub meets : MeetsAll (vars cs) tree assignment cs
 
 -- ---- their bytes
 

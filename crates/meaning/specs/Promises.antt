@@ -5,7 +5,7 @@ use mathlib.Core.List.{List, List·Memᴰ}
 use Prim.Native.Nat.{ℕ, _+_, _≤_, _<_}
 use lib.ListN.{length}
 use Rattle.meaning.specs.Tree.{Node, Assignment, Tree, IsTree}
-use Rattle.meaning.specs.Constraint.{Constraint, MeetsAll, vars}
+use Rattle.meaning.specs.Constraint.{Constraint, MeetsAll, CanBeMet, vars}
 use Rattle.meaning.specs.ReadOff.{NodeRecord, treeOf}
 use Rattle.meaning.specs.Demand.{Answer, a-tree, Demand3}
 use Rattle.meaning.specs.Marking.{Mark, met, Marks}
@@ -13,7 +13,7 @@ use Rattle.meaning.specs.Files.{refused, accepted, judge, refused-answer
 use Rattle.meaning.specs.Results.{Solved, solver-refuses, solver-answers, Marked, marker-refuses, marker-answers, written, PathsRead, paths-refused, paths-written, pathsWrote}
 use Rattle.meaning.specs.Paths.{Path, OfForm}
 use Rattle.meaning.specs.Selection.{Selects, SomeTreeSelects}
-use Rattle.meaning.specs.PathRecords.{recordsOf, variablesOf, fileBytes, CanBeMet}
+use Rattle.meaning.specs.PathRecords.{recordsOf, variablesOf, fileBytes}
 
 -- a mark of an accepted tree and assignment: the first unmet constraint, or met exactly when all are met
 pub record RightMark (n : ℕ) (cs : List Constraint) (vs : List NodeRecord) (ps : List Node) (m : Mark) : Type 0 where
@@ -58,7 +58,7 @@ pub record MarkerPromise (file answer : List ℕ) (r : Marked) : Type 0 where
 pub record RightRecords (ps : List Path) : Type 0 where
   pub accepts : judge (fileBytes (recordsOf ps)) ≡ accepted (recordsOf ps)
   pub short : length (fileBytes (recordsOf ps)) ≤ 180
-  pub met-iff : CanBeMet (recordsOf ps) ↔ SomeTreeSelects ps
+  pub met-iff : CanBeMet (vars (recordsOf ps)) (recordsOf ps) ↔ SomeTreeSelects ps
   pub ends-iff : {t : Tree} → IsTree t → {v : Node} → v < t .size
       → ((p : Path) → List·Memᴰ p ps → Selects t p v) ↔ ((a : Assignment) × (a 0 ≡ v) × MeetsAll (vars (recordsOf ps)) t a (recordsOf ps))
 

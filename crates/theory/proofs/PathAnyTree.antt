@@ -6,10 +6,11 @@ use mathlib.Core.List.{List}
 use Prim.Native.Nat.{_≤_}
 use native.Mathlib.Omega.{arith}
 use Rattle.meaning.specs.Tree.{Node, Label, Tree, IsTree}
+use Rattle.meaning.specs.Constraint.{CanBeMet, vars}
 use Rattle.meaning.specs.AnyTree.{AnyTree, Numbering}
 use Rattle.meaning.specs.Paths.{Axis, to-self, to-child, to-parent, to-descendant, to-ancestor, to-descendant-or-self, to-ancestor-or-self, Test, letter, any, Path, alone, from-root, from-here, Steps, one, more, Step, move, having}
 use Rattle.meaning.specs.Selection.{Expr, ε, ↑, ↓, ↑*, ↓*, document-root, tag, over, filter, Denotes, DenotesAny, axisExpr, testExpr, pathExpr, stepsExpr, stepExpr, SomeTreeSelects, SomeAnyTreeSelects}
-use Rattle.meaning.specs.PathRecords.{recordsOf, CanBeMet}
+use Rattle.meaning.specs.PathRecords.{recordsOf}
 use Rattle.meaning.proofs.Trees.{no-parent}
 use Rattle.theory.proofs.Numbering.{numbered}
 use Rattle.theory.proofs.AnyTree.{number-reaches, parent-numbered, above-numbered, byte-stays, with-bytes, with-bytes-small, NodeOf, any-tree, any-tree-numbering}
@@ -144,5 +145,5 @@ pub selected-iff-any-selected : (ps : List Path) → SomeTreeSelects ps ↔ Some
 selected-iff-any-selected ps = (any-selected ps, some-selected ps)
 
 -- "The records written can be met if and only if some tree has a node selected by every line", of the trees of source 004
-pub met-iff-any-selected : (ps : List Path) → CanBeMet (recordsOf ps) ↔ SomeAnyTreeSelects ps
+pub met-iff-any-selected : (ps : List Path) → CanBeMet (vars (recordsOf ps)) (recordsOf ps) ↔ SomeAnyTreeSelects ps
 met-iff-any-selected ps = (λ m. any-selected ps (selected-if-met ps m), λ h. met-if-selected ps (some-selected ps h))

@@ -7,13 +7,13 @@ use native.Mathlib.Nat.{le-refl}
 use native.Mathlib.Decide.{decLe}
 use native.Mathlib.Omega.{arith}
 use lib.ListN.{length}
-use Rattle.meaning.specs.Constraint.{Constraint, vars}
+use Rattle.meaning.specs.Constraint.{Constraint, CanBeMet, vars}
 use Rattle.meaning.specs.ReadOff.{treeOf}
 use Rattle.meaning.specs.Demand.{a-tree, a-none}
 use Rattle.meaning.specs.Files.{accepted, judge, assigned}
 use Rattle.meaning.specs.Paths.{Path, OfForm}
 use Rattle.meaning.specs.Selection.{SomeTreeSelects, SomeAnyTreeSelects}
-use Rattle.meaning.specs.PathRecords.{recordsOf, variablesOf, fileBytes, CanBeMet}
+use Rattle.meaning.specs.PathRecords.{recordsOf, variablesOf, fileBytes}
 use Rattle.meaning.specs.Results.{Solved, solver-answers, paths-written}
 use Rattle.meaning.specs.Promises.{SolverPromise, PathsPromise}
 use Rattle.theory.proofs.AnyTree.{NodeOf, any-tree, tree-meets-any, promised-none}
@@ -23,10 +23,10 @@ use Rattle.theory.proofs.PathPromise.{right-records}
 
 -- 'tree': the answer file is one that the marker says met of
 promised-tree : {A c : ℕ} {file buffer after bs : List ℕ} {r : Solved} {cs : List Constraint} → SolverPromise A file buffer r after
-    → judge file ≡ accepted cs → r ≡ solver-answers (a-tree c bs) → CanBeMet cs
+    → judge file ≡ accepted cs → r ≡ solver-answers (a-tree c bs) → CanBeMet (vars cs) cs
 promised-tree {A} {c} {file} {buffer} {bs = bs} {r = r} {cs = cs} p e q = go (decLe 132 (length buffer))
   where
-    go : Dec (132 ≤ length buffer) → CanBeMet cs
+    go : Dec (132 ≤ length buffer) → CanBeMet (vars cs) cs
     go (no l) = absurd (let s = p .short-buffer e (omega arith) in let z : _≡_ {A = ℕ} 0 1 = cc in omega arith)
     go (yes l) =
         let w = p .answers e l in
