@@ -9,9 +9,8 @@ use Rattle.meaning.specs.Paths.{Path}
 use Rattle.meaning.specs.PathRecords.{variablesOf}
 use Rattle.meaning.specs.Results.{told, PathsRead, paths-refused, paths-written, pathsWrote, pathsNumber}
 use Rattle.meaning.specs.Promises.{PathsPromise}
-use Rattle.meaning.proofs.Tests.{is-le}
+use Rattle.meaning.proofs.Tests.{pick-has, is-le}
 use Rattle.theory.specs.PathReader.{Got, nothing, got, textPaths, pathsAnswer, answerOf, readPaths}
-use Rattle.theory.proofs.PathForm.{both}
 use Rattle.theory.proofs.PathPromise.{text-form, right-records, read-keeps}
 use Rattle.xpath.specs.declared.Answer.{Answer}
 use Rattle.xpath.specs.declared.Answer.the-variants.{Written, Refused}
@@ -28,11 +27,11 @@ answer-few : (s : List ℕ) (g : Got (List Path)) → textPaths s ≡ g → Few 
 unfolding answerOf pathsAnswer
 answer-few s nothing e = tt
 answer-few s (got ps q) e =
-    both Few (leb (variablesOf ps) 16) _ _ (λ y. right-records (text-form s (got ps q) e) (is-le y) .short) tt
+    pick-has Few (leb (variablesOf ps) 16) _ _ (λ y. right-records (text-form s (got ps q) e) (is-le y) .short) tt
 
 read-few : (s buffer : List ℕ) → Few (readPaths s buffer)
 unfolding readPaths
-read-few s buffer = both Few (leb 1024 (length buffer)) _ _ (λ y. answer-few s (textPaths s) refl) tt
+read-few s buffer = pick-has Few (leb 1024 (length buffer)) _ _ (λ y. answer-few s (textPaths s) refl) tt
 
 module _ (s buffer : List ℕ) (r : Answer) (n : ℕ) (h : AnswerOf (readPaths s buffer) r) where
   pub bytes-few : r ≡ Written n → n ≤ 180

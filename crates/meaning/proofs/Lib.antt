@@ -9,6 +9,8 @@ pub mod Facts
 pub mod Least
 pub mod Holds
 pub mod Constraints
+-- a constraint file as its records
+pub mod Records
 -- joins: the first is one, and one of its alternatives holds; how many alternatives a search enters
 pub mod Joins
 pub mod Choices

@@ -7,12 +7,12 @@ use Prim.Native.Nat.{ℕ, zero, suc, max, _≤_, _<_}
 use native.Mathlib.Nat.{le-refl, le-trans, zero-lt-suc, not-suc-le-zero}
 use native.Mathlib.Omega.{arith}
 use Rattle.meaning.specs.Tree.{Var}
-use Rattle.meaning.specs.Constraint.{Constraint, is-child, is-below, is-strictly-below, is-same, is-differ, is-root, is-leaf, is-label, named, vars}
+use Rattle.meaning.specs.Constraint.{Constraint, is-same, is-root, named, vars}
 use Rattle.meaning.specs.Finite.{Yes}
 use Rattle.meaning.specs.Paths.{Axis, to-self, to-child, to-parent, to-descendant, to-ancestor, to-descendant-or-self, to-ancestor-or-self, isLetter, Test, letter, any, Path, alone, from-root, from-here, Steps, one, more, Step, move, having}
 use Rattle.meaning.specs.PathRecords.{Sheet, blankSheet, nextTaken, withRecords, rootedBy, rooted, axisRecord, moveRecords, pathSheet, stepsSheet, stepSheet, endSheet, lineSheet, linesSheet}
 use Rattle.meaning.proofs.Tests.{and-left, and-right, is-le}
-use Rattle.meaning.proofs.Constraints.{named-most}
+use Rattle.meaning.proofs.Constraints.{OnLabelOf, named-most}
 
 -- ---- the records of a move
 
@@ -33,14 +33,7 @@ move-vars k any x y = let e = axis-named k x y in omega arith
 
 -- its label, if it has one, is a letter
 abbrev pub Lettered : Constraint → Type 0
-Lettered (is-child x y) = Unit {0}
-Lettered (is-below x y) = Unit {0}
-Lettered (is-strictly-below x y) = Unit {0}
-Lettered (is-same x y) = Unit {0}
-Lettered (is-differ x y) = Unit {0}
-Lettered (is-root x) = Unit {0}
-Lettered (is-leaf x) = Unit {0}
-Lettered (is-label x l) = (97 ≤ l) × (l ≤ 122)
+Lettered = OnLabelOf (λ l. (97 ≤ l) × (l ≤ 122))
 
 axis-lettered : (k : Axis) (x y : Var) → Lettered (axisRecord k x y)
 unfolding axisRecord

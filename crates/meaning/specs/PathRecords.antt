@@ -3,7 +3,8 @@
 use mathlib.Core.List.{List, [], _∷_, _++_}
 use Prim.Native.Nat.{ℕ, zero, suc}
 use Rattle.meaning.specs.Tree.{Var}
-use Rattle.meaning.specs.Constraint.{Constraint, is-child, is-below, is-strictly-below, is-same, is-differ, is-root, is-leaf, is-label}
+use Rattle.meaning.specs.Constraint.{Constraint, is-child, is-below, is-strictly-below, is-same, is-root, is-label}
+use Rattle.meaning.specs.Files.{quadOf}
 use Rattle.meaning.specs.Paths.{Axis, to-self, to-child, to-parent, to-descendant, to-ancestor, to-descendant-or-self, to-ancestor-or-self, Test, letter, any, Path, alone, from-root, from-here, Steps, one, more, Step, move, having}
 
 -- what has been written so far: the next number, the root's number (0 while it has none, since 0 is never the root's), the records
@@ -97,16 +98,8 @@ variablesOf ps = linesSheet ps blankSheet .next
 
 -- ---- their bytes
 
--- kind, x, y, label
 unfoldable pub recordBytes : Constraint → List ℕ
-recordBytes (is-child x y) = 1 ∷ x ∷ y ∷ 0 ∷ []
-recordBytes (is-below x y) = 2 ∷ x ∷ y ∷ 0 ∷ []
-recordBytes (is-strictly-below x y) = 3 ∷ x ∷ y ∷ 0 ∷ []
-recordBytes (is-same x y) = 4 ∷ x ∷ y ∷ 0 ∷ []
-recordBytes (is-differ x y) = 5 ∷ x ∷ y ∷ 0 ∷ []
-recordBytes (is-root x) = 6 ∷ x ∷ 0 ∷ 0 ∷ []
-recordBytes (is-leaf x) = 7 ∷ x ∷ 0 ∷ 0 ∷ []
-recordBytes (is-label x l) = 8 ∷ x ∷ 0 ∷ l ∷ []
+recordBytes c = let q = quadOf c in q .first ∷ q .second ∷ q .third ∷ q .fourth ∷ []
 
 unfoldable pub fileBytes : List Constraint → List ℕ
 unfolding recordBytes

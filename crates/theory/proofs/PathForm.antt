@@ -1,7 +1,6 @@
 -- What the path reader has read has that text: by induction on the fuel, each part that is taken away is the text of what is answered. So the
 -- reader decides whether a text is of the form, and which paths it holds.
 use mathlib.Core.Path.{_≡_, refl, sym, ap, _∙_, subst}
-use mathlib.Core.Logic.{⊎-elim}
 use mathlib.Core.Bool.{Bool, true, false, false≢true}
 use mathlib.Core.List.{List, [], _∷_, _++_}
 use Prim.Native.Nat.{ℕ, zero, suc, _≤_, _<_, zero-le, suc-le-suc}
@@ -13,18 +12,12 @@ use Rattle.meaning.specs.Paths.{Axis, to-self, to-child, to-parent, to-descenda
 use Rattle.theory.specs.PathReader.{Got, nothing, got, andThen, byte, front, afterName, axisAt, testBy, testAt, moveAt, pathAt, stepsAt, stepAt, bracketsAt, fuel, linesAt}
 use Rattle.meaning.proofs.PathSheets.{letter-range}
 use Rattle.theory.proofs.PathReader.{move-text, having-text, more-text, lines-read}
-use Rattle.meaning.proofs.Tests.{clash, yes-case, pick-yes, pick-no, is-eq, and-left, and-right}
+use Rattle.meaning.proofs.Tests.{pick-has, is-eq, and-left, and-right}
 
 -- what was read, and the bytes after it, are the bytes
 abbrev pub Reads : {A : Type 0} → (A → List ℕ) → List ℕ → Got A → Type 0
 Reads text bs nothing = Unit {0}
 Reads text bs (got a r) = bs ≡ text a ++ r
-
-pub pick-either : {A : Type 0} (P : A → Type 0) (b : Bool) (x y : A) → (Yes b → P x) → (¬ Yes b → P y) → P (pick b x y)
-pick-either P b x y f g = ⊎-elim (λ t. subst P (sym (pick-yes x y t)) (f t)) (λ z. let n : ¬ Yes b = λ t. clash t z in subst P (sym (pick-no x y n)) (g n)) (yes-case b)
-
-pub both : {A : Type 0} (P : A → Type 0) (b : Bool) (x y : A) → (Yes b → P x) → P y → P (pick b x y)
-both P b x y f g = pick-either P b x y f (λ n. g)
 
 then-reads : {A B : Type 0} (ta : A → List ℕ) (tb : B → List ℕ) (bs cs : List ℕ) (g : Got A) (f : A → List ℕ → Got B)
     → Reads ta bs g → ((a : A) (r : List ℕ) → bs ≡ ta a ++ r → Reads tb cs (f a r)) → Reads tb cs (andThen g f)
@@ -47,7 +40,7 @@ front-is (a ∷ bs) (b ∷ w) h =
 
 name-reads : (a : Axis) (bs : List ℕ) (g : Got Axis) → Reads axisText bs g → Reads axisText bs (afterName a bs g)
 unfolding afterName
-name-reads a bs g h = both (Reads axisText bs) _ _ _ (λ y. front-is bs (axisText a) y) h
+name-reads a bs g h = pick-has (Reads axisText bs) _ _ _ (λ y. front-is bs (axisText a) y) h
 
 axis-reads : (bs : List ℕ) → Reads axisText bs (axisAt bs)
 unfolding axisAt
@@ -62,7 +55,7 @@ testText t = testByte t ∷ []
 test-by : (bs : List ℕ) (v : Bool) (e : isLetter (byte bs) ≡ v) → Reads testText bs (testBy (byte bs) v e (drop 1 bs))
 unfolding testBy testByte
 test-by bs true e = let h : 97 ≤ byte bs = letter-range (byte bs) e .0 in first bs (byte bs) (omega arith) refl
-test-by bs false e = both (Reads testText bs) _ _ _ (λ y. let h : byte bs ≡ 42 = is-eq y in first bs 42 (omega arith) h) tt
+test-by bs false e = pick-has (Reads testText bs) _ _ _ (λ y. let h : byte bs ≡ 42 = is-eq y in first bs 42 (omega arith) h) tt
 
 test-reads : (bs : List ℕ) → Reads testText bs (testAt bs)
 unfolding testAt
@@ -72,7 +65,7 @@ move-reads : (bs : List ℕ) → Reads stepText bs (moveAt bs)
 unfolding moveAt
 move-reads bs =
     then-reads axisText stepText bs bs (axisAt bs) _ (axis-reads bs) λ a r e.
-    both (Reads stepText bs) (front r (58 ∷ 58 ∷ [])) _ _
+    pick-has (Reads stepText bs) (front r (58 ∷ 58 ∷ [])) _ _
     (λ y. then-reads testText stepText (drop 2 r) bs (testAt (drop 2 r)) _ (test-reads (drop 2 r)) λ t q d.
     e ∙ ap (λ (k : List ℕ). axisText a ++ k) (front-is r (58 ∷ 58 ∷ []) y ∙ ap (λ (k : List ℕ). 58 ∷ 58 ∷ k) d) ∙ sym (move-text a t q))
     tt
@@ -86,8 +79,8 @@ mutual
   pub path-reads : (k : ℕ) (bs : List ℕ) → Reads pathText bs (pathAt k bs)
   path-reads zero bs = tt
   path-reads (suc k) bs =
-      both (Reads pathText bs) (eqb (byte bs) 47) _ _
-      (λ y. both (Reads pathText bs) (isLetter (byte (drop 1 bs))) _ _
+      pick-has (Reads pathText bs) (eqb (byte bs) 47) _ _
+      (λ y. pick-has (Reads pathText bs) (isLetter (byte (drop 1 bs))) _ _
       (λ z. then-reads stepsText pathText (drop 1 bs) bs (stepsAt k (drop 1 bs)) _ (steps-reads k (drop 1 bs)) λ ss r e. slash bs y ∙ ap (λ (q : List ℕ). 47 ∷ q) e)
       (slash bs y))
       (then-reads stepsText pathText bs bs (stepsAt k bs) _ (steps-reads k bs) λ ss r e. e)
@@ -96,7 +89,7 @@ mutual
   steps-reads zero bs = tt
   steps-reads (suc k) bs =
       then-reads stepText stepsText bs bs (stepAt k bs) _ (step-reads k bs) λ s r e.
-      both (Reads stepsText bs) (eqb (byte r) 47) _ _
+      pick-has (Reads stepsText bs) (eqb (byte r) 47) _ _
       (λ y. then-reads stepsText stepsText (drop 1 r) bs (stepsAt k (drop 1 r)) _ (steps-reads k (drop 1 r)) λ ss q d.
       e ∙ ap (λ (c : List ℕ). stepText s ++ c) (slash r y ∙ ap (λ (c : List ℕ). 47 ∷ c) d) ∙ sym (more-text s ss q))
       e
@@ -108,9 +101,9 @@ mutual
   brackets-reads : (k : ℕ) (all : List ℕ) (s : Step) (bs : List ℕ) → all ≡ stepText s ++ bs → Reads stepText all (bracketsAt k s bs)
   brackets-reads zero all s bs e = tt
   brackets-reads (suc k) all s bs e =
-      both (Reads stepText all) (eqb (byte bs) 91) _ _
+      pick-has (Reads stepText all) (eqb (byte bs) 91) _ _
       (λ y. then-reads pathText stepText (drop 1 bs) all (pathAt k (drop 1 bs)) _ (path-reads k (drop 1 bs)) λ p r d.
-      both (Reads stepText all) (eqb (byte r) 93) _ _
+      pick-has (Reads stepText all) (eqb (byte r) 93) _ _
       (λ z. brackets-reads k all (having s p) (drop 1 r)
       (let h : byte bs ≡ 91 = is-eq y in
       let g : byte r ≡ 93 = is-eq z in
@@ -137,16 +130,16 @@ path-line : (n : ℕ) (bs : List ℕ) (g : Got Path) → Reads pathText bs g →
     → LinesReads (suc n) bs (andThen g λ p r. pick (eqb (byte r) 10) (andThen (linesAt n (drop 1 r)) λ ps q. got (p ∷ ps) q) nothing)
 path-line n bs nothing e f = tt
 path-line n bs (got p r) e f =
-    both (LinesReads (suc n) bs) (eqb (byte r) 10) _ _
+    pick-has (LinesReads (suc n) bs) (eqb (byte r) 10) _ _
     (λ y. let h : byte r ≡ 10 = is-eq y in
     line-reads n bs (drop 1 r) p (linesAt n (drop 1 r)) (e ∙ ap (λ (c : List ℕ). pathText p ++ c) (first r 10 (omega arith) h)) (f (drop 1 r)))
     tt
 
 pub lines-reads : (n : ℕ) (bs : List ℕ) → LinesReads n bs (linesAt n bs)
 unfolding linesAt linesText
-lines-reads zero bs = both (LinesReads 0 bs) (eqb (length bs) 0) _ _ (λ y. (no-bytes bs y, zero-le, refl)) tt
+lines-reads zero bs = pick-has (LinesReads 0 bs) (eqb (length bs) 0) _ _ (λ y. (no-bytes bs y, zero-le, refl)) tt
 lines-reads (suc n) bs =
-    both (LinesReads (suc n) bs) (eqb (length bs) 0) _ _ (λ y. (no-bytes bs y, zero-le, refl))
+    pick-has (LinesReads (suc n) bs) (eqb (length bs) 0) _ _ (λ y. (no-bytes bs y, zero-le, refl))
     (path-line n bs (pathAt (fuel bs) bs) (path-reads (fuel bs) bs) (λ r. lines-reads n r))
 
 -- ---- the reader decides the form

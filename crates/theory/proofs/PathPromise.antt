@@ -15,10 +15,10 @@ use Rattle.meaning.specs.Results.{PathsRead, paths-refused, paths-written, path
 use Rattle.meaning.specs.Promises.{RightRecords, PathsPromise}
 use Rattle.theory.specs.PathReader.{Got, nothing, got, andThen, linesAt, textPaths, pathsAnswer, answerOf, readPaths}
 use Rattle.theory.proofs.PathReader.{form-unique}
-use Rattle.theory.proofs.PathForm.{both, form-read, read-form}
+use Rattle.theory.proofs.PathForm.{form-read, read-form}
 use Rattle.theory.proofs.PathFile.{bytes-accepted, bytes-few}
 use Rattle.meaning.proofs.PathMeaning.{met-iff-selected, ends-iff}
-use Rattle.meaning.proofs.Tests.{clash, yes-case, pick-yes, pick-no, is-le, le-yes}
+use Rattle.meaning.proofs.Tests.{clash, yes-case, pick-yes, pick-no, pick-has, is-le, le-yes}
 
 -- ---- a text of the form, or none
 
@@ -57,11 +57,11 @@ FormIf text (got ps r) = OfForm text ps
 
 lines-form : (text : List ℕ) → length text ≤ 1024 → (g : Got (List Path)) → linesAt 8 text ≡ g → FormIf text (andThen g λ ps r. pick (leb 1 (length ps)) (got ps r) nothing)
 lines-form text l nothing e = tt
-lines-form text l (got ps r) e = both (FormIf text) (leb 1 (length ps)) _ _ (λ y. read-form text ps r e (is-le y) l) tt
+lines-form text l (got ps r) e = pick-has (FormIf text) (leb 1 (length ps)) _ _ (λ y. read-form text ps r e (is-le y) l) tt
 
 paths-form : (text : List ℕ) → FormIf text (textPaths text)
 unfolding textPaths
-paths-form text = both (FormIf text) (leb (length text) 1024) _ _ (λ y. lines-form text (is-le y) (linesAt 8 text) refl) tt
+paths-form text = pick-has (FormIf text) (leb (length text) 1024) _ _ (λ y. lines-form text (is-le y) (linesAt 8 text) refl) tt
 
 pub text-form : (text : List ℕ) (g : Got (List Path)) → textPaths text ≡ g → FormOf text g
 text-form text nothing e = λ ps f. subst IsGot (sym (text-read text ps f) ∙ e) tt
@@ -82,11 +82,11 @@ answer-fits : (text buffer : List ℕ) → 1024 ≤ length buffer → (g : Got (
 unfolding answerOf pathsAnswer
 answer-fits text buffer l nothing e = tt
 answer-fits text buffer l (got ps r) e =
-    both (Fits buffer) (leb (variablesOf ps) 16) _ _ (λ y. let h = fits text ps (text-form text (got ps r) e) (is-le y) in le-trans h l) tt
+    pick-has (Fits buffer) (leb (variablesOf ps) 16) _ _ (λ y. let h = fits text ps (text-form text (got ps r) e) (is-le y) in le-trans h l) tt
 
 read-fits : (text buffer : List ℕ) → Fits buffer (readPaths text buffer)
 unfolding readPaths
-read-fits text buffer = both (Fits buffer) (leb 1024 (length buffer)) _ _ (λ y. answer-fits text buffer (is-le y) (textPaths text) refl) tt
+read-fits text buffer = pick-has (Fits buffer) (leb 1024 (length buffer)) _ _ (λ y. answer-fits text buffer (is-le y) (textPaths text) refl) tt
 
 kept-length : (buffer : List ℕ) (r : PathsRead) → Fits buffer r → length (pathsWrote r buffer) ≡ length buffer
 unfolding pathsWrote

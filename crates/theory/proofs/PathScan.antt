@@ -13,8 +13,8 @@ use Rattle.meaning.specs.Paths.{Axis, to-self, to-child, to-parent, to-descenda
 use Rattle.theory.specs.PathReader.{Got, nothing, got, andThen, byte, pathAt, bracketsAt, goesOn}
 use Rattle.meaning.proofs.PathSheets.{letter-range}
 use Rattle.theory.proofs.PathReader.{move-text, having-text, more-text}
-use Rattle.theory.proofs.PathForm.{Reads, pick-either, both, first, path-reads}
-use Rattle.meaning.proofs.Tests.{clash, and-left, and-right, and-both, no-neg, pick-no, is-eq, eq-yes}
+use Rattle.theory.proofs.PathForm.{Reads, first, path-reads}
+use Rattle.meaning.proofs.Tests.{clash, and-left, and-right, and-both, no-neg, pick-no, pick-either, pick-has, is-eq, eq-yes}
 
 -- ---- one byte
 
@@ -121,7 +121,7 @@ seen-path : (k : ℕ) (s : Step) (bs : List ℕ) (g : Got Path) → byte bs ≡ 
     → SeenAhead bs (andThen g λ p r. pick (eqb (byte r) 93) (bracketsAt k (having s p) (drop 1 r)) nothing)
 seen-path k s bs nothing opens reads later = tt
 seen-path k s bs (got p r) opens reads later =
-    both (SeenAhead bs) (eqb (byte r) 93) _ _
+    pick-has (SeenAhead bs) (eqb (byte r) 93) _ _
     (λ z. seen-bracket bs p r (bracketsAt k (having s p) (drop 1 r)) opens reads (is-eq z) (later (having s p) (drop 1 r)))
     tt
 

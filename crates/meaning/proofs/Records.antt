@@ -1,0 +1,186 @@
+-- A constraint file is its records: it is accepted, as the constraints cs, exactly when it has at most 1,024 bytes, whole records, and these
+-- are the records of cs, whose variables are at most 15 and whose labels are at least 1. So an accepted file's constraints give its bytes.
+use mathlib.Core.Path.{_≡_, refl, sym, ap, _∙_, subst}
+use mathlib.Core.Logic.{_↔_, ⊎-elim}
+use mathlib.Core.Bool.{Bool, true, false}
+use mathlib.Core.List.{List, [], _∷_, map, List·Memᴰ, List·Memᴰ·head, List·Memᴰ·tail, List·Memᴰ·cases-cons, List·Memᴰ·not-nil}
+use Prim.Native.Nat.{ℕ, suc, max, _*_, _%_, _≤_, _<_}
+use native.Mathlib.Decide.{decLe}
+use native.Mathlib.Omega.{arith}
+use lib.ListN.{length, length-map}
+use lib.Dec.{leb, eqb}
+use Rattle.meaning.specs.Tree.{Var}
+use Rattle.meaning.specs.Constraint.{Constraint, is-child, is-below, is-strictly-below, is-same, is-differ, is-root, is-leaf, is-label, named, vars}
+use Rattle.meaning.specs.Finite.{Yes, pick, _and_}
+use Rattle.meaning.specs.Files.{Quad, quads, Whole, quadOf, JudgedRecord, bad, good, judgePair, judgeSingle, judgeLabel, judgeRecord, Judged, refused, accepted, before, judgeRecords, Spells, judge}
+use Rattle.meaning.proofs.Tests.{and-left, and-right, and-both, pick-yes, pick-no, pick-has, is-eq, eq-yes, is-le, le-yes}
+use Rattle.meaning.proofs.Constraints.{OnLabelOf, vars-least}
+
+-- ---- one record
+
+-- its variables are at most 15, and a label is not blank
+pub record Askable (c : Constraint) : Type 0 where
+  pub few : named c ≤ 16
+  pub labelled : OnLabelOf (λ l. 1 ≤ l) c
+
+-- what the questions make of the record: a number, not 1, or the constraint whose record it is
+abbrev Read : Quad → JudgedRecord → Type 0
+Read q (bad p) = 2 ≤ p
+Read q (good c) = (q ≡ quadOf c) × Askable c
+
+-- the record of these four bytes is that of others, if they are the same
+four : {k x y l i u v m : ℕ} → k ≡ i → x ≡ u → y ≡ v → l ≡ m
+    → _≡_ {A = Quad} (record { first = k; second = x; third = y; fourth = l }) (record { first = i; second = u; third = v; fourth = m })
+four a b c d = cc
+
+module _ (q : Quad) where
+  pair-read : (k : Var → Var → Constraint) (x y l : ℕ) → (x ≤ 15 → y ≤ 15 → l ≡ 0 → Read q (good (k x y))) → Read q (judgePair k x y l)
+  unfolding judgePair
+  pair-read k x y l f = pick-has (Read q) _ _ _ (λ t. pick-has (Read q) _ _ _ (λ z. f (is-le (and-left _ t)) (is-le (and-right _ t)) (is-eq z)) (omega arith)) (omega arith)
+
+  single-read : (k : Var → Constraint) (x y l : ℕ) → (x ≤ 15 → y ≡ 0 → l ≡ 0 → Read q (good (k x))) → Read q (judgeSingle k x y l)
+  unfolding judgeSingle
+  single-read k x y l f = pick-has (Read q) _ _ _ (λ t. pick-has (Read q) _ _ _ (λ z. f (is-le t) (is-eq (and-left _ z)) (is-eq (and-right _ z))) (omega arith)) (omega arith)
+
+  label-read : (x y l : ℕ) → (x ≤ 15 → 1 ≤ l → y ≡ 0 → Read q (good (is-label x l))) → Read q (judgeLabel x y l)
+  unfolding judgeLabel
+  label-read x y l f = pick-has (Read q) _ _ _ (λ t. pick-has (Read q) _ _ _ (λ h. pick-has (Read q) _ _ _ (λ z. f (is-le t) (is-le h) (is-eq z)) (omega arith)) (omega arith)) (omega arith)
+
+record-read : (q : Quad) → Read q (judgeRecord (q .first) (q .second) (q .third) (q .fourth))
+unfolding judgeRecord named
+record-read q =
+    pick-has (Read q) _ _ _ (λ t. pair-read q is-child _ _ _ (λ a b z. (four (is-eq t) refl refl z, record { few = omega arith; labelled = tt })))
+    (pick-has (Read q) _ _ _ (λ t. pair-read q is-below _ _ _ (λ a b z. (four (is-eq t) refl refl z, record { few = omega arith; labelled = tt })))
+    (pick-has (Read q) _ _ _ (λ t. pair-read q is-strictly-below _ _ _ (λ a b z. (four (is-eq t) refl refl z, record { few = omega arith; labelled = tt })))
+    (pick-has (Read q) _ _ _ (λ t. pair-read q is-same _ _ _ (λ a b z. (four (is-eq t) refl refl z, record { few = omega arith; labelled = tt })))
+    (pick-has (Read q) _ _ _ (λ t. pair-read q is-differ _ _ _ (λ a b z. (four (is-eq t) refl refl z, record { few = omega arith; labelled = tt })))
+    (pick-has (Read q) _ _ _ (λ t. single-read q is-root _ _ _ (λ a y z. (four (is-eq t) refl y z, record { few = omega arith; labelled = tt })))
+    (pick-has (Read q) _ _ _ (λ t. single-read q is-leaf _ _ _ (λ a y z. (four (is-eq t) refl y z, record { few = omega arith; labelled = tt })))
+    (pick-has (Read q) _ _ _ (λ t. label-read q _ _ _ (λ a h y. (four (is-eq t) refl y refl, record { few = omega arith; labelled = h }))) (omega arith))))))))
+
+-- a record spells a constraint exactly when it is its record, and the constraint can be asked
+pub spelt : {q : Quad} {c : Constraint} → Spells q c → (q ≡ quadOf c) × Askable c
+spelt {q} e = subst (Read q) e (record-read q)
+
+pair-good : (k : Var → Var → Constraint) (x y : Var) → suc (max x y) ≤ 16 → judgePair k x y 0 ≡ good (k x y)
+unfolding judgePair pick
+pair-good k x y l = let p : x ≤ 15 = omega arith in let q : y ≤ 15 = omega arith in pick-yes _ _ (and-both (le-yes p) (le-yes q))
+
+single-good : (k : Var → Constraint) (x : Var) → suc x ≤ 16 → judgeSingle k x 0 0 ≡ good (k x)
+unfolding judgeSingle pick _and_
+single-good k x l = let p : x ≤ 15 = omega arith in pick-yes _ _ (le-yes p)
+
+label-good : (x l : ℕ) → suc x ≤ 16 → 1 ≤ l → judgeLabel x 0 l ≡ good (is-label x l)
+unfolding judgeLabel pick
+label-good x l h k = let p : x ≤ 15 = omega arith in pick-yes _ _ (le-yes p) ∙ pick-yes _ _ (le-yes k)
+
+pub spells : (c : Constraint) → Askable c → Spells (quadOf c) c
+unfolding judgeRecord named pick
+spells (is-child x y) a = pair-good is-child x y (a .few)
+spells (is-below x y) a = pair-good is-below x y (a .few)
+spells (is-strictly-below x y) a = pair-good is-strictly-below x y (a .few)
+spells (is-same x y) a = pair-good is-same x y (a .few)
+spells (is-differ x y) a = pair-good is-differ x y (a .few)
+spells (is-root x) a = single-good is-root x (a .few)
+spells (is-leaf x) a = single-good is-leaf x (a .few)
+spells (is-label x l) a = label-good x l (a .few) (a .labelled)
+
+-- ---- the records of a file
+
+pub quads-length : (bs : List ℕ) → Whole bs → 4 * length (quads bs) ≡ length bs
+unfolding quads
+quads-length [] w = refl
+quads-length (a ∷ []) w = absurd (omega arith)
+quads-length (a ∷ b ∷ []) w = absurd (omega arith)
+quads-length (a ∷ b ∷ c ∷ []) w = absurd (omega arith)
+quads-length (a ∷ b ∷ c ∷ d ∷ bs) w = let e = quads-length bs (omega arith) in omega arith
+
+-- these are the records of cs
+pub record RecordsOf (qs : List Quad) (cs : List Constraint) : Type 0 where
+  pub records : qs ≡ map quadOf cs
+  pub askable : (c : Constraint) → List·Memᴰ c cs → Askable c
+
+abbrev ReadAll : List Quad → Judged → Type 0
+ReadAll qs (refused p) = 2 ≤ p
+ReadAll qs (accepted cs) = RecordsOf qs cs
+
+before-read : (q : Quad) (qs : List Quad) (r : JudgedRecord) (j : Judged) → Read q r → ReadAll qs j → ReadAll (q ∷ qs) (before r j)
+unfolding before
+before-read q qs (bad p) j f g = f
+before-read q qs (good c) (refused p) f g = g
+before-read q qs (good c) (accepted cs) f g = record {
+  records = ap (λ (r : Quad). r ∷ qs) (f .0) ∙ ap (λ (rs : List Quad). quadOf c ∷ rs) (g .records);
+  askable = λ d m. ⊎-elim (λ e. subst Askable (sym e) (f .1)) (g .askable d) (List·Memᴰ·cases-cons m);
+}
+
+records-read : (bs : List ℕ) → ReadAll (quads bs) (judgeRecords bs)
+unfolding judgeRecords quads
+records-read [] = record { records = refl; askable = λ c m. absurd (List·Memᴰ·not-nil m) }
+records-read (k ∷ []) = omega arith
+records-read (k ∷ x ∷ []) = omega arith
+records-read (k ∷ x ∷ y ∷ []) = omega arith
+records-read (k ∷ x ∷ y ∷ l ∷ bs) = before-read _ (quads bs) _ (judgeRecords bs) (record-read _) (records-read bs)
+
+records-accepted : (bs : List ℕ) (cs : List Constraint) → Whole bs → RecordsOf (quads bs) cs → judgeRecords bs ≡ accepted cs
+unfolding judgeRecords quads before
+records-accepted [] [] w r = refl
+records-accepted [] (c ∷ cs) w r = let e = r .records in let z : _≡_ {A = ℕ} 0 1 = cc in absurd (omega arith)
+records-accepted (k ∷ []) cs w r = absurd (omega arith)
+records-accepted (k ∷ x ∷ []) cs w r = absurd (omega arith)
+records-accepted (k ∷ x ∷ y ∷ []) cs w r = absurd (omega arith)
+records-accepted (k ∷ x ∷ y ∷ l ∷ bs) [] w r = let e = r .records in let z : _≡_ {A = ℕ} 0 1 = cc in absurd (omega arith)
+records-accepted (k ∷ x ∷ y ∷ l ∷ bs) (c ∷ cs) w r =
+    let e = r .records in
+    let h : quadOf c ≡ record { first = k; second = x; third = y; fourth = l } = cc in
+    let t : map quadOf cs ≡ quads bs = cc in
+    let s : judgeRecord k x y l ≡ good c = subst (λ (q : Quad). Spells q c) h (spells c (r .askable c (List·Memᴰ·head refl))) in
+    ap (λ (j : JudgedRecord). before j (judgeRecords bs)) s
+    ∙ ap (before (good c)) (records-accepted bs cs (omega arith) (record { records = sym t; askable = λ d m. r .askable d (List·Memᴰ·tail m) }))
+
+-- ---- the file
+
+-- it is the constraint file of cs
+pub record FileOf (file : List ℕ) (cs : List Constraint) : Type 0 where
+  pub short : length file ≤ 1024
+  pub whole : Whole file
+  pub of : RecordsOf (quads file) cs
+
+pub file-accepted : {file : List ℕ} {cs : List Constraint} → FileOf file cs → judge file ≡ accepted cs
+unfolding judge
+file-accepted {file} {cs} f = pick-yes _ _ (le-yes (f .short)) ∙ pick-yes _ _ (eq-yes (f .whole)) ∙ records-accepted file cs (f .whole) (f .of)
+
+passed : (b : Bool) (j : Judged) (q : ℕ) {cs : List Constraint} → pick b j (refused q) ≡ accepted cs → Yes b × (j ≡ accepted cs)
+unfolding pick
+passed true j q e = (refl, e)
+passed false j q e = let z : _≡_ {A = ℕ} 0 1 = cc in absurd (omega arith)
+
+pub accepted-file : {file : List ℕ} {cs : List Constraint} → judge file ≡ accepted cs → FileOf file cs
+unfolding judge
+accepted-file {file} e =
+    let a = passed (leb (length file) 1024) _ _ e in
+    let b = passed (eqb (length file % 4) 0) _ _ (a .1) in
+    record { short = is-le (a .0); whole = is-eq (b .0); of = subst (ReadAll (quads file)) (b .1) (records-read file) }
+
+-- 1 is said of a file that is too long, and of no other
+pub long-refused : (file : List ℕ) → 1024 < length file → judge file ≡ refused 1
+unfolding judge
+long-refused file l = pick-no _ _ (λ y. let h : length file ≤ 1024 = is-le y in omega arith)
+
+short-read : (file : List ℕ) → length file ≤ 1024 → ReadAll (quads file) (judge file)
+unfolding judge
+short-read file l = subst (ReadAll (quads file)) (sym (pick-yes _ _ (le-yes l))) (pick-has (ReadAll (quads file)) _ _ _ (λ y. records-read file) (omega arith))
+
+pub refused-long : (file : List ℕ) → judge file ≡ refused 1 → 1024 < length file
+refused-long file e = go (decLe (length file) 1024)
+  where
+    go : Dec (length file ≤ 1024) → 1024 < length file
+    go (yes l) = let h : 2 ≤ 1 = subst (ReadAll (quads file)) e (short-read file l) in absurd (omega arith)
+    go (no l) = omega arith
+
+-- what questions 1 to 6 leave of an accepted file
+module _ {file : List ℕ} {cs : List Constraint} (f : FileOf file cs) where
+  pub file-vars : vars cs ≤ 16
+  file-vars = vars-least 16 cs (λ c m. f .of .askable c m .few)
+
+  pub file-length : 4 * length cs ≡ length file
+  file-length = ap (λ (k : ℕ). 4 * k) (sym (length-map cs quadOf) ∙ ap length (sym (f .of .records))) ∙ quads-length file (f .whole)
