@@ -14,6 +14,9 @@ pub mod Records
 -- joins: the first is one, and one of its alternatives holds; how many alternatives a search enters
 pub mod Joins
 pub mod Choices
+-- the search sees its facts as a set, so the answer depends on the set of constraints
+pub mod Congruence
+pub mod SameAnswer
 -- how many nodes are read off
 pub mod Nodes
 -- questions set as paths: the records of four texts, what every sheet of records has, how many variables and records there are, and when the
@@ -23,3 +26,6 @@ pub mod PathSheets
 pub mod PathCounts
 pub mod PathMoves
 pub mod PathMeaning
+-- shuffled papers: records in another order; variables that no record names; variables renumbered
+pub mod Reordered
+pub mod Shuffled

@@ -28,10 +28,9 @@ abbrev Read : Quad → JudgedRecord → Type 0
 Read q (bad p) = 2 ≤ p
 Read q (good c) = (q ≡ quadOf c) × Askable c
 
--- the record of these four bytes is that of others, if they are the same
-four : {k x y l i u v m : ℕ} → k ≡ i → x ≡ u → y ≡ v → l ≡ m
+pub quad-eq : {k x y l i u v m : ℕ} → k ≡ i → x ≡ u → y ≡ v → l ≡ m
     → _≡_ {A = Quad} (record { first = k; second = x; third = y; fourth = l }) (record { first = i; second = u; third = v; fourth = m })
-four a b c d = cc
+quad-eq a b c d = cc
 
 module _ (q : Quad) where
   pair-read : (k : Var → Var → Constraint) (x y l : ℕ) → (x ≤ 15 → y ≤ 15 → l ≡ 0 → Read q (good (k x y))) → Read q (judgePair k x y l)
@@ -49,19 +48,16 @@ module _ (q : Quad) where
 record-read : (q : Quad) → Read q (judgeRecord (q .first) (q .second) (q .third) (q .fourth))
 unfolding judgeRecord named
 record-read q =
-    pick-has (Read q) _ _ _ (λ t. pair-read q is-child _ _ _ (λ a b z. (four (is-eq t) refl refl z, record { few = omega arith; labelled = tt })))
-    (pick-has (Read q) _ _ _ (λ t. pair-read q is-below _ _ _ (λ a b z. (four (is-eq t) refl refl z, record { few = omega arith; labelled = tt })))
-    (pick-has (Read q) _ _ _ (λ t. pair-read q is-strictly-below _ _ _ (λ a b z. (four (is-eq t) refl refl z, record { few = omega arith; labelled = tt })))
-    (pick-has (Read q) _ _ _ (λ t. pair-read q is-same _ _ _ (λ a b z. (four (is-eq t) refl refl z, record { few = omega arith; labelled = tt })))
-    (pick-has (Read q) _ _ _ (λ t. pair-read q is-differ _ _ _ (λ a b z. (four (is-eq t) refl refl z, record { few = omega arith; labelled = tt })))
-    (pick-has (Read q) _ _ _ (λ t. single-read q is-root _ _ _ (λ a y z. (four (is-eq t) refl y z, record { few = omega arith; labelled = tt })))
-    (pick-has (Read q) _ _ _ (λ t. single-read q is-leaf _ _ _ (λ a y z. (four (is-eq t) refl y z, record { few = omega arith; labelled = tt })))
-    (pick-has (Read q) _ _ _ (λ t. label-read q _ _ _ (λ a h y. (four (is-eq t) refl y refl, record { few = omega arith; labelled = h }))) (omega arith))))))))
+    pick-has (Read q) _ _ _ (λ t. pair-read q is-child _ _ _ (λ a b z. (quad-eq (is-eq t) refl refl z, record { few = omega arith; labelled = tt })))
+    (pick-has (Read q) _ _ _ (λ t. pair-read q is-below _ _ _ (λ a b z. (quad-eq (is-eq t) refl refl z, record { few = omega arith; labelled = tt })))
+    (pick-has (Read q) _ _ _ (λ t. pair-read q is-strictly-below _ _ _ (λ a b z. (quad-eq (is-eq t) refl refl z, record { few = omega arith; labelled = tt })))
+    (pick-has (Read q) _ _ _ (λ t. pair-read q is-same _ _ _ (λ a b z. (quad-eq (is-eq t) refl refl z, record { few = omega arith; labelled = tt })))
+    (pick-has (Read q) _ _ _ (λ t. pair-read q is-differ _ _ _ (λ a b z. (quad-eq (is-eq t) refl refl z, record { few = omega arith; labelled = tt })))
+    (pick-has (Read q) _ _ _ (λ t. single-read q is-root _ _ _ (λ a y z. (quad-eq (is-eq t) refl y z, record { few = omega arith; labelled = tt })))
+    (pick-has (Read q) _ _ _ (λ t. single-read q is-leaf _ _ _ (λ a y z. (quad-eq (is-eq t) refl y z, record { few = omega arith; labelled = tt })))
+    (pick-has (Read q) _ _ _ (λ t. label-read q _ _ _ (λ a h y. (quad-eq (is-eq t) refl y refl, record { few = omega arith; labelled = h }))) (omega arith))))))))
 
--- a record spells a constraint exactly when it is its record, and the constraint can be asked
-pub spelt : {q : Quad} {c : Constraint} → Spells q c → (q ≡ quadOf c) × Askable c
-spelt {q} e = subst (Read q) e (record-read q)
-
+-- and the record of a constraint that can be asked spells it
 pair-good : (k : Var → Var → Constraint) (x y : Var) → suc (max x y) ≤ 16 → judgePair k x y 0 ≡ good (k x y)
 unfolding judgePair pick
 pair-good k x y l = let p : x ≤ 15 = omega arith in let q : y ≤ 15 = omega arith in pick-yes _ _ (and-both (le-yes p) (le-yes q))
