@@ -26,6 +26,10 @@ pub mod PathSheets
 pub mod PathCounts
 pub mod PathMoves
 pub mod PathMeaning
+-- what the solver's answers say of the constraints
+pub mod Answered
 -- shuffled papers: records in another order; variables that no record names; variables renumbered
 pub mod Reordered
 pub mod Shuffled
+pub mod Unnamed
+pub mod Renumbered
