@@ -1,6 +1,6 @@
 -- What the solver's answers say of the constraints: none that they cannot be met, a tree that they can. So none, where it is not spent, is said
 -- exactly of constraints that cannot be met.
-use mathlib.Core.Path.{_≡_, refl, sym, ap, _∙_, subst}
+use mathlib.Core.Path.{_≡_, refl, ap, _∙_, subst}
 use mathlib.Core.Logic.{_↔_}
 use mathlib.Core.List.{List}
 use Prim.Native.Nat.{ℕ, _≤_}

@@ -1,7 +1,7 @@
 -- A constraint file is its records: it is accepted, as the constraints cs, exactly when it has at most 1,024 bytes, whole records, and these
 -- are the records of cs, whose variables are at most 15 and whose labels are at least 1. So an accepted file's constraints give its bytes.
 use mathlib.Core.Path.{_≡_, refl, sym, ap, _∙_, subst}
-use mathlib.Core.Logic.{_↔_, ⊎-elim}
+use mathlib.Core.Logic.{⊎-elim}
 use mathlib.Core.Bool.{Bool, true, false}
 use mathlib.Core.List.{List, [], _∷_, map, List·Memᴰ, List·Memᴰ·head, List·Memᴰ·tail, List·Memᴰ·cases-cons, List·Memᴰ·not-nil}
 use Prim.Native.Nat.{ℕ, suc, max, _*_, _%_, _≤_, _<_}

@@ -11,7 +11,7 @@ use lib.Dec.{eqb}
 use Rattle.meaning.specs.Tree.{Var, Label, Assignment, Tree}
 use Rattle.meaning.specs.Constraint.{Constraint, is-child, is-below, is-strictly-below, is-same, is-differ, is-root, is-leaf, is-label, Meets, CanBeMet, named, vars}
 use Rattle.meaning.specs.Finite.{pick, anyb, smallest}
-use Rattle.meaning.specs.Files.{Quad, quads, quadOf, accepted, judge}
+use Rattle.meaning.specs.Files.{quads, quadOf, accepted, judge}
 use Rattle.meaning.specs.Shuffled.{Renumbering, renumberQuad, Renumbered, SameNone}
 use Rattle.meaning.proofs.Tests.{yes-case, is-eq, self-eq}
 use Rattle.meaning.proofs.Finite.{any-intro, smallest-passes, smallest-none}

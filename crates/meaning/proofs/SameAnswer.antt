@@ -6,7 +6,7 @@ use Prim.Native.Nat.{ℕ, _≤_}
 use native.Mathlib.Nat.{le-antisymm}
 use native.Mathlib.Decide.{decLe}
 use native.Mathlib.Omega.{arith}
-use Rattle.meaning.specs.Constraint.{Constraint, vars, Fact, factsOf}
+use Rattle.meaning.specs.Constraint.{Constraint, vars, factsOf}
 use Rattle.meaning.specs.FixedSearch.{Outcome, in-none, in-tree}
 use Rattle.meaning.specs.ReadOff.{answerFile}
 use Rattle.meaning.specs.Demand.{Answer, a-tree, a-none, Demand3}

@@ -8,7 +8,7 @@ use native.Mathlib.Decide.{decLe}
 use native.Mathlib.Omega.{arith}
 use lib.ListN.{length}
 use Rattle.meaning.specs.Tree.{Node, Assignment, Tree}
-use Rattle.meaning.specs.Constraint.{Constraint, is-child, is-below, is-strictly-below, is-same, is-differ, is-root, is-leaf, is-label, Meets, MeetsAll, vars}
+use Rattle.meaning.specs.Constraint.{Constraint, is-child, is-below, is-strictly-below, is-same, is-differ, is-root, is-leaf, is-label, Meets, vars}
 use Rattle.meaning.specs.ReadOff.{NodeRecord, treeOf}
 use Rattle.meaning.specs.Demand.{Demand3}
 use Rattle.meaning.specs.Marking.{Mark, met, unmet, kind, further, Marks, all-met, not-met, is-met}
@@ -18,7 +18,7 @@ use Rattle.meaning.specs.Promises.{SolverPromise, MarkerPromise}
 use Rattle.meaning.specs.Shuffled.{Reordered, Shuffled, SameRoom, SameSolved, MetRecord, UnmetRecord, FirstUnmet, SameMarked}
 use Rattle.meaning.proofs.Records.{Askable, spells, FileOf, quads-length, accepted-file, file-accepted, long-refused, refused-long}
 use Rattle.meaning.proofs.SameAnswer.{SameConstraints, same-vars, same-answer}
-use Rattle.meaning.proofs.Reordered.{reordered-back, reordered-length, reordered-in, Remapped, reordered-map}
+use Rattle.meaning.proofs.Reordered.{reordered-back, reordered-length, reordered-in, reordered-map}
 
 pub shuffled-back : {file other : List ℕ} → Shuffled file other → Shuffled other file
 shuffled-back p = record { whole = p .other-whole; other-whole = p .whole; reordered = reordered-back (p .reordered) }

@@ -1,7 +1,7 @@
 -- A variable that no constraint names never matters for none: over any number of variables that has those named, the same constraints can be
 -- met or cannot. It may stand anywhere, and is put on node 0.
-use mathlib.Core.Path.{_≡_, sym, subst}
-use mathlib.Core.Logic.{_↔_, ⊎-elim}
+use mathlib.Core.Path.{_≡_, sym}
+use mathlib.Core.Logic.{_↔_}
 use mathlib.Core.List.{List, List·Memᴰ}
 use Prim.Native.Nat.{ℕ, _≤_, _<_}
 use native.Mathlib.Nat.{le-trans}

@@ -9,11 +9,10 @@ use native.Mathlib.Nat.{le-refl, le-trans, le-of-lt, lt-irrefl, not-suc-le-zero}
 use native.Mathlib.Bridge.{le-prop}
 use native.Mathlib.Decide.{decLt, decLe}
 use native.Mathlib.Omega.{arith}
-use lib.ListN.{length}
 use Rattle.meaning.specs.Tree.{Var, Node, Label, Assignment, Tree, IsTree, Parent, Above, self, up}
 use Rattle.meaning.specs.Constraint.{Constraint, is-child, is-below, is-strictly-below, is-same, is-differ, is-root, is-leaf, is-label, Meets, vars, MeetsAll, ByteLabels}
 use Rattle.meaning.specs.AnyTree.{Reaches, here, down, AnyTree, ByteLabelled, MeetsAny, MeetsAllAny, NoAnyTree, Numbering}
-use Rattle.meaning.specs.FixedSearch.{Outcome, in-none, in-tree}
+use Rattle.meaning.specs.FixedSearch.{Outcome, in-none}
 use Rattle.meaning.specs.Demand.{a-none, FixedSearch, Demand3}
 use Rattle.meaning.specs.Files.{accepted, judge}
 use Rattle.meaning.specs.Results.{Solved, solver-answers}
@@ -21,6 +20,7 @@ use Rattle.meaning.specs.Promises.{SolverPromise}
 use Rattle.meaning.proofs.Finite.{split-lt}
 use Rattle.meaning.proofs.Trees.{root-above}
 use Rattle.meaning.proofs.Constraints.{Names, names-below, meets-agree, named-most}
+use Rattle.meaning.proofs.Answered.{none-ends, answered}
 use Rattle.theory.proofs.ConstraintFile.{Bytes, accepted-labels}
 use Rattle.theory.proofs.Numbering.{numbered}
 
@@ -208,27 +208,12 @@ module _ {n : ℕ} {cs : List Constraint} (b : ByteLabels cs) where
 
   -- the answer none says so
   pub answered-none : {A c : ℕ} → Demand3 A n cs (a-none c) → NoAnyTree cs
-  answered-none {A} {c} d = go (decLe (d .count) A)
-    where
-      by : d .count ≤ A → (o : Outcome) → d .outcome ≡ o → NoAnyTree cs
-      by l in-none e = none-any-tree (subst (λ (p : Outcome). FixedSearch n cs p (d .count)) e (d .search))
-      by l (in-tree R) e = absurd (let w = d .search .decided e in let q = d .answers .tree l e (w .0) (w .1) in let z : _≡_ {A = ℕ} 0 1 = cc in omega arith)
-
-      go : Dec (d .count ≤ A) → NoAnyTree cs
-      go (yes l) = by l (d .outcome) refl
-      go (no l) = absurd (let q = d .answers .spent-iff .0 (omega arith) in let z : _≡_ {A = ℕ} 0 1 = cc in omega arith)
+  answered-none d = none-any-tree (subst (λ (p : Outcome). FixedSearch n cs p (d .count)) (none-ends d refl) (d .search))
 
 -- and so does a solver that keeps its promise, of any constraint file
 pub promised-none : {A c : ℕ} {file buffer after : List ℕ} {r : Solved} {cs : List Constraint} → ByteLabels cs → SolverPromise A file buffer r after
     → judge file ≡ accepted cs → r ≡ solver-answers (a-none c) → NoAnyTree cs
-promised-none {A} {c} {file} {buffer} {r = r} {cs = cs} b p e q = go (decLe 132 (length buffer))
-  where
-    go : Dec (132 ≤ length buffer) → NoAnyTree cs
-    go (no l) = absurd (let s = p .short-buffer e (omega arith) in let z : _≡_ {A = ℕ} 0 1 = cc in omega arith)
-    go (yes l) =
-        let w = p .answers e l in
-        let s : w .0 ≡ a-none c = let h = w .1 in cc in
-        answered-none b (subst (Demand3 A (vars cs) cs) s (w .2 .demand-3))
+promised-none b p e q = answered-none b (answered p e q .1 .demand-3)
 
 pub solver-none : {A c : ℕ} {file buffer after : List ℕ} {r : Solved} {cs : List Constraint} → Bytes file → SolverPromise A file buffer r after
     → judge file ≡ accepted cs → r ≡ solver-answers (a-none c) → NoAnyTree cs

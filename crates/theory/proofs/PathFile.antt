@@ -2,12 +2,12 @@
 -- they are at most 46, of variables below 16, with letters as labels.
 use mathlib.Core.Path.{_≡_, refl, ap, _∙_}
 use mathlib.Core.List.{List, [], _∷_, map, List·Memᴰ}
-use Prim.Native.Nat.{ℕ, _*_, _%_, _≤_}
+use Prim.Native.Nat.{_*_, _%_, _≤_}
 use native.Mathlib.Nat.{le-trans, mul-mod-left}
 use native.Mathlib.Omega.{arith}
 use lib.ListN.{length}
 use Rattle.meaning.specs.Tree.{Label}
-use Rattle.meaning.specs.Constraint.{Constraint, is-label, named, ByteLabels}
+use Rattle.meaning.specs.Constraint.{Constraint, named}
 use Rattle.meaning.specs.Files.{Quad, quads, quadOf, accepted, judge}
 use Rattle.meaning.specs.Paths.{Path}
 use Rattle.meaning.specs.PathRecords.{blankSheet, recordsOf, variablesOf, recordBytes, fileBytes}
@@ -33,10 +33,6 @@ records-low ps h c m = le-trans (lines-grown ps blankSheet blank-fine .fine .low
 records-lettered : (ps : List Path) (c : Constraint) → List·Memᴰ c (recordsOf ps) → Lettered c
 unfolding recordsOf
 records-lettered ps c m = lines-grown ps blankSheet blank-fine .fine .lettered c m
-
--- labels are bytes
-pub records-byte-labels : (ps : List Path) → ByteLabels (recordsOf ps)
-records-byte-labels ps x l m = let small : l ≤ 122 = records-lettered ps (is-label x l) m .1 in omega arith
 
 records-askable : (ps : List Path) → variablesOf ps ≤ 16 → (c : Constraint) → List·Memᴰ c (recordsOf ps) → Askable c
 records-askable ps h c m =

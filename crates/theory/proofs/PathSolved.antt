@@ -1,58 +1,31 @@
 -- Path reader and solver together: where each keeps its promise, 'none' means that no tree has a node selected by every line, neither one of
 -- docs/FORMAT.md nor one of source 004, and 'tree' that some tree has. The records written are a constraint file, which can be met exactly then.
-use mathlib.Core.Path.{_≡_, refl, sym, subst}
+use mathlib.Core.Path.{_≡_, sym, subst}
 use mathlib.Core.List.{List}
 use Prim.Native.Nat.{ℕ, _≤_}
-use native.Mathlib.Nat.{le-refl}
 use native.Mathlib.Decide.{decLe}
 use native.Mathlib.Omega.{arith}
 use lib.ListN.{length}
-use Rattle.meaning.specs.Constraint.{Constraint, CanBeMet, vars}
-use Rattle.meaning.specs.ReadOff.{treeOf}
 use Rattle.meaning.specs.Demand.{a-tree, a-none}
-use Rattle.meaning.specs.Files.{accepted, judge, assigned}
 use Rattle.meaning.specs.Paths.{Path, OfForm}
 use Rattle.meaning.specs.Selection.{SomeTreeSelects, SomeAnyTreeSelects}
 use Rattle.meaning.specs.PathRecords.{recordsOf, variablesOf, fileBytes}
 use Rattle.meaning.specs.Results.{Solved, solver-answers, paths-written}
 use Rattle.meaning.specs.Promises.{SolverPromise, PathsPromise}
-use Rattle.theory.proofs.AnyTree.{NodeOf, any-tree, tree-meets-any, promised-none}
-use Rattle.theory.proofs.PathFile.{records-byte-labels}
+use Rattle.meaning.proofs.Answered.{said-none, said-tree}
 use Rattle.theory.proofs.PathAnyTree.{selected-iff-any-selected}
 use Rattle.theory.proofs.PathPromise.{right-records}
-
--- 'tree': the answer file is one that the marker says met of
-promised-tree : {A c : ℕ} {file buffer after bs : List ℕ} {r : Solved} {cs : List Constraint} → SolverPromise A file buffer r after
-    → judge file ≡ accepted cs → r ≡ solver-answers (a-tree c bs) → CanBeMet (vars cs) cs
-promised-tree {A} {c} {file} {buffer} {bs = bs} {r = r} {cs = cs} p e q = go (decLe 132 (length buffer))
-  where
-    go : Dec (132 ≤ length buffer) → CanBeMet (vars cs) cs
-    go (no l) = absurd (let s = p .short-buffer e (omega arith) in let z : _≡_ {A = ℕ} 0 1 = cc in omega arith)
-    go (yes l) =
-        let w = p .answers e l in
-        let s : w .0 ≡ a-tree c bs = let h = w .1 in cc in
-        let f = w .2 .good-file s in
-        record {
-          tree = treeOf (f .tree-nodes);
-          is-tree = f .right .is-tree;
-          assignment = assigned (f .tree-places);
-          meets = f .right .met-iff .0 refl;
-        }
 
 module _ {A : ℕ} {buffer after : List ℕ} {r : Solved} {text : List ℕ} {ps : List Path} (form : OfForm text ps) (few : variablesOf ps ≤ 16)
     (solved : SolverPromise A (fileBytes (recordsOf ps)) buffer r after) where
   pub solved-none : {c : ℕ} → r ≡ solver-answers (a-none c) → ¬ SomeTreeSelects ps
-  solved-none q h =
-      let right = right-records form few in
-      let m = right .met-iff .1 h in
-      let w = tree-meets-any (m .tree) (m .is-tree) (vars (recordsOf ps)) (m .assignment) (recordsOf ps) (le-refl _) (m .meets) in
-      promised-none (records-byte-labels ps) solved (right .accepts) q (NodeOf (m .tree)) (any-tree (m .tree) (m .is-tree)) (w .0) (w .1)
+  solved-none {c} q h = let right = right-records form few in said-none solved (right .accepts) (c, q) (right .met-iff .1 h)
 
   pub solved-none-any : {c : ℕ} → r ≡ solver-answers (a-none c) → ¬ SomeAnyTreeSelects ps
   solved-none-any q h = solved-none q (selected-iff-any-selected ps .1 h)
 
   pub solved-tree : {c : ℕ} {bs : List ℕ} → r ≡ solver-answers (a-tree c bs) → SomeTreeSelects ps
-  solved-tree q = let right = right-records form few in right .met-iff .0 (promised-tree solved (right .accepts) q)
+  solved-tree q = let right = right-records form few in right .met-iff .0 (said-tree solved (right .accepts) q)
 
 -- ---- from the text
 
