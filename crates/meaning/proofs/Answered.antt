@@ -1,9 +1,10 @@
 -- What the solver's answers say of the constraints: none that they cannot be met, a tree that they can. So none, where it is not spent, is said
 -- exactly of constraints that cannot be met.
-use mathlib.Core.Path.{_≡_, refl, ap, _∙_, subst}
+use mathlib.Core.Path.{_≡_, refl, sym, ap, _∙_, subst}
 use mathlib.Core.Logic.{_↔_}
 use mathlib.Core.List.{List}
 use Prim.Native.Nat.{ℕ, _≤_}
+use native.Mathlib.Nat.{le-refl}
 use native.Mathlib.Decide.{decLe}
 use native.Mathlib.Omega.{arith}
 use lib.ListN.{length}
@@ -25,6 +26,11 @@ none-cannot f = (
   λ g. f .none-iff .1 (λ t i a m. g (record { tree = t; is-tree = i; assignment = a; meets = m })),
 )
 
+abbrev pub countOf : Answer → ℕ
+countOf (a-tree c bs) = c
+countOf (a-none c) = c
+countOf (a-spent c) = c
+
 module _ {A n : ℕ} {cs : List Constraint} {r : Answer} (d : Demand3 A n cs r) where
   -- none is answered only where the search ends in none
   pub none-ends : {c : ℕ} → r ≡ a-none c → d .outcome ≡ in-none
@@ -37,6 +43,21 @@ module _ {A n : ℕ} {cs : List Constraint} {r : Answer} (d : Demand3 A n cs r) 
       go : Dec (d .count ≤ A) → d .outcome ≡ in-none
       go (yes l) = by l (d .outcome) refl
       go (no l) = absurd (let h = d .answers .spent-iff .0 (omega arith) in let z : _≡_ {A = ℕ} 0 1 = cc in omega arith)
+
+  -- the count that is told is within the allowance
+  pub count-within : countOf r ≤ A
+  count-within = go (decLe (d .count) A)
+    where
+      counted : {q : Answer} → r ≡ q → countOf q ≤ A → countOf r ≤ A
+      counted e l = subst (λ (a : Answer). countOf a ≤ A) (sym e) l
+
+      by : d .count ≤ A → (o : Outcome) → d .outcome ≡ o → countOf r ≤ A
+      by l in-none e = counted (d .answers .none l e) l
+      by l (in-tree R) e = let w = d .search .decided e in counted (d .answers .tree l e (w .0) (w .1)) l
+
+      go : Dec (d .count ≤ A) → countOf r ≤ A
+      go (yes l) = by l (d .outcome) refl
+      go (no l) = counted (d .answers .spent-iff .0 (omega arith)) (le-refl A)
 
   none-due : ¬ (r ≡ a-spent A) → ¬ CanBeMet n cs → r ≡ a-none (d .count)
   none-due spent g = go (decLe (d .count) A)

@@ -23,9 +23,13 @@ pub record Askable (c : Constraint) : Type 0 where
   pub few : named c ≤ 16
   pub labelled : OnLabelOf (λ l. 1 ≤ l) c
 
--- what the questions make of the record: a number, not 1, or the constraint whose record it is
+-- the number of a question that is not the first
+abbrev Number : ℕ → Type 0
+Number p = Yes (leb 2 p and leb p 6)
+
+-- what the questions make of the record: such a number, or the constraint whose record it is
 abbrev Read : Quad → JudgedRecord → Type 0
-Read q (bad p) = 2 ≤ p
+Read q (bad p) = Number p
 Read q (good c) = (q ≡ quadOf c) × Askable c
 
 pub quad-eq : {k x y l i u v m : ℕ} → k ≡ i → x ≡ u → y ≡ v → l ≡ m
@@ -34,19 +38,19 @@ quad-eq a b c d = cc
 
 module _ (q : Quad) where
   pair-read : (k : Var → Var → Constraint) (x y l : ℕ) → (x ≤ 15 → y ≤ 15 → l ≡ 0 → Read q (good (k x y))) → Read q (judgePair k x y l)
-  unfolding judgePair
-  pair-read k x y l f = pick-has (Read q) _ _ _ (λ t. pick-has (Read q) _ _ _ (λ z. f (is-le (and-left _ t)) (is-le (and-right _ t)) (is-eq z)) (omega arith)) (omega arith)
+  unfolding judgePair _and_
+  pair-read k x y l f = pick-has (Read q) _ _ _ (λ t. pick-has (Read q) _ _ _ (λ z. f (is-le (and-left _ t)) (is-le (and-right (leb x 15) t)) (is-eq z)) refl) refl
 
   single-read : (k : Var → Constraint) (x y l : ℕ) → (x ≤ 15 → y ≡ 0 → l ≡ 0 → Read q (good (k x))) → Read q (judgeSingle k x y l)
-  unfolding judgeSingle
-  single-read k x y l f = pick-has (Read q) _ _ _ (λ t. pick-has (Read q) _ _ _ (λ z. f (is-le t) (is-eq (and-left _ z)) (is-eq (and-right _ z))) (omega arith)) (omega arith)
+  unfolding judgeSingle _and_
+  single-read k x y l f = pick-has (Read q) _ _ _ (λ t. pick-has (Read q) _ _ _ (λ z. f (is-le t) (is-eq (and-left _ z)) (is-eq (and-right (eqb y 0) z))) refl) refl
 
   label-read : (x y l : ℕ) → (x ≤ 15 → 1 ≤ l → y ≡ 0 → Read q (good (is-label x l))) → Read q (judgeLabel x y l)
-  unfolding judgeLabel
-  label-read x y l f = pick-has (Read q) _ _ _ (λ t. pick-has (Read q) _ _ _ (λ h. pick-has (Read q) _ _ _ (λ z. f (is-le t) (is-le h) (is-eq z)) (omega arith)) (omega arith)) (omega arith)
+  unfolding judgeLabel _and_
+  label-read x y l f = pick-has (Read q) _ _ _ (λ t. pick-has (Read q) _ _ _ (λ h. pick-has (Read q) _ _ _ (λ z. f (is-le t) (is-le h) (is-eq z)) refl) refl) refl
 
 record-read : (q : Quad) → Read q (judgeRecord (q .first) (q .second) (q .third) (q .fourth))
-unfolding judgeRecord named
+unfolding judgeRecord named _and_
 record-read q =
     pick-has (Read q) _ _ _ (λ t. pair-read q is-child _ _ _ (λ a b z. (quad-eq (is-eq t) refl refl z, record { few = omega arith; labelled = tt })))
     (pick-has (Read q) _ _ _ (λ t. pair-read q is-below _ _ _ (λ a b z. (quad-eq (is-eq t) refl refl z, record { few = omega arith; labelled = tt })))
@@ -55,7 +59,7 @@ record-read q =
     (pick-has (Read q) _ _ _ (λ t. pair-read q is-differ _ _ _ (λ a b z. (quad-eq (is-eq t) refl refl z, record { few = omega arith; labelled = tt })))
     (pick-has (Read q) _ _ _ (λ t. single-read q is-root _ _ _ (λ a y z. (quad-eq (is-eq t) refl y z, record { few = omega arith; labelled = tt })))
     (pick-has (Read q) _ _ _ (λ t. single-read q is-leaf _ _ _ (λ a y z. (quad-eq (is-eq t) refl y z, record { few = omega arith; labelled = tt })))
-    (pick-has (Read q) _ _ _ (λ t. label-read q _ _ _ (λ a h y. (quad-eq (is-eq t) refl y refl, record { few = omega arith; labelled = h }))) (omega arith))))))))
+    (pick-has (Read q) _ _ _ (λ t. label-read q _ _ _ (λ a h y. (quad-eq (is-eq t) refl y refl, record { few = omega arith; labelled = h }))) refl)))))))
 
 -- and the record of a constraint that can be asked spells it
 pair-good : (k : Var → Var → Constraint) (x y : Var) → suc (max x y) ≤ 16 → judgePair k x y 0 ≡ good (k x y)
@@ -97,7 +101,7 @@ pub record RecordsOf (qs : List Quad) (cs : List Constraint) : Type 0 where
   pub askable : (c : Constraint) → List·Memᴰ c cs → Askable c
 
 abbrev ReadAll : List Quad → Judged → Type 0
-ReadAll qs (refused p) = 2 ≤ p
+ReadAll qs (refused p) = Number p
 ReadAll qs (accepted cs) = RecordsOf qs cs
 
 before-read : (q : Quad) (qs : List Quad) (r : JudgedRecord) (j : Judged) → Read q r → ReadAll qs j → ReadAll (q ∷ qs) (before r j)
@@ -110,11 +114,11 @@ before-read q qs (good c) (accepted cs) f g = record {
 }
 
 records-read : (bs : List ℕ) → ReadAll (quads bs) (judgeRecords bs)
-unfolding judgeRecords quads
+unfolding judgeRecords quads _and_
 records-read [] = record { records = refl; askable = λ c m. absurd (List·Memᴰ·not-nil m) }
-records-read (k ∷ []) = omega arith
-records-read (k ∷ x ∷ []) = omega arith
-records-read (k ∷ x ∷ y ∷ []) = omega arith
+records-read (k ∷ []) = refl
+records-read (k ∷ x ∷ []) = refl
+records-read (k ∷ x ∷ y ∷ []) = refl
 records-read (k ∷ x ∷ y ∷ l ∷ bs) = before-read _ (quads bs) _ (judgeRecords bs) (record-read _) (records-read bs)
 
 records-accepted : (bs : List ℕ) (cs : List Constraint) → Whole bs → RecordsOf (quads bs) cs → judgeRecords bs ≡ accepted cs
@@ -163,15 +167,23 @@ unfolding judge
 long-refused file l = pick-no _ _ (λ y. let h : length file ≤ 1024 = is-le y in omega arith)
 
 short-read : (file : List ℕ) → length file ≤ 1024 → ReadAll (quads file) (judge file)
-unfolding judge
-short-read file l = subst (ReadAll (quads file)) (sym (pick-yes _ _ (le-yes l))) (pick-has (ReadAll (quads file)) _ _ _ (λ y. records-read file) (omega arith))
+unfolding judge _and_
+short-read file l = subst (ReadAll (quads file)) (sym (pick-yes _ _ (le-yes l))) (pick-has (ReadAll (quads file)) _ _ _ (λ y. records-read file) refl)
 
 pub refused-long : (file : List ℕ) → judge file ≡ refused 1 → 1024 < length file
 refused-long file e = go (decLe (length file) 1024)
   where
     go : Dec (length file ≤ 1024) → 1024 < length file
-    go (yes l) = let h : 2 ≤ 1 = subst (ReadAll (quads file)) e (short-read file l) in absurd (omega arith)
+    go (yes l) = let h : Number 1 = subst (ReadAll (quads file)) e (short-read file l) in let k : 2 ≤ 1 = is-le (and-left _ h) in absurd (omega arith)
     go (no l) = omega arith
+
+-- questions 1 to 6 have no other number
+pub refused-small : (file : List ℕ) {q : ℕ} → judge file ≡ refused q → q ≤ 6
+refused-small file {q} e = go (decLe (length file) 1024)
+  where
+    go : Dec (length file ≤ 1024) → q ≤ 6
+    go (yes l) = let h : Number q = subst (ReadAll (quads file)) e (short-read file l) in is-le (and-right (leb 2 q) h)
+    go (no l) = let h = long-refused file (omega arith) in let z : 1 ≡ q = cc in omega arith
 
 -- what questions 1 to 6 leave of an accepted file
 module _ {file : List ℕ} {cs : List Constraint} (f : FileOf file cs) where

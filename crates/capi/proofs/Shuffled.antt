@@ -1,0 +1,148 @@
+-- What C is told of a file and of the same file with its records in another order, or with its variables renumbered.
+use mathlib.Core.Path.{_≡_, refl, sym, ap, _∙_, subst}
+use mathlib.Core.Logic.{_↔_}
+use mathlib.Core.List.{List, [], _++_}
+use Prim.Native.Nat.{ℕ, _≤_}
+use native.Mathlib.Decide.{decLe}
+use native.Mathlib.Omega.{arith}
+use lib.ListN.{length, drop}
+use Rattle.meaning.specs.Tree.{Var, Node}
+use Rattle.meaning.specs.Constraint.{Constraint, vars}
+use Rattle.meaning.specs.ReadOff.{NodeRecord, treeOf}
+use Rattle.meaning.specs.Demand.{Answer, a-tree, a-none, a-spent}
+use Rattle.meaning.specs.Marking.{met, unmet}
+use Rattle.meaning.specs.Files.{quads, Judged, refused, accepted, judge, accepted-answer, judgeAnswer, assigned}
+use Rattle.meaning.specs.Results.{Solved, solver-refuses, solver-answers, written, Marked, marker-refuses, marker-answers, told, solvedNumber, markedNumber}
+use Rattle.meaning.specs.Promises.{Answered, SolverPromise}
+use Rattle.meaning.specs.Shuffled.{Shuffled, SameRoom, FirstUnmet, Renumbering, Renumbered, SaysNone, SaysSpent}
+use Rattle.meaning.proofs.Records.{refused-small}
+use Rattle.meaning.proofs.Answered.{answered, count-within}
+use Rattle.meaning.proofs.Shuffled.{same-solved, same-marked}
+use Rattle.meaning.proofs.Renumbered.{same-none}
+use Rattle.theory.specs.Programs.{solver}
+use Rattle.capi.specs.Solves.{Solves}
+use Rattle.capi.specs.Grades.{Grades}
+use Rattle.capi.specs.Shuffled.{verdict, ToldSame}
+
+-- ---- another order
+
+-- what an answer puts at the front of the buffer
+frontOf : Solved → List ℕ
+frontOf (solver-refuses q) = []
+frontOf (solver-answers (a-tree c bs)) = bs
+frontOf (solver-answers (a-none c)) = []
+frontOf (solver-answers (a-spent c)) = []
+
+written-front : (r : Solved) (buffer : List ℕ) → written r buffer ≡ frontOf r ++ drop (length (frontOf r)) buffer
+unfolding written frontOf
+written-front (solver-refuses q) buffer = refl
+written-front (solver-answers (a-tree c bs)) buffer = refl
+written-front (solver-answers (a-none c)) buffer = refl
+written-front (solver-answers (a-spent c)) buffer = refl
+
+pub told-same : {A r s : ℕ} {file other buffer after lent later : List ℕ} {cs : List Constraint} → Shuffled file other → judge file ≡ accepted cs → SameRoom buffer lent
+    → Solves A file buffer r after → Solves A other lent s later → ToldSame buffer after lent later r s
+told-same {buffer = buffer} {lent = lent} p e room u v =
+    let w = same-solved p .answers e room (u .promise) (v .promise) in
+    record {
+      number = v .number ∙ ap solvedNumber (w .0) ∙ sym (u .number);
+      front = frontOf _;
+      wrote = w .1 ∙ written-front _ buffer;
+      other-wrote = w .2 ∙ written-front _ lent;
+    }
+
+-- ---- the verdict
+
+abbrev verdictOf : Solved → ℕ
+verdictOf (solver-answers (a-tree c bs)) = 0
+verdictOf (solver-answers (a-none c)) = 1
+verdictOf (solver-answers (a-spent c)) = 2
+verdictOf (solver-refuses q) = 3
+
+-- the parts of the number fit their places
+abbrev Fits : Solved → Type 0
+Fits (solver-answers (a-tree c bs)) = (c ≤ 4294967295) × (length bs ≤ 132)
+Fits (solver-answers (a-none c)) = c ≤ 4294967295
+Fits (solver-answers (a-spent c)) = c ≤ 4294967295
+Fits (solver-refuses q) = q ≤ 7
+
+verdict-is : (r : Solved) → Fits r → verdict (solvedNumber r) ≡ verdictOf r
+unfolding verdict solvedNumber told
+verdict-is (solver-answers (a-tree c bs)) f = let l = f .0 in let k = f .1 in omega arith
+verdict-is (solver-answers (a-none c)) f = omega arith
+verdict-is (solver-answers (a-spent c)) f = omega arith
+verdict-is (solver-refuses q) f = omega arith
+
+module _ {A : ℕ} {file buffer after : List ℕ} {r : Solved} (most : A ≤ 4294967295) (p : SolverPromise A file buffer r after) where
+  refusal-fits : {q : ℕ} → q ≤ 7 → r ≡ solver-refuses q → Fits r
+  refusal-fits l e = subst Fits (sym e) l
+
+  answer-fits : {cs : List Constraint} → judge file ≡ accepted cs → {a : Answer} → r ≡ solver-answers a → Fits r
+  answer-fits {cs} e {a} q = let w = answered p e q .1 in subst Fits (sym q) (by a w)
+    where
+      by : (b : Answer) → Answered A (vars cs) cs b → Fits (solver-answers b)
+      by (a-tree c bs) w = let l = count-within (w .demand-3) in (omega arith, w .good-file refl .short)
+      by (a-none c) w = let l = count-within (w .demand-3) in omega arith
+      by (a-spent c) w = let l = count-within (w .demand-3) in omega arith
+
+  fits : Fits r
+  fits = by (judge file) refl
+    where
+      by : (j : Judged) → judge file ≡ j → Fits r
+      by (refused q) e = let l = refused-small file e in refusal-fits (omega arith) (p .refuses e)
+      by (accepted cs) e = go (decLe 132 (length buffer))
+        where
+          go : Dec (132 ≤ length buffer) → Fits r
+          go (yes l) = answer-fits e (p .answers e l .1)
+          go (no l) = refusal-fits (omega arith) (p .short-buffer e (omega arith))
+
+none-verdict : (r : Solved) → (verdictOf r ≡ 1) ↔ SaysNone r
+none-verdict (solver-answers (a-tree c bs)) = (λ e. absurd (omega arith), λ w. let e = w .1 in let z : _≡_ {A = ℕ} 0 1 = cc in absurd (omega arith))
+none-verdict (solver-answers (a-none c)) = (λ e. (c, refl), λ w. refl)
+none-verdict (solver-answers (a-spent c)) = (λ e. absurd (omega arith), λ w. let e = w .1 in let z : _≡_ {A = ℕ} 0 1 = cc in absurd (omega arith))
+none-verdict (solver-refuses q) = (λ e. absurd (omega arith), λ w. let e = w .1 in let z : _≡_ {A = ℕ} 0 1 = cc in absurd (omega arith))
+
+-- C sees verdict 1 exactly where none is said, and 2 where spent is
+module _ {A r : ℕ} {file buffer after : List ℕ} (most : A ≤ 4294967295) (u : Solves A file buffer r after) where
+  verdict-told : verdict r ≡ verdictOf (solver A file buffer)
+  verdict-told = ap verdict (u .number) ∙ verdict-is (solver A file buffer) (fits most (u .promise))
+
+  none-told : (verdict r ≡ 1) ↔ SaysNone (solver A file buffer)
+  none-told = let n = none-verdict (solver A file buffer) in (λ e. n .0 (sym verdict-told ∙ e), λ w. verdict-told ∙ n .1 w)
+
+  spent-told : SaysSpent (solver A file buffer) → verdict r ≡ 2
+  spent-told w = verdict-told ∙ ap verdictOf (w .1)
+
+-- ---- variables renumbered
+
+-- allowances are of 32 bits
+pub told-none : {A B r s : ℕ} {to : Var → Var} {file other buffer after lent later : List ℕ} {cs : List Constraint} → A ≤ 4294967295 → B ≤ 4294967295
+    → Renumbered to file other → judge file ≡ accepted cs → Renumbering (vars cs) to → SameRoom buffer lent
+    → Solves A file buffer r after → Solves B other lent s later → ¬ (verdict r ≡ 2) → ¬ (verdict s ≡ 2) → (verdict r ≡ 1) ↔ (verdict s ≡ 1)
+told-none a b p e n room u v f g =
+    let w = same-none p e n .none-iff room (u .promise) (v .promise) (λ x. f (spent-told a u x)) (λ x. g (spent-told b v x)) in
+    (λ x. none-told b v .1 (w .0 (none-told a u .0 x)), λ x. none-told a u .1 (w .1 (none-told b v .0 x)))
+
+-- ---- the marker
+
+met-number : (r : Marked) → markedNumber r ≡ 0 → r ≡ marker-answers met
+unfolding markedNumber told
+met-number (marker-answers met) e = refl
+met-number (marker-answers (unmet i k)) e = absurd (omega arith)
+met-number (marker-refuses q) e = absurd (omega arith)
+
+-- met is the number 0
+pub told-met : {r s : ℕ} {file other answer : List ℕ} {cs : List Constraint} → Shuffled file other → judge file ≡ accepted cs
+    → Grades file answer r → Grades other answer s → (s ≡ 0) ↔ (r ≡ 0)
+unfolding markedNumber told
+told-met p e u v =
+    let w = same-marked p .met-iff e (u .promise) (v .promise) in (
+      λ z. u .number ∙ ap markedNumber (w .0 (met-number _ (sym (v .number) ∙ z))),
+      λ z. v .number ∙ ap markedNumber (w .1 (met-number _ (sym (u .number) ∙ z))),
+    )
+
+-- the position told is that of the first unmet record in the order of the file that is marked
+pub told-unmet : {s i k : ℕ} {file other answer : List ℕ} {cs : List Constraint} {vs : List NodeRecord} {ps : List Node} → Shuffled file other → judge file ≡ accepted cs
+    → judgeAnswer (vars cs) answer ≡ accepted-answer vs ps → Grades other answer s → FirstUnmet (treeOf vs) (assigned ps) (quads other) i k → s ≡ told 1 k i
+unfolding markedNumber
+told-unmet p e d v f = v .number ∙ ap markedNumber (same-marked p .unmet-iff e d (v .promise) .1 f)
