@@ -1,14 +1,15 @@
 -- Exchanging two variables is a renumbering, since it is its own inverse; the rows' files are so renumbered by computing.
 use mathlib.Core.Path.{_≡_, refl, sym, ap, _∙_}
+use mathlib.Core.List.{List}
 use Prim.Native.Nat.{ℕ, _<_}
 use native.Mathlib.Omega.{arith}
 use lib.Dec.{eqb}
 use Rattle.meaning.specs.Tree.{Var}
 use Rattle.meaning.specs.Finite.{pick}
 use Rattle.meaning.specs.Files.{quads}
-use Rattle.meaning.specs.Shuffled.{Renumbering, renumberQuad}
+use Rattle.meaning.specs.Shuffled.{Renumbering, renumberQuad, Renumbered}
 use Rattle.meaning.proofs.Tests.{pick-yes, pick-no, pick-either, pick-has, is-eq, self-eq}
-use Rattle.marked.specs.Renumbered.{swap, RowsRenumbered}
+use Rattle.marked.specs.Renumbered.{swap, Swapped, RowsRenumbered}
 
 module _ (i j : Var) where
   swap-inside : (n : ℕ) → i < n → j < n → (x : Var) → x < n → swap i j x < n
@@ -33,10 +34,13 @@ module _ (i j : Var) where
   swaps : (n : ℕ) → i < n → j < n → Renumbering n (swap i j)
   swaps n k l = record { inside = swap-inside n k l; one-to-one = λ x y a b e. sym (swap-twice x) ∙ ap (swap i j) e ∙ swap-twice y }
 
+swapped : {n : ℕ} {i j : Var} {file other : List ℕ} → i < n → j < n → Renumbered (swap i j) file other → Swapped n i j file other
+swapped {n} {i} {j} k l r = record { renumbering = swaps i j n k l; renumbered = r }
+
 pub rows-renumbered : RowsRenumbered
 unfolding quads renumberQuad swap pick
 rows-renumbered = record {
-  N1-swapped = record { renumbering = swaps 0 1 4 (omega arith) (omega arith); renumbered = record { whole = refl; other-whole = refl; renumbered = refl } };
-  N2-swapped = record { renumbering = swaps 0 3 4 (omega arith) (omega arith); renumbered = record { whole = refl; other-whole = refl; renumbered = refl } };
-  N3-swapped = record { renumbering = swaps 0 2 3 (omega arith) (omega arith); renumbered = record { whole = refl; other-whole = refl; renumbered = refl } };
+  N1-swapped = swapped (omega arith) (omega arith) (record { whole = refl; other-whole = refl; renumbered = refl });
+  N2-swapped = swapped (omega arith) (omega arith) (record { whole = refl; other-whole = refl; renumbered = refl });
+  N3-swapped = swapped (omega arith) (omega arith) (record { whole = refl; other-whole = refl; renumbered = refl });
 }
