@@ -1,9 +1,10 @@
 /*
- * A host program: solves the question of document 01's listing (M10), prints the tree and marks four candidates; reads a question set as
- * paths and solves it; and lists what a refusal can say. What it prints is held to examples/host.stdout. It is C99 and C++; host.rs is the
- * same in Rust.
+ * A host program: solves the question of document 01's listing (M10), prints the tree and marks four candidates; shuffles a question; reads
+ * one set as paths and solves it; and lists what a refusal can say. What it prints is held to examples/host.stdout. It is C99 and C++;
+ * host.rs is the same in Rust.
  */
 #include <inttypes.h>
+#include <stdbool.h>
 #include <stdio.h>
 #include <stdlib.h>
 #include <string.h>
@@ -118,6 +119,49 @@ static void solve_and_mark(uint8_t *answer)
     print_marked(cudreth_mark(question, 0, answer, 0));
 }
 
+/* A question, the same from last record to first, and the same with variables 0 and 1 exchanged. */
+static const uint8_t question[] = {
+    CUDRETH_BELOW, 0, 1, 0,
+    CUDRETH_BELOW, 1, 3, 0,
+    CUDRETH_BELOW, 2, 3, 0,
+};
+static const uint8_t reordered[] = {
+    CUDRETH_BELOW, 2, 3, 0,
+    CUDRETH_BELOW, 1, 3, 0,
+    CUDRETH_BELOW, 0, 1, 0,
+};
+static const uint8_t renumbered[] = {
+    CUDRETH_BELOW, 1, 0, 0,
+    CUDRETH_BELOW, 0, 3, 0,
+    CUDRETH_BELOW, 2, 3, 0,
+};
+static const uint8_t upside_down[] = {
+    CUDRETH_NODE,  0, 0, 0,
+    CUDRETH_NODE,  1, 0, 0,
+    CUDRETH_PLACE, 0, 1, 0,
+    CUDRETH_PLACE, 1, 1, 0,
+    CUDRETH_PLACE, 2, 1, 0,
+    CUDRETH_PLACE, 3, 0, 0,
+};
+
+/* The order of the records matters to the marker's position alone; another numbering can change the count and the tree. */
+static void solve_shuffled(uint8_t *answer)
+{
+    uint8_t other[CUDRETH_ANSWER_BYTES];
+    memcpy(other, answer, sizeof other);
+    uint64_t solved = cudreth_solve(question, sizeof question, answer, CUDRETH_ANSWER_BYTES, UINT32_MAX);
+    print_solved(solved, answer);
+    uint64_t again = cudreth_solve(reordered, sizeof reordered, other, sizeof other, UINT32_MAX);
+    bool same = again == solved && memcmp(other, answer, sizeof other) == 0;
+    printf("from last record to first: %s\n", same ? "the same verdict, count and bytes" : "another result");
+    printf("0 and 1 exchanged: ");
+    print_solved(cudreth_solve(renumbered, sizeof renumbered, answer, CUDRETH_ANSWER_BYTES, UINT32_MAX), answer);
+    printf("3 above 2 and 1: ");
+    print_marked(cudreth_mark(question, sizeof question, upside_down, sizeof upside_down));
+    printf("from last record to first: ");
+    print_marked(cudreth_mark(reordered, sizeof reordered, upside_down, sizeof upside_down));
+}
+
 /* A node that both lines select: its records, then a tree that has it, as the node of variable 0. */
 static void read_and_solve(uint8_t *records, uint8_t *answer)
 {
@@ -147,6 +191,7 @@ int main(void)
     memset(records, 0xee, CUDRETH_RECORDS_BYTES);
 
     solve_and_mark(answer);
+    solve_shuffled(answer);
     read_and_solve(records, answer);
     for (uint32_t number = CUDRETH_Q_CONSTRAINTS_LONG; number <= CUDRETH_Q_TEXT_VARIABLES; number++)
         print_refused(number);

@@ -77,6 +77,38 @@ const WRONG: [u8; 20] = [
     PLACE, 2, 1, 0,
 ];
 
+/// A question, the same from last record to first, and the same with variables 0 and 1 exchanged.
+#[rustfmt::skip]
+const SHUFFLED: [u8; 12] = [
+    BELOW, 0, 1, 0,
+    BELOW, 1, 3, 0,
+    BELOW, 2, 3, 0,
+];
+
+#[rustfmt::skip]
+const REORDERED: [u8; 12] = [
+    BELOW, 2, 3, 0,
+    BELOW, 1, 3, 0,
+    BELOW, 0, 1, 0,
+];
+
+#[rustfmt::skip]
+const RENUMBERED: [u8; 12] = [
+    BELOW, 1, 0, 0,
+    BELOW, 0, 3, 0,
+    BELOW, 2, 3, 0,
+];
+
+#[rustfmt::skip]
+const UPSIDE_DOWN: [u8; 24] = [
+    NODE,  0, 0, 0,
+    NODE,  1, 0, 0,
+    PLACE, 0, 1, 0,
+    PLACE, 1, 1, 0,
+    PLACE, 2, 1, 0,
+    PLACE, 3, 0, 0,
+];
+
 const LINES: &str = "/child::a/descendant::c\nchild::b/child::c\n";
 
 /// M10: solved, and four answers to it marked.
@@ -100,6 +132,22 @@ fn solve_and_mark(answer: &mut [u8]) {
     print_marked(cudreth::mark(&[], &[]));
 }
 
+/// The order of the records matters to the marker's position alone; another numbering can change the count and the tree.
+fn solve_shuffled(answer: &mut [u8]) {
+    let mut other = answer.to_vec();
+    let solved = cudreth::solve(&SHUFFLED, answer, u32::MAX);
+    print_solved(solved, answer);
+    let again = cudreth::solve(&REORDERED, &mut other, u32::MAX);
+    let same = again == solved && other == answer;
+    println!("from last record to first: {}", if same { "the same verdict, count and bytes" } else { "another result" });
+    print!("0 and 1 exchanged: ");
+    print_solved(cudreth::solve(&RENUMBERED, answer, u32::MAX), answer);
+    print!("3 above 2 and 1: ");
+    print_marked(cudreth::mark(&SHUFFLED, &UPSIDE_DOWN));
+    print!("from last record to first: ");
+    print_marked(cudreth::mark(&REORDERED, &UPSIDE_DOWN));
+}
+
 /// A node that both lines select: its records, then a tree that has it, as the node of variable 0.
 fn read_and_solve(records: &mut [u8], answer: &mut [u8]) {
     let text = LINES.as_bytes();
@@ -120,6 +168,7 @@ fn main() {
     let mut records = vec![0xee; RECORDS_BYTES];
 
     solve_and_mark(&mut answer);
+    solve_shuffled(&mut answer);
     read_and_solve(&mut records, &mut answer);
     for question in cudreth::Q_CONSTRAINTS_LONG..=cudreth::Q_TEXT_VARIABLES {
         print_refused(question);
