@@ -6,9 +6,13 @@
 mod path_rounds;
 mod path_sorts;
 mod paths;
+mod renumbered;
+mod reordered;
 mod rounds;
 mod selection;
+mod shuffled;
 mod small;
+mod small_shuffles;
 
 use path_sorts::PathSorts;
 use questions::Random;
@@ -16,6 +20,7 @@ use second::constraint::{self, number_of_variables, Constraint};
 use second::verdict::{hex, MarkerVerdict, SolverVerdict};
 use second::{answer, brute, Refusal};
 use selection::{Selections, SmallTrees};
+use shuffled::Shuffles;
 use std::collections::BTreeMap;
 use std::time::{Duration, Instant};
 
@@ -29,6 +34,7 @@ struct Comparison {
     counts: BTreeMap<usize, u64>,
     /// How many verdicts of the second solver were held against every small tree.
     against_all_small_trees: u64,
+    shuffles: Shuffles,
     path_sorts: PathSorts,
     selections: Selections,
     small_trees: SmallTrees,
@@ -56,6 +62,7 @@ fn main() {
         seen: BTreeMap::new(),
         counts: BTreeMap::new(),
         against_all_small_trees: 0,
+        shuffles: Shuffles::default(),
         path_sorts: PathSorts::default(),
         selections: Selections::default(),
         small_trees: SmallTrees::default(),
@@ -64,6 +71,7 @@ fn main() {
     comparison.long_answers();
     comparison.all_small_questions();
     comparison.all_small_answers();
+    comparison.all_small_shuffles();
     comparison.all_small_paths();
     let deadline = Instant::now() + Duration::from_secs(seconds);
     while Instant::now() < deadline {
@@ -162,7 +170,7 @@ impl Comparison {
             .chain([7, 13, 14].map(|question| format!("paths refused {question}")))
             .chain(["tree", "none", "spent", "met", "paths written"].map(String::from));
         let not_seen = must_be_seen.into_iter().find(|verdict| !self.seen.contains_key(verdict));
-        if let Some(sort) = not_seen.or_else(|| self.path_sort_not_seen()) {
+        if let Some(sort) = not_seen.or_else(|| self.shuffle_not_seen()).or_else(|| self.path_sort_not_seen()) {
             println!("compare: '{sort}' never came up; a longer run is needed");
             std::process::exit(1);
         }
@@ -171,6 +179,8 @@ impl Comparison {
         let counts: Vec<String> = self.counts.iter().map(|(digits, times)| format!("{digits} in {times}")).collect();
         println!("compare: digits of the count of choices in random questions: {}", counts.join(", "));
         println!("compare: {} verdicts of the second solver agree with all small trees", self.against_all_small_trees);
+        let shuffles: Vec<String> = self.shuffles.iter().map(|(what, times)| format!("{what} {times}")).collect();
+        println!("compare: shuffled papers: {}", shuffles.join(", "));
         let Selections { trees, nones, tree_by_tree } = self.selections;
         println!(
             "compare: paths against definition 2.3: variable 0 selected in {trees} trees found; {nones} times none, and no tree of up to \

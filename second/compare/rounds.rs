@@ -5,7 +5,7 @@ use questions::{crowded_path, free, planted, random_assignment, random_constrain
 use second::constraint::{self, number_of_variables, Constraint};
 use second::tree::{Assignment, Tree};
 use second::verdict::{hex, SolverVerdict};
-use second::{answer, LEAST_BUFFER};
+use second::{answer, Refusal, LEAST_BUFFER};
 
 /// What the second solver says, and under which conditions.
 pub struct Solved {
@@ -49,16 +49,23 @@ impl Comparison {
         if sort == "planted questions" && matches!(verdict, SolverVerdict::None { .. }) {
             disagree(sort, &format!("none, yet the planted tree meets\nconstraints {}", hex(&file)));
         }
-        if number_of_variables(&constraints) <= 4 && self.random.one_in(4) {
-            let most_nodes = [7, 7, 6, 6, 5][number_of_variables(&constraints)];
-            self.check_meaning(&constraints, &verdict, most_nodes);
-        }
+        self.check_some_meanings(&constraints, &verdict);
         let solved = Solved { file, allowance, verdict };
         self.allowances(&solved);
         self.buffers(&solved);
-        self.other_order(&solved, &constraints);
+        self.doubled(&solved, &constraints);
+        self.solved_in_another_order(&solved);
+        self.solved_with_other_numbers(&solved, number_of_variables(&constraints));
         self.damaged(&solved);
         self.answers(&solved, &constraints, &tree, &assignment);
+    }
+
+    /// Every fourth verdict on few variables, against trees of so many nodes that they stay few.
+    pub fn check_some_meanings(&mut self, constraints: &[Constraint], verdict: &SolverVerdict) {
+        let most_nodes = [7, 7, 6, 6, 5].get(number_of_variables(constraints));
+        if let Some(&most_nodes) = most_nodes.filter(|_| self.random.one_in(4)) {
+            self.check_meaning(constraints, verdict, most_nodes);
+        }
     }
 
     /// An allowance that keeps one naive search well below a second; now and then a larger one.
@@ -106,12 +113,7 @@ impl Comparison {
     }
 
     /// Verdict, count and bytes depend on the set of records alone.
-    fn other_order(&mut self, solved: &Solved, constraints: &[Constraint]) {
-        let mut reordered = constraints.to_vec();
-        self.random.shuffle(&mut reordered);
-        let file = constraint::write(&reordered);
-        self.hold_solver("reordered questions", &file, LEAST_BUFFER, solved.allowance, &solved.verdict);
-
+    fn doubled(&mut self, solved: &Solved, constraints: &[Constraint]) {
         let mut doubled = constraints.to_vec();
         while !constraints.is_empty() && doubled.len() < 256 && !self.random.one_in(4) {
             let at = self.random.below(doubled.len() + 1);
@@ -125,7 +127,10 @@ impl Comparison {
         for _ in 0..6 {
             let file = self.damage(&solved.file);
             let buffer = self.random.pick(&[0, 1, 131, 132, 133, 200]);
-            self.solve("damaged questions", &file, buffer, solved.allowance.min(60));
+            let verdict = self.solve("damaged questions", &file, buffer, solved.allowance.min(60));
+            if let SolverVerdict::Refused(refusal @ Refusal(1 | 3..=6)) = verdict {
+                self.refused_in_another_order(&file, refusal);
+            }
             let answer_file = match &solved.verdict {
                 SolverVerdict::Tree { answer, .. } => answer.clone(),
                 _ => vec![1, 0, 0, 0],
@@ -188,6 +193,7 @@ impl Comparison {
         }
         for answer_file in &answer_files {
             self.mark("whole answers", &solved.file, answer_file);
+            self.marked_in_another_order(&solved.file, answer_file);
         }
         if self.random.one_in(4) {
             let at = self.random.below(answer_files.len());

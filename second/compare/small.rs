@@ -82,7 +82,7 @@ impl Comparison {
 }
 
 /// Every record over these variables, with labels 97 and 98.
-fn all_records(variables: u8) -> Vec<Constraint> {
+pub fn all_records(variables: u8) -> Vec<Constraint> {
     let mut records = Vec::new();
     for x in (0..variables).map(Variable) {
         for y in (0..variables).map(Variable) {
@@ -105,18 +105,13 @@ fn plain_records(variables: u8) -> Vec<Constraint> {
 }
 
 /// The plain records of the kinds that make and decide joins; the other kinds are made of these, or labels.
-fn joining_records(variables: u8) -> Vec<Constraint> {
+pub fn joining_records(variables: u8) -> Vec<Constraint> {
     let joins = |record: &Constraint| [1, 2, 5, 6, 7].contains(&record.kind());
     plain_records(variables).into_iter().filter(joins).collect()
 }
 
 /// Visits every choice of `size` of the records, repeats included, order left out.
-fn for_each_choice(
-    records: &[Constraint],
-    size: usize,
-    chosen: &mut Vec<Constraint>,
-    visit: &mut dyn FnMut(&[Constraint]),
-) {
+pub fn for_each_choice<T: Copy>(records: &[T], size: usize, chosen: &mut Vec<T>, visit: &mut dyn FnMut(&[T])) {
     if size == 0 {
         return visit(chosen);
     }

@@ -1,6 +1,7 @@
 //! Seeded questions for the comparison and for the stored corpus.
 
 pub mod paths;
+pub mod shuffle;
 
 use second::constraint::{Constraint, Variable};
 use second::tree::{meets, Assignment, Node, Tree};

@@ -1,0 +1,116 @@
+//! Shuffled papers that are compared whatever the seed: every order and every renumbering of the small questions, every order of small
+//! refused files, and small answers to two records in both orders.
+
+use crate::rounds::Solved;
+use crate::small::{all_records, for_each_choice, joining_records};
+use crate::Comparison;
+use questions::shuffle::{in_order, permutations, renumbered};
+use second::constraint::{self, number_of_variables, Constraint};
+use second::verdict::SolverVerdict;
+use second::{answer, brute, LEAST_BUFFER};
+use std::collections::BTreeSet;
+
+impl Comparison {
+    pub fn all_small_shuffles(&mut self) {
+        self.all_shuffles_of(
+            ["orders of up to 3 records over 2 variables", "renumberings of up to 3 records over 2 variables"],
+            &all_records(2),
+        );
+        self.all_shuffles_of(
+            ["orders of up to 3 records over 3 variables", "renumberings of up to 3 records over 3 variables"],
+            &all_records(3),
+        );
+        self.all_shuffles_of(
+            ["orders of up to 3 joining records over 4", "renumberings of up to 3 joining records over 4"],
+            &joining_records(4),
+        );
+        self.all_orders_of_bad_records();
+        self.all_small_answers_in_both_orders();
+    }
+
+    /// Every set of up to 3 of the records.
+    fn all_shuffles_of(&mut self, [orders, renumberings]: [&'static str; 2], records: &[Constraint]) {
+        for size in 1..=3 {
+            for_each_choice(records, size, &mut Vec::new(), &mut |constraints| {
+                let file = constraint::write(constraints);
+                let verdict = second::solve(&file, LEAST_BUFFER, u32::MAX);
+                let solved = Solved { file, allowance: u32::MAX, verdict };
+                self.every_order(orders, &solved);
+                for numbers in permutations(number_of_variables(constraints)) {
+                    if renumbered(&solved.file, &numbers) != solved.file {
+                        self.hold_renumbered(renumberings, &solved, &numbers);
+                    }
+                }
+            });
+        }
+    }
+
+    /// Where there are choices, with one too few as well.
+    fn every_order(&mut self, sort: &'static str, solved: &Solved) {
+        let spent = match solved.verdict {
+            SolverVerdict::Tree { count: count @ 1.., .. } | SolverVerdict::None { count: count @ 1.. } => {
+                let (allowance, verdict) = (count - 1, SolverVerdict::Spent { count: count - 1 });
+                Some(Solved { file: solved.file.clone(), allowance, verdict })
+            }
+            _ => None,
+        };
+        for other in other_orders(&solved.file) {
+            self.hold_reordered(sort, solved, &other);
+            if let Some(spent) = &spent {
+                self.hold_reordered(sort, spent, &other);
+            }
+        }
+    }
+
+    /// Up to 4 records, good ones and some for each of questions 3 to 6.
+    fn all_orders_of_bad_records(&mut self) {
+        const RECORDS: [[u8; 4]; 8] = [
+            [1, 0, 1, 0],
+            [8, 0, 0, 97],
+            [0, 16, 0, 0],
+            [9, 0, 0, 1],
+            [7, 16, 1, 0],
+            [8, 0, 1, 0],
+            [6, 0, 16, 0],
+            [5, 0, 1, 97],
+        ];
+        for size in 1..=4 {
+            for_each_choice(&RECORDS, size, &mut Vec::new(), &mut |records| {
+                let file = records.concat();
+                if let Err(refusal) = constraint::read(&file) {
+                    for other in other_orders(&file) {
+                        self.hold_refused("orders of up to 4 good and bad records", refusal, &other);
+                    }
+                }
+            });
+        }
+    }
+
+    /// Every tree of up to 3 nodes with every assignment, to every two records over 2 variables.
+    fn all_small_answers_in_both_orders(&mut self) {
+        const SORT: &str = "small answers to two records in both orders";
+        for nodes in 1..=3 {
+            for shape in brute::shapes(nodes) {
+                // Each label that the records name, and a blank.
+                let tree = brute::tree_of_shape(&shape, [97, 98, 0][..nodes].to_vec());
+                for_each_choice(&all_records(2), 2, &mut Vec::new(), &mut |pair| {
+                    let file = constraint::write(pair);
+                    for assignment in brute::assignments(number_of_variables(pair), nodes) {
+                        let answer_file = answer::write(&tree, &assignment);
+                        self.mark(SORT, &file, &answer_file);
+                        for other in other_orders(&file) {
+                            self.hold_marked(SORT, &file, &answer_file, &other);
+                        }
+                    }
+                });
+            }
+        }
+    }
+}
+
+/// The other files with the same records.
+fn other_orders(file: &[u8]) -> BTreeSet<Vec<u8>> {
+    let mut files: BTreeSet<Vec<u8>> = permutations(file.len() / 4).iter().map(|order| in_order(file, order)).collect();
+    files.remove(file);
+    files
+}
