@@ -1,12 +1,12 @@
 -- What C is told of a file and of the same file with its records in another order, or with its variables renumbered.
 use mathlib.Core.Path.{_≡_, refl, sym, ap, _∙_, subst}
 use mathlib.Core.Logic.{_↔_}
-use mathlib.Core.List.{List, [], _++_}
+use mathlib.Core.List.{List, [], _∷_, _++_}
 use Prim.Native.Nat.{ℕ, _≤_}
 use native.Mathlib.Decide.{decLe}
 use native.Mathlib.Omega.{arith}
-use lib.ListN.{length, drop}
-use Rattle.meaning.specs.Tree.{Var, Node}
+use lib.ListN.{length, drop, length-append}
+use Rattle.meaning.specs.Tree.{Var, Node, Assignment, Tree}
 use Rattle.meaning.specs.Constraint.{Constraint, vars}
 use Rattle.meaning.specs.ReadOff.{NodeRecord, treeOf}
 use Rattle.meaning.specs.Demand.{Answer, a-tree, a-none, a-spent}
@@ -15,14 +15,14 @@ use Rattle.meaning.specs.Files.{quads, Judged, refused, accepted, judge, accept
 use Rattle.meaning.specs.Results.{Solved, solver-refuses, solver-answers, written, Marked, marker-refuses, marker-answers, told, solvedNumber, markedNumber}
 use Rattle.meaning.specs.Promises.{Answered, SolverPromise}
 use Rattle.meaning.specs.Shuffled.{Shuffled, SameRoom, FirstUnmet, Renumbering, Renumbered, SaysNone, SaysSpent}
-use Rattle.meaning.proofs.Records.{refused-small}
-use Rattle.meaning.proofs.Answered.{answered, count-within}
-use Rattle.meaning.proofs.Shuffled.{same-solved, same-marked}
+use Rattle.meaning.proofs.Records.{FileOf, spells-kind, quads-length, accepted-file, refused-small}
+use Rattle.meaning.proofs.Said.{answered, count-within}
+use Rattle.meaning.proofs.Shuffled.{same-solved, answers-not, same-marked}
 use Rattle.meaning.proofs.Renumbered.{same-none}
-use Rattle.theory.specs.Programs.{solver}
+use Rattle.theory.specs.Programs.{solver, marker}
 use Rattle.capi.specs.Solves.{Solves}
 use Rattle.capi.specs.Grades.{Grades}
-use Rattle.capi.specs.Shuffled.{verdict, ToldSame}
+use Rattle.capi.specs.Shuffled.{verdict, middle, low, ToldSame}
 
 -- ---- another order
 
@@ -141,8 +141,36 @@ told-met p e u v =
       λ z. v .number ∙ ap markedNumber (w .1 (met-number _ (sym (u .number) ∙ z))),
     )
 
--- the position told is that of the first unmet record in the order of the file that is marked
-pub told-unmet : {s i k : ℕ} {file other answer : List ℕ} {cs : List Constraint} {vs : List NodeRecord} {ps : List Node} → Shuffled file other → judge file ≡ accepted cs
-    → judgeAnswer (vars cs) answer ≡ accepted-answer vs ps → Grades other answer s → FirstUnmet (treeOf vs) (assigned ps) (quads other) i k → s ≡ told 1 k i
+-- position and kind fit their places
+unmet-small : {t : Tree} {a : Assignment} {file : List ℕ} {cs : List Constraint} {i k : ℕ} → FileOf file cs → FirstUnmet t a (quads file) i k → (i ≤ 256) × (k ≤ 8)
+unmet-small {file = file} {cs = cs} f u =
+    let n = quads-length file (f .whole) in
+    let s = f .short in
+    let e = ap length (u .is-list) ∙ length-append (u .earlier) (u .at ∷ u .later) in
+    let p = u .position in
+    (omega arith, subst (λ (k : ℕ). k ≤ 8) (u .kind) (spells-kind (u .at) (u .unmet-there .1)))
+
+unmet-number : (r : Marked) → verdict (markedNumber r) ≡ 1 → ((q : ℕ) → ¬ (r ≡ marker-refuses q)) → (i : ℕ) × (k : ℕ) × (r ≡ marker-answers (unmet i k))
+unfolding verdict markedNumber told
+unmet-number (marker-answers met) e f = absurd (omega arith)
+unmet-number (marker-answers (unmet i k)) e f = (i, k, refl)
+unmet-number (marker-refuses q) e f = absurd (f q refl)
+
+unmet-apart : {s i k : ℕ} → s ≡ told 1 k i → i ≤ 256 → k ≤ 8 → (low s ≡ i) × (middle s ≡ k)
+unfolding told low middle
+unmet-apart e l m = (omega arith, omega arith)
+
+-- the position told is that of the first unmet record in the order of the file that is marked, and the kind its first byte
+pub told-unmet : {s : ℕ} {file other answer : List ℕ} {cs : List Constraint} {vs : List NodeRecord} {ps : List Node} → Shuffled file other → judge file ≡ accepted cs
+    → judgeAnswer (vars cs) answer ≡ accepted-answer vs ps → Grades other answer s → verdict s ≡ 1 → FirstUnmet (treeOf vs) (assigned ps) (quads other) (low s) (middle s)
 unfolding markedNumber
-told-unmet p e d v f = v .number ∙ ap markedNumber (same-marked p .unmet-iff e d (v .promise) .1 f)
+told-unmet {s} {other = other} {answer = answer} {vs = vs} {ps = ps} p e d v h =
+    let o = same-solved p .accepts e in
+    let asked = ap (λ (n : ℕ). judgeAnswer n answer) (o .2) ∙ d in
+    let w = v .promise .answers (o .1) asked in
+    let m = unmet-number (marker other answer) (ap verdict (sym (v .number)) ∙ h) (λ q r. answers-not (sym (w .1) ∙ r)) in
+    let u = same-marked p .unmet-iff e d (v .promise) .0 (m .2) in
+    let f = unmet-small (accepted-file (o .1)) u in
+    let a = unmet-apart (v .number ∙ ap markedNumber (m .2)) (f .0) (f .1) in
+    subst (λ (i : ℕ). FirstUnmet (treeOf vs) (assigned ps) (quads other) i (middle s)) (sym (a .0))
+    (subst (FirstUnmet (treeOf vs) (assigned ps) (quads other) (m .0)) (sym (a .1)) u)

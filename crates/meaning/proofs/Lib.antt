@@ -27,7 +27,7 @@ pub mod PathCounts
 pub mod PathMoves
 pub mod PathMeaning
 -- what the solver's answers say of the constraints
-pub mod Answered
+pub mod Said
 -- shuffled papers: records in another order; variables that no record names; variables renumbered
 pub mod Reordered
 pub mod Shuffled

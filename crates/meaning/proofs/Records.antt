@@ -61,6 +61,19 @@ record-read q =
     (pick-has (Read q) _ _ _ (λ t. single-read q is-leaf _ _ _ (λ a y z. (quad-eq (is-eq t) refl y z, record { few = omega arith; labelled = tt })))
     (pick-has (Read q) _ _ _ (λ t. label-read q _ _ _ (λ a h y. (quad-eq (is-eq t) refl y refl, record { few = omega arith; labelled = h }))) refl)))))))
 
+kind-most : (c : Constraint) → quadOf c .first ≤ 8
+kind-most (is-child x y) = omega arith
+kind-most (is-below x y) = omega arith
+kind-most (is-strictly-below x y) = omega arith
+kind-most (is-same x y) = omega arith
+kind-most (is-differ x y) = omega arith
+kind-most (is-root x) = omega arith
+kind-most (is-leaf x) = omega arith
+kind-most (is-label x l) = omega arith
+
+pub spells-kind : (q : Quad) {c : Constraint} → Spells q c → q .first ≤ 8
+spells-kind q {c} e = let r : Read q (good c) = subst (Read q) e (record-read q) in subst (λ (p : Quad). p .first ≤ 8) (sym (r .0)) (kind-most c)
+
 -- and the record of a constraint that can be asked spells it
 pair-good : (k : Var → Var → Constraint) (x y : Var) → suc (max x y) ≤ 16 → judgePair k x y 0 ≡ good (k x y)
 unfolding judgePair pick
@@ -190,5 +203,5 @@ module _ {file : List ℕ} {cs : List Constraint} (f : FileOf file cs) where
   pub file-vars : vars cs ≤ 16
   file-vars = vars-least 16 cs (λ c m. f .of .askable c m .few)
 
-  pub file-length : 4 * length cs ≡ length file
-  file-length = ap (λ (k : ℕ). 4 * k) (sym (length-map cs quadOf) ∙ ap length (sym (f .of .records))) ∙ quads-length file (f .whole)
+  pub constraints-length : 4 * length cs ≡ length file
+  constraints-length = ap (λ (k : ℕ). 4 * k) (sym (length-map cs quadOf) ∙ ap length (sym (f .of .records))) ∙ quads-length file (f .whole)

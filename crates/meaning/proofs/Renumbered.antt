@@ -18,7 +18,7 @@ use Rattle.meaning.proofs.Finite.{any-intro, smallest-passes, smallest-
 use Rattle.meaning.proofs.Lists.{in-map, from-map}
 use Rattle.meaning.proofs.Constraints.{OnLabelOf, Names, names-below, meets-agree, named-most, vars-least}
 use Rattle.meaning.proofs.Records.{Askable, FileOf, quads-length, accepted-file, file-accepted, file-vars}
-use Rattle.meaning.proofs.Answered.{answered, said-none, says-none}
+use Rattle.meaning.proofs.Said.{answered, said-none, says-none}
 use Rattle.meaning.proofs.Unnamed.{unnamed-met}
 
 -- ---- one constraint

@@ -208,7 +208,7 @@ unmet-in-order {file} {answer} {r} {cs} {vs} {ps} {i} {k} e d u = (to, from)
         w .1 ∙ ap marker-answers (sym (w .2 .only m)) ∙ ap (λ (j : ℕ). marker-answers (unmet j (g .at .first))) (g .position)
         ∙ ap (λ (j : ℕ). marker-answers (unmet i j)) (g .kind)
 
-answers-not : {q : ℕ} {m : Mark} → marker-answers m ≡ marker-refuses q → ⊥
+pub answers-not : {q : ℕ} {m : Mark} → marker-answers m ≡ marker-refuses q → ⊥
 answers-not e = let z : _≡_ {A = ℕ} 0 1 = cc in omega arith
 
 module _ {file other : List ℕ} (p : Shuffled file other) {answer : List ℕ} {r s : Marked} (u : MarkerPromise file answer r) (v : MarkerPromise other answer s)

@@ -13,7 +13,7 @@ use Rattle.meaning.specs.FixedSearch.{Outcome, in-none}
 use Rattle.meaning.specs.Demand.{FixedSearch}
 use Rattle.meaning.proofs.Tests.{pick-yes, pick-either, is-lt, lt-yes}
 use Rattle.meaning.proofs.Constraints.{Names, names-below, meets-agree, named-most}
-use Rattle.meaning.proofs.Answered.{none-cannot}
+use Rattle.meaning.proofs.Said.{none-cannot}
 
 -- every constraint is met, and the variables that they name are on nodes
 pub record MeetsNamed (t : Tree) (a : Assignment) (cs : List Constraint) : Type 0 where

@@ -20,7 +20,7 @@ use Rattle.meaning.specs.Promises.{SolverPromise}
 use Rattle.meaning.proofs.Finite.{split-lt}
 use Rattle.meaning.proofs.Trees.{root-above}
 use Rattle.meaning.proofs.Constraints.{Names, names-below, meets-agree, named-most}
-use Rattle.meaning.proofs.Answered.{none-ends, answered}
+use Rattle.meaning.proofs.Said.{none-ends, answered}
 use Rattle.theory.proofs.ConstraintFile.{Bytes, accepted-labels}
 use Rattle.theory.proofs.Numbering.{numbered}
 

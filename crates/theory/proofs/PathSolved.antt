@@ -12,7 +12,7 @@ use Rattle.meaning.specs.Selection.{SomeTreeSelects, SomeAnyTreeSelects}
 use Rattle.meaning.specs.PathRecords.{recordsOf, variablesOf, fileBytes}
 use Rattle.meaning.specs.Results.{Solved, solver-answers, paths-written}
 use Rattle.meaning.specs.Promises.{SolverPromise, PathsPromise}
-use Rattle.meaning.proofs.Answered.{said-none, said-tree}
+use Rattle.meaning.proofs.Said.{said-none, said-tree}
 use Rattle.theory.proofs.PathAnyTree.{selected-iff-any-selected}
 use Rattle.theory.proofs.PathPromise.{right-records}
 
