@@ -146,9 +146,10 @@ unmet-small : {t : Tree} {a : Assignment} {file : List ℕ} {cs : List Constrain
 unmet-small {file = file} {cs = cs} f u =
     let n = quads-length file (f .whole) in
     let s = f .short in
-    let e = ap length (u .is-list) ∙ length-append (u .earlier) (u .at ∷ u .later) in
-    let p = u .position in
-    (omega arith, subst (λ (k : ℕ). k ≤ 8) (u .kind) (spells-kind (u .at) (u .unmet-there .1)))
+    let l = u .1 in
+    let e = ap length (l .is-list) ∙ length-append (l .earlier) (u .0 ∷ l .later) in
+    let p = l .position in
+    (omega arith, subst (λ (k : ℕ). k ≤ 8) (u .3) (spells-kind (u .0) (u .2 .1)))
 
 unmet-number : (r : Marked) → verdict (markedNumber r) ≡ 1 → ((q : ℕ) → ¬ (r ≡ marker-refuses q)) → (i : ℕ) × (k : ℕ) × (r ≡ marker-answers (unmet i k))
 unfolding verdict markedNumber told

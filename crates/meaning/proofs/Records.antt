@@ -190,6 +190,15 @@ refused-long file e = go (decLe (length file) 1024)
     go (yes l) = let h : Number 1 = subst (ReadAll (quads file)) e (short-read file l) in let k : 2 ≤ 1 = is-le (and-left _ h) in absurd (omega arith)
     go (no l) = omega arith
 
+-- any other number is a record's
+pub refused-records : (file : List ℕ) {q : ℕ} → Whole file → judge file ≡ refused q → ¬ (q ≡ 1) → judgeRecords file ≡ refused q
+unfolding judge
+refused-records file {q} w e n = go (decLe (length file) 1024)
+  where
+    go : Dec (length file ≤ 1024) → judgeRecords file ≡ refused q
+    go (yes l) = sym (pick-yes _ _ (eq-yes w)) ∙ sym (pick-yes _ _ (le-yes l)) ∙ e
+    go (no l) = let h = long-refused file (omega arith) in let z : 1 ≡ q = cc in absurd (n (sym z))
+
 -- questions 1 to 6 have no other number
 pub refused-small : (file : List ℕ) {q : ℕ} → judge file ≡ refused q → q ≤ 6
 refused-small file {q} e = go (decLe (length file) 1024)

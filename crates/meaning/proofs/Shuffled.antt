@@ -12,11 +12,11 @@ use Rattle.meaning.specs.Constraint.{Constraint, is-child, is-below, is-
 use Rattle.meaning.specs.ReadOff.{NodeRecord, treeOf}
 use Rattle.meaning.specs.Demand.{Demand3}
 use Rattle.meaning.specs.Marking.{Mark, met, unmet, kind, further, Marks, all-met, not-met, is-met}
-use Rattle.meaning.specs.Files.{Quad, quads, quadOf, good, Spells, Judged, refused, accepted, judge, JudgedAnswer, refused-answer, accepted-answer, judgeAnswer, assigned}
+use Rattle.meaning.specs.Files.{Quad, quads, Whole, quadOf, JudgedRecord, bad, good, judgeRecord, Spells, Judged, refused, accepted, before, judgeRecords, judge, JudgedAnswer, refused-answer, accepted-answer, judgeAnswer, assigned}
 use Rattle.meaning.specs.Results.{Solved, solver-answers, Marked, marker-refuses, marker-answers, written}
 use Rattle.meaning.specs.Promises.{SolverPromise, MarkerPromise}
-use Rattle.meaning.specs.Shuffled.{Reordered, Shuffled, SameRoom, SameSolved, MetRecord, UnmetRecord, FirstUnmet, SameMarked}
-use Rattle.meaning.proofs.Records.{Askable, spells, FileOf, quads-length, accepted-file, file-accepted, long-refused, refused-long}
+use Rattle.meaning.specs.Shuffled.{Reordered, Shuffled, FirstAt, FirstRefused, SameRoom, SameSolved, MetRecord, UnmetRecord, FirstUnmet, SameMarked}
+use Rattle.meaning.proofs.Records.{Askable, spells, FileOf, quads-length, accepted-file, file-accepted, long-refused, refused-long, refused-records}
 use Rattle.meaning.proofs.SameAnswer.{SameConstraints, same-vars, same-answer}
 use Rattle.meaning.proofs.Reordered.{reordered-back, reordered-length, reordered-in, reordered-map}
 
@@ -64,16 +64,48 @@ accepted-not e = let z : _≡_ {A = ℕ} 0 1 = cc in omega arith
 number-is : {p q : ℕ} → refused p ≡ refused q → p ≡ q
 number-is e = cc
 
+-- ---- the first that is looked for
+
+first-here : {A : Type 0} {P : A → Type 0} {x : A} {xs : List A} → FirstAt P (x ∷ xs) 0 x
+first-here {xs = xs} = record { earlier = []; later = xs; is-list = refl; position = refl; otherwise = λ y m. absurd (List·Memᴰ·not-nil m) }
+
+first-further : {A : Type 0} {P : A → Type 0} {x y : A} {xs : List A} {i : ℕ} → P y → FirstAt P xs i x → FirstAt P (y ∷ xs) (suc i) x
+first-further {P = P} {y = y} h f = record {
+  earlier = y ∷ f .earlier;
+  later = f .later;
+  is-list = ap (λ (l : List _). y ∷ l) (f .is-list);
+  position = ap suc (f .position);
+  otherwise = λ z m. ⊎-elim (λ e. subst P (sym e) h) (f .otherwise z) (List·Memᴰ·cases-cons m);
+}
+
+first-refused : (bs : List ℕ) (p : ℕ) → Whole bs → judgeRecords bs ≡ refused p → FirstRefused (quads bs) p
+unfolding judgeRecords quads before
+first-refused [] p w e = absurd (accepted-not e)
+first-refused (k ∷ []) p w e = absurd (omega arith)
+first-refused (k ∷ x ∷ []) p w e = absurd (omega arith)
+first-refused (k ∷ x ∷ y ∷ []) p w e = absurd (omega arith)
+first-refused (k ∷ x ∷ y ∷ l ∷ bs) p w e = by (judgeRecord k x y l) (judgeRecords bs) refl refl e (λ d. first-refused bs p (omega arith) d)
+  where
+    by : (r : JudgedRecord) (j : Judged) → judgeRecord k x y l ≡ r → judgeRecords bs ≡ j → before r j ≡ refused p
+        → (judgeRecords bs ≡ refused p → FirstRefused (quads bs) p) → FirstRefused (quads (k ∷ x ∷ y ∷ l ∷ bs)) p
+    by (bad q) j d f g h = (0, _, first-here, d ∙ ap bad (number-is g))
+    by (good c) (accepted cs) d f g h = absurd (accepted-not g)
+    by (good c) (refused q) d f g h = let u = h (f ∙ g) in (suc (u .0), u .1, first-further (c, d) (u .2), u .3)
+
 module _ {file other : List ℕ} (p : Shuffled file other) where
-  still-refused : {q : ℕ} → judge file ≡ refused q → (k : ℕ) × (judge other ≡ refused k) × ((k ≡ 1) ↔ (q ≡ 1))
+  abbrev StillRefused : ℕ → Type 0
+  StillRefused q = (k : ℕ) × (judge other ≡ refused k) × ((k ≡ 1) ↔ (q ≡ 1)) × (¬ (k ≡ 1) → FirstRefused (quads other) k)
+
+  still-refused : {q : ℕ} → judge file ≡ refused q → StillRefused q
   still-refused {q} d = by (judge other) refl
     where
-      by : (j : Judged) → judge other ≡ j → (k : ℕ) × (judge other ≡ refused k) × ((k ≡ 1) ↔ (q ≡ 1))
+      by : (j : Judged) → judge other ≡ j → StillRefused q
       by (accepted ds) e = absurd (accepted-not (sym (refiled (shuffled-back p) e .judged) ∙ d))
       by (refused k) e = (
         k,
         e,
         (λ z. number-is (sym d ∙ still-long (shuffled-back p) (e ∙ ap refused z)), λ z. number-is (sym e ∙ still-long p (d ∙ ap refused z))),
+        λ n. first-refused other k (p .other-whole) (refused-records other (p .other-whole) e n),
       )
 
 -- ---- the solver
@@ -131,32 +163,14 @@ module _ (t : Tree) (a : Assignment) where
   record-fails : {c : Constraint} → Askable c → UnmetRecord t a (quadOf c) → ¬ Meets t a c
   record-fails {c} k m h = m .2 (subst (Meets t a) (spells-one (quadOf c) (spells c k) (m .1)) h)
 
-  further-unmet : (q : Quad) (qs : List Quad) {i k : ℕ} → MetRecord t a q → FirstUnmet t a qs i k → FirstUnmet t a (q ∷ qs) (suc i) k
-  further-unmet q qs h f = record {
-    earlier = q ∷ f .earlier;
-    at = f .at;
-    later = f .later;
-    is-list = ap (λ (l : List Quad). q ∷ l) (f .is-list);
-    position = ap suc (f .position);
-    kind = f .kind;
-    met-earlier = λ p m. ⊎-elim (λ z. subst (MetRecord t a) (sym z) h) (f .met-earlier p) (List·Memᴰ·cases-cons m);
-    unmet-there = f .unmet-there;
-  }
-
   marks-first : {cs : List Constraint} {m : Mark} → ((c : Constraint) → List·Memᴰ c cs → Askable c) → Marks t a cs m
       → (i k : ℕ) → m ≡ unmet i k → FirstUnmet t a (map quadOf cs) i k
   unfolding further
   marks-first ask all-met i k d = let z : _≡_ {A = ℕ} 0 1 = cc in absurd (omega arith)
-  marks-first ask (not-met {c} {cs} h) i k d = record {
-    earlier = [];
-    at = quadOf c;
-    later = map quadOf cs;
-    is-list = refl;
-    position = (let z : 0 ≡ i = cc in z);
-    kind = sym (kind-first c) ∙ (let z : kind c ≡ k = cc in z);
-    met-earlier = λ p m. absurd (List·Memᴰ·not-nil m);
-    unmet-there = (c, spells c (ask c (List·Memᴰ·head refl)), h);
-  }
+  marks-first ask (not-met {c} {cs} h) i k d =
+      let z : 0 ≡ i = cc in
+      let y : kind c ≡ k = cc in
+      (quadOf c, subst (λ (j : ℕ). FirstAt (MetRecord t a) (map quadOf (c ∷ cs)) j (quadOf c)) z first-here, (c, spells c (ask c (List·Memᴰ·head refl)), h), sym (kind-first c) ∙ y)
   marks-first ask (is-met {c} {cs} {m} h w) i k d = by m d (λ j l z. marks-first (λ c n. ask c (List·Memᴰ·tail n)) w j l z)
     where
       by : (x : Mark) → further x ≡ unmet i k → ((j l : ℕ) → x ≡ unmet j l → FirstUnmet t a (map quadOf cs) j l) → FirstUnmet t a (map quadOf (c ∷ cs)) i k
@@ -164,8 +178,9 @@ module _ (t : Tree) (a : Assignment) where
       by (unmet j l) z f =
           let y : suc j ≡ i = cc in
           let x : l ≡ k = cc in
-          let g = further-unmet (quadOf c) (map quadOf cs) (c, spells c (ask c (List·Memᴰ·head refl)), h) (f j l refl) in
-          subst (λ (o : ℕ). FirstUnmet t a (map quadOf (c ∷ cs)) o k) y (subst (FirstUnmet t a (map quadOf (c ∷ cs)) (suc j)) x g)
+          let u = f j l refl in
+          let g = first-further (c, spells c (ask c (List·Memᴰ·head refl)), h) (u .1) in
+          (u .0, subst (λ (o : ℕ). FirstAt (MetRecord t a) (map quadOf (c ∷ cs)) o (u .0)) y g, u .2, u .3 ∙ x)
 
   first-marks : (cs : List Constraint) (earlier : List Quad) (at : Quad) (later : List Quad) → ((c : Constraint) → List·Memᴰ c cs → Askable c)
       → map quadOf cs ≡ earlier ++ (at ∷ later) → ((q : Quad) → List·Memᴰ q earlier → MetRecord t a q) → UnmetRecord t a at
@@ -204,9 +219,10 @@ unmet-in-order {file} {answer} {r} {cs} {vs} {ps} {i} {k} e d u = (to, from)
     from : FirstUnmet (treeOf vs) (assigned ps) (quads file) i k → r ≡ marker-answers (unmet i k)
     from g =
         let w = u .answers e d in
-        let m = first-marks (treeOf vs) (assigned ps) cs (g .earlier) (g .at) (g .later) (f .of .askable) (sym (f .of .records) ∙ g .is-list) (g .met-earlier) (g .unmet-there) in
-        w .1 ∙ ap marker-answers (sym (w .2 .only m)) ∙ ap (λ (j : ℕ). marker-answers (unmet j (g .at .first))) (g .position)
-        ∙ ap (λ (j : ℕ). marker-answers (unmet i j)) (g .kind)
+        let l = g .1 in
+        let m = first-marks (treeOf vs) (assigned ps) cs (l .earlier) (g .0) (l .later) (f .of .askable) (sym (f .of .records) ∙ l .is-list) (l .otherwise) (g .2) in
+        w .1 ∙ ap marker-answers (sym (w .2 .only m)) ∙ ap (λ (j : ℕ). marker-answers (unmet j (g .0 .first))) (l .position)
+        ∙ ap (λ (j : ℕ). marker-answers (unmet i j)) (g .3)
 
 pub answers-not : {q : ℕ} {m : Mark} → marker-answers m ≡ marker-refuses q → ⊥
 answers-not e = let z : _≡_ {A = ℕ} 0 1 = cc in omega arith

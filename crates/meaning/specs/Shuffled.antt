@@ -12,7 +12,7 @@ use Rattle.meaning.specs.Finite.{pick}
 use Rattle.meaning.specs.ReadOff.{NodeRecord, treeOf}
 use Rattle.meaning.specs.Demand.{a-none, a-spent}
 use Rattle.meaning.specs.Marking.{met, unmet}
-use Rattle.meaning.specs.Files.{Quad, quads, Whole, Spells, refused, accepted, judge, accepted-answer, judgeAnswer, assigned}
+use Rattle.meaning.specs.Files.{Quad, quads, Whole, bad, judgeQuad, Spells, refused, accepted, judge, accepted-answer, judgeAnswer, assigned}
 use Rattle.meaning.specs.Results.{Solved, solver-answers, Marked, marker-refuses, marker-answers, written}
 use Rattle.meaning.specs.Promises.{SolverPromise, MarkerPromise}
 
@@ -30,6 +30,18 @@ pub record Shuffled (file other : List ℕ) : Type 0 where
   pub other-whole : Whole other
   pub reordered : Reordered (quads file) (quads other)
 
+-- the first that is looked for: x is at position i, from 0, and all that come before it are otherwise
+pub record FirstAt {A : Type 0} (Otherwise : A → Type 0) (xs : List A) (i : ℕ) (x : A) : Type 0 where
+  pub earlier : List A
+  pub later : List A
+  pub is-list : xs ≡ earlier ++ (x ∷ later)
+  pub position : length earlier ≡ i
+  pub otherwise : (y : A) → List·Memᴰ y earlier → Otherwise y
+
+-- the first of the records that questions 3 to 6 refuse is refused with p
+abbrev pub FirstRefused : List Quad → ℕ → Type 0
+FirstRefused qs p = (i : ℕ) × (q : Quad) × FirstAt (λ r. (c : Constraint) × Spells r c) qs i q × (judgeQuad q ≡ bad p)
+
 -- question 7 passes both buffers, or neither
 abbrev pub SameRoom : List ℕ → List ℕ → Type 0
 SameRoom buffer lent = (132 ≤ length buffer) ↔ (132 ≤ length lent)
@@ -39,7 +51,8 @@ pub record SameSolved (file other : List ℕ) : Type 0 where
   -- it is accepted, with the same n
   pub accepts : {cs : List Constraint} → judge file ≡ accepted cs → (ds : List Constraint) × (judge other ≡ accepted ds) × (vars ds ≡ vars cs)
   -- a refused file stays refused; 1 stays 1, and any other number is that of the first bad record in the new order
-  pub refuses : {q : ℕ} → judge file ≡ refused q → (p : ℕ) × (judge other ≡ refused p) × ((p ≡ 1) ↔ (q ≡ 1))
+  pub refuses : {q : ℕ} → judge file ≡ refused q
+      → (p : ℕ) × (judge other ≡ refused p) × ((p ≡ 1) ↔ (q ≡ 1)) × (¬ (p ≡ 1) → FirstRefused (quads other) p)
   -- one answer, of verdict, count and answer file, is written to whatever is lent for each
   pub answers : {cs : List Constraint} {A : ℕ} {buffer after lent later : List ℕ} {r s : Solved} → judge file ≡ accepted cs → SameRoom buffer lent
       → SolverPromise A file buffer r after → SolverPromise A other lent s later → (s ≡ r) × (after ≡ written r buffer) × (later ≡ written r lent)
@@ -51,16 +64,9 @@ MetRecord t a q = (c : Constraint) × Spells q c × Meets t a c
 abbrev pub UnmetRecord : Tree → Assignment → Quad → Type 0
 UnmetRecord t a q = (c : Constraint) × Spells q c × (¬ Meets t a c)
 
--- the first of the records that is not met is at position i, from 0, and its first byte is k
-pub record FirstUnmet (t : Tree) (a : Assignment) (qs : List Quad) (i k : ℕ) : Type 0 where
-  pub earlier : List Quad
-  pub at : Quad
-  pub later : List Quad
-  pub is-list : qs ≡ earlier ++ (at ∷ later)
-  pub position : length earlier ≡ i
-  pub kind : at .first ≡ k
-  pub met-earlier : (q : Quad) → List·Memᴰ q earlier → MetRecord t a q
-  pub unmet-there : UnmetRecord t a at
+-- the first of the records that is not met is at position i, and its first byte is k
+abbrev pub FirstUnmet : Tree → Assignment → List Quad → ℕ → ℕ → Type 0
+FirstUnmet t a qs i k = (q : Quad) × FirstAt (MetRecord t a) qs i q × UnmetRecord t a q × (q .first ≡ k)
 
 -- the marker, of any one answer file
 pub record SameMarked (file other : List ℕ) : Type 0 where
