@@ -182,6 +182,9 @@ impl PathsRead {
 
 /// Solves the constraint file, entering at most `allowance` alternatives. Only `Solved::Tree` writes: `written` bytes at the front of
 /// `answer`; all other bytes stay as they were. `answer` has at least `ANSWER_BYTES` bytes, or is refused.
+///
+/// The same records in another order get the same answer and write the same bytes. With its variables renumbered one to one a file still
+/// has none or a tree, whichever it had, but count and tree may change, and so may whether the allowance is enough.
 pub fn solve(constraints: &[u8], answer: &mut [u8], allowance: u32) -> Solved {
     // Safe: a slice's pointer is valid for its length, and not null where that is 0; `answer` overlaps nothing that is borrowed.
     Solved::decode(unsafe {
@@ -189,7 +192,8 @@ pub fn solve(constraints: &[u8], answer: &mut [u8], allowance: u32) -> Solved {
     })
 }
 
-/// Marks a candidate's answer file.
+/// Marks a candidate's answer file. With the same records in another order met stays met; the position is that of the first unmet record in
+/// the order of the file that is marked.
 pub fn mark(constraints: &[u8], answer: &[u8]) -> Marked {
     // Safe: as in `solve`; nothing is written.
     Marked::decode(unsafe { cudreth_mark(constraints.as_ptr(), constraints.len(), answer.as_ptr(), answer.len()) })
