@@ -12,7 +12,7 @@ use lib.Dec.{leb, eqb}
 use Rattle.meaning.specs.Tree.{Var}
 use Rattle.meaning.specs.Constraint.{Constraint, is-child, is-below, is-strictly-below, is-same, is-differ, is-root, is-leaf, is-label, named, vars}
 use Rattle.meaning.specs.Finite.{Yes, pick, _and_}
-use Rattle.meaning.specs.Files.{Quad, quads, Whole, quadOf, JudgedRecord, bad, good, judgePair, judgeSingle, judgeLabel, judgeRecord, Judged, refused, accepted, before, judgeRecords, Spells, judge}
+use Rattle.meaning.specs.Files.{Quad, quad, quads, Whole, quadOf, JudgedRecord, bad, good, judgePair, judgeSingle, judgeLabel, judgeRecord, Judged, refused, accepted, before, judgeRecords, Spells, judge}
 use Rattle.meaning.proofs.Tests.{and-left, and-right, and-both, pick-yes, pick-no, pick-has, is-eq, eq-yes, is-le, le-yes}
 use Rattle.meaning.proofs.Constraints.{OnLabelOf, vars-least}
 
@@ -33,7 +33,7 @@ Read q (bad p) = Number p
 Read q (good c) = (q ≡ quadOf c) × Askable c
 
 pub quad-eq : {k x y l i u v m : ℕ} → k ≡ i → x ≡ u → y ≡ v → l ≡ m
-    → _≡_ {A = Quad} (record { first = k; second = x; third = y; fourth = l }) (record { first = i; second = u; third = v; fourth = m })
+    → quad k x y l ≡ quad i u v m
 quad-eq a b c d = cc
 
 module _ (q : Quad) where
@@ -144,7 +144,7 @@ records-accepted (k ∷ x ∷ y ∷ []) cs w r = absurd (omega arith)
 records-accepted (k ∷ x ∷ y ∷ l ∷ bs) [] w r = let e = r .records in let z : _≡_ {A = ℕ} 0 1 = cc in absurd (omega arith)
 records-accepted (k ∷ x ∷ y ∷ l ∷ bs) (c ∷ cs) w r =
     let e = r .records in
-    let h : quadOf c ≡ record { first = k; second = x; third = y; fourth = l } = cc in
+    let h : quadOf c ≡ quad k x y l = cc in
     let t : map quadOf cs ≡ quads bs = cc in
     let s : judgeRecord k x y l ≡ good c = subst (λ (q : Quad). Spells q c) h (spells c (r .askable c (List·Memᴰ·head refl))) in
     ap (λ (j : JudgedRecord). before j (judgeRecords bs)) s

@@ -12,7 +12,7 @@ use Rattle.meaning.specs.Finite.{pick}
 use Rattle.meaning.specs.ReadOff.{NodeRecord, treeOf}
 use Rattle.meaning.specs.Demand.{a-none, a-spent}
 use Rattle.meaning.specs.Marking.{met, unmet}
-use Rattle.meaning.specs.Files.{Quad, quads, Whole, bad, judgeQuad, Spells, refused, accepted, judge, accepted-answer, judgeAnswer, assigned}
+use Rattle.meaning.specs.Files.{Quad, quad, quads, Whole, bad, judgeQuad, Spells, refused, accepted, judge, accepted-answer, judgeAnswer, assigned}
 use Rattle.meaning.specs.Results.{Solved, solver-answers, Marked, marker-refuses, marker-answers, written}
 use Rattle.meaning.specs.Promises.{SolverPromise, MarkerPromise}
 
@@ -88,7 +88,7 @@ pub record Renumbering (n : ℕ) (to : Var → Var) : Type 0 where
 
 -- kinds 1 to 5 name x and y, kinds 6 to 8 name x alone; all other bytes stay
 unfoldable pub renumberQuad : (Var → Var) → Quad → Quad
-renumberQuad to q = record { first = q .first; second = to (q .second); third = pick (leb (q .first) 5) (to (q .third)) (q .third); fourth = q .fourth }
+renumberQuad to q = quad (q .first) (to (q .second)) (pick (leb (q .first) 5) (to (q .third)) (q .third)) (q .fourth)
 
 pub record Renumbered (to : Var → Var) (file other : List ℕ) : Type 0 where
   pub whole : Whole file

@@ -13,12 +13,9 @@ use Rattle.meaning.specs.Files.{Judged, refused, judge}
 use Rattle.meaning.specs.Results.{paths-refused}
 use Rattle.meaning.specs.Text.{bytesRead}
 use Rattle.meaning.proofs.Tests.{pick-no, is-le}
+use Rattle.meaning.proofs.Records.{long-refused}
 use Rattle.theory.specs.Programs.{solvedBy, solver, markedBy, marker}
 use Rattle.theory.specs.PathReader.{Got, nothing, textPaths, answerOf, readPaths}
-
-too-long : (file : List ℕ) → 1024 < length file → judge file ≡ refused 1
-unfolding judge
-too-long file l = pick-no _ _ (λ y. let m : length file ≤ 1024 = is-le y in omega arith)
 
 -- what refuses every longer file needs no more
 read-enough : {A : Type 0} (f : List ℕ → A) (none : A) → ((file : List ℕ) → 1024 < length file → f file ≡ none) → (file : List ℕ) → f (take bytesRead file) ≡ f file
@@ -29,7 +26,7 @@ read-enough {A} f none long file = by (decLe (length file) 1025)
     by (no l) = let n = length-take-le 1025 file (omega arith) in long (take 1025 file) (omega arith) ∙ sym (long file (omega arith))
 
 judge-read : (file : List ℕ) → judge (take bytesRead file) ≡ judge file
-judge-read = read-enough judge (refused 1) too-long
+judge-read = read-enough judge (refused 1) long-refused
 
 pub solver-read : (A : ℕ) (file buffer : List ℕ) → solver A (take bytesRead file) buffer ≡ solver A file buffer
 unfolding solver

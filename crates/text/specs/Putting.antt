@@ -5,7 +5,6 @@ use Prim.Native.Nat.{ℕ, _+_, _≤_}
 use lib.ListN.{length}
 use lib.Seq.{sets}
 use Rattle.meaning.specs.Demand.{a-tree, a-none, a-spent}
-use Rattle.meaning.specs.Files.{Quad}
 use Rattle.meaning.specs.Results.{solver-refuses, solver-answers}
 use Rattle.meaning.specs.Text.{solvedText, markedText}
 use Rattle.marker.specs.Verdict.{markedOf}
@@ -19,9 +18,6 @@ pub record Put (before : List ℕ) (at : ℕ) (text : List ℕ) (r : ℕ) (after
   pub stored : after ≡ sets before at text
   pub within : r ≤ length before
   pub same-length : length after ≡ length before
-
-abbrev pub quadOf : ℕ → ℕ → ℕ → ℕ → Quad
-quadOf a b c d = record { first = a; second = b; third = c; fourth = d }
 
 -- a verdict with the bytes of its answer file, if it is a tree's
 unfoldable pub solverText : Verdict → List ℕ → List ℕ

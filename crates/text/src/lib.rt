@@ -3,12 +3,12 @@ ghost use mathlib.Core.Path.{_≡_};
 ghost use mathlib.Core.List.{_++_};
 ghost use Prim.Native.Nat.{_+_, _*_, _/_, _≤_};
 ghost use lib.ListN.{length};
-ghost use Rattle.meaning.specs.Files.{quads};
+ghost use Rattle.meaning.specs.Files.{quad, quads};
 ghost use Rattle.meaning.specs.Ascii.{ascii};
 ghost use Rattle.meaning.specs.Text.{solveAllowance, decimal, kindName, recordLine, recordLines};
 ghost use Rattle.constraints.specs.Record.{kindNumber};
 ghost use Rattle.marker.specs.declared.Verdict.the-variants.{Unmet};
-ghost use Rattle.text.specs.Putting.{Put, quadOf, bytesOf, solverText, markerText};
+ghost use Rattle.text.specs.Putting.{Put, bytesOf, solverText, markerText};
 ghost use Rattle.text.specs.Printing.{SolvedAs, MarkedAs, PathsAs};
 use constraints::Kind;
 use solver::Verdict;
@@ -67,7 +67,7 @@ fn put_pair(out: &mut [u8], at: usize, word: &[u8], a: u8, b: u8) -> usize
 
 fn put_record(out: &mut [u8], at: usize, kind: u8, a: u8, b: u8, c: u8) -> usize
     requires { ⌜ at + 17 ≤ length (now out) ⌝ }
-    ensures { λ r. ⌜ Put (now (out .entry)) at (recordLine (quadOf kind a b c)) r (now (out .exit)) ⌝ }
+    ensures { λ r. ⌜ Put (now (out .entry)) at (recordLine (quad kind a b c)) r (now (out .exit)) ⌝ }
 {
     if kind != 1 {
         let end = put_pair(out, at, b"var ", a, b);
