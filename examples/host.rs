@@ -139,7 +139,8 @@ fn solve_shuffled(answer: &mut [u8]) {
     print_solved(solved, answer);
     let again = cudreth::solve(&REORDERED, &mut other, u32::MAX);
     let same = again == solved && other == answer;
-    println!("from last record to first: {}", if same { "the same verdict, count and bytes" } else { "another result" });
+    let words = if same { "the same verdict, count and bytes" } else { "another result" };
+    println!("from last record to first: {}", words);
     print!("0 and 1 exchanged: ");
     print_solved(cudreth::solve(&RENUMBERED, answer, u32::MAX), answer);
     print!("3 above 2 and 1: ");
