@@ -1,7 +1,7 @@
 /*
- * A host program: solves the question of document 01's listing (M10), prints the tree and marks four candidates; shuffles a question; reads
- * one set as paths and solves it; and lists what a refusal can say. What it prints is held to examples/host.stdout. It is C99 and C++;
- * host.rs is the same in Rust.
+ * A host program: solves the question of document 01's listing (M10), prints the tree and marks four candidates; solves and marks a question
+ * in another order and with other numbers; reads one set as paths and solves it; and lists what a refusal can say. What it prints is held to
+ * examples/host.stdout. It is C99 and C++; host.rs is the same in Rust.
  */
 #include <inttypes.h>
 #include <stdbool.h>
@@ -120,17 +120,17 @@ static void solve_and_mark(uint8_t *answer)
 }
 
 /* A question, the same from last record to first, and the same with variables 0 and 1 exchanged. */
-static const uint8_t question[] = {
+static const uint8_t first_order[] = {
     CUDRETH_BELOW, 0, 1, 0,
     CUDRETH_BELOW, 1, 3, 0,
     CUDRETH_BELOW, 2, 3, 0,
 };
-static const uint8_t reordered[] = {
+static const uint8_t last_to_first[] = {
     CUDRETH_BELOW, 2, 3, 0,
     CUDRETH_BELOW, 1, 3, 0,
     CUDRETH_BELOW, 0, 1, 0,
 };
-static const uint8_t renumbered[] = {
+static const uint8_t exchanged[] = {
     CUDRETH_BELOW, 1, 0, 0,
     CUDRETH_BELOW, 0, 3, 0,
     CUDRETH_BELOW, 2, 3, 0,
@@ -144,22 +144,20 @@ static const uint8_t upside_down[] = {
     CUDRETH_PLACE, 3, 0, 0,
 };
 
-/* The order of the records matters to the marker's position alone; another numbering can change the count and the tree. */
-static void solve_shuffled(uint8_t *answer)
+/* The order of the records matters to which of them is named as unmet, and to nothing else; another numbering to count and tree. */
+static void solve_shuffled(uint8_t *answer, uint8_t *other)
 {
-    uint8_t other[CUDRETH_ANSWER_BYTES];
-    memcpy(other, answer, sizeof other);
-    uint64_t solved = cudreth_solve(question, sizeof question, answer, CUDRETH_ANSWER_BYTES, UINT32_MAX);
+    uint64_t solved = cudreth_solve(first_order, sizeof first_order, answer, CUDRETH_ANSWER_BYTES, UINT32_MAX);
     print_solved(solved, answer);
-    uint64_t again = cudreth_solve(reordered, sizeof reordered, other, sizeof other, UINT32_MAX);
-    bool same = again == solved && memcmp(other, answer, sizeof other) == 0;
+    uint64_t again = cudreth_solve(last_to_first, sizeof last_to_first, other, CUDRETH_ANSWER_BYTES, UINT32_MAX);
+    bool same = again == solved && memcmp(other, answer, cudreth_written(solved)) == 0;
     printf("from last record to first: %s\n", same ? "the same verdict, count and bytes" : "another result");
     printf("0 and 1 exchanged: ");
-    print_solved(cudreth_solve(renumbered, sizeof renumbered, answer, CUDRETH_ANSWER_BYTES, UINT32_MAX), answer);
+    print_solved(cudreth_solve(exchanged, sizeof exchanged, answer, CUDRETH_ANSWER_BYTES, UINT32_MAX), answer);
     printf("3 above 2 and 1: ");
-    print_marked(cudreth_mark(question, sizeof question, upside_down, sizeof upside_down));
+    print_marked(cudreth_mark(first_order, sizeof first_order, upside_down, sizeof upside_down));
     printf("from last record to first: ");
-    print_marked(cudreth_mark(reordered, sizeof reordered, upside_down, sizeof upside_down));
+    print_marked(cudreth_mark(last_to_first, sizeof last_to_first, upside_down, sizeof upside_down));
 }
 
 /* A node that both lines select: its records, then a tree that has it, as the node of variable 0. */
@@ -184,18 +182,20 @@ int main(void)
     printf("version %d\n", CUDRETH_VERSION);
     /* Lent from the heap, at their exact lengths, so that a memory checker sees every byte too far. */
     uint8_t *answer = (uint8_t *)malloc(CUDRETH_ANSWER_BYTES);
+    uint8_t *other = (uint8_t *)malloc(CUDRETH_ANSWER_BYTES);
     uint8_t *records = (uint8_t *)malloc(CUDRETH_RECORDS_BYTES);
-    if (!answer || !records)
+    if (!answer || !other || !records)
         return 1;
     memset(answer, 0xee, CUDRETH_ANSWER_BYTES);
     memset(records, 0xee, CUDRETH_RECORDS_BYTES);
 
     solve_and_mark(answer);
-    solve_shuffled(answer);
+    solve_shuffled(answer, other);
     read_and_solve(records, answer);
     for (uint32_t number = CUDRETH_Q_CONSTRAINTS_LONG; number <= CUDRETH_Q_TEXT_VARIABLES; number++)
         print_refused(number);
     free(records);
+    free(other);
     free(answer);
     return 0;
 }

@@ -79,21 +79,21 @@ const WRONG: [u8; 20] = [
 
 /// A question, the same from last record to first, and the same with variables 0 and 1 exchanged.
 #[rustfmt::skip]
-const SHUFFLED: [u8; 12] = [
+const FIRST_ORDER: [u8; 12] = [
     BELOW, 0, 1, 0,
     BELOW, 1, 3, 0,
     BELOW, 2, 3, 0,
 ];
 
 #[rustfmt::skip]
-const REORDERED: [u8; 12] = [
+const LAST_TO_FIRST: [u8; 12] = [
     BELOW, 2, 3, 0,
     BELOW, 1, 3, 0,
     BELOW, 0, 1, 0,
 ];
 
 #[rustfmt::skip]
-const RENUMBERED: [u8; 12] = [
+const EXCHANGED: [u8; 12] = [
     BELOW, 1, 0, 0,
     BELOW, 0, 3, 0,
     BELOW, 2, 3, 0,
@@ -132,21 +132,21 @@ fn solve_and_mark(answer: &mut [u8]) {
     print_marked(cudreth::mark(&[], &[]));
 }
 
-/// The order of the records matters to the marker's position alone; another numbering can change the count and the tree.
+/// The order of the records matters to which of them is named as unmet, and to nothing else; another numbering to count and tree.
 fn solve_shuffled(answer: &mut [u8]) {
     let mut other = answer.to_vec();
-    let solved = cudreth::solve(&SHUFFLED, answer, u32::MAX);
+    let solved = cudreth::solve(&FIRST_ORDER, answer, u32::MAX);
     print_solved(solved, answer);
-    let again = cudreth::solve(&REORDERED, &mut other, u32::MAX);
+    let again = cudreth::solve(&LAST_TO_FIRST, &mut other, u32::MAX);
     let same = again == solved && other == answer;
     let words = if same { "the same verdict, count and bytes" } else { "another result" };
     println!("from last record to first: {}", words);
     print!("0 and 1 exchanged: ");
-    print_solved(cudreth::solve(&RENUMBERED, answer, u32::MAX), answer);
+    print_solved(cudreth::solve(&EXCHANGED, answer, u32::MAX), answer);
     print!("3 above 2 and 1: ");
-    print_marked(cudreth::mark(&SHUFFLED, &UPSIDE_DOWN));
+    print_marked(cudreth::mark(&FIRST_ORDER, &UPSIDE_DOWN));
     print!("from last record to first: ");
-    print_marked(cudreth::mark(&REORDERED, &UPSIDE_DOWN));
+    print_marked(cudreth::mark(&LAST_TO_FIRST, &UPSIDE_DOWN));
 }
 
 /// A node that both lines select: its records, then a tree that has it, as the node of variable 0.

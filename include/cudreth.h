@@ -106,15 +106,16 @@ enum cudreth_question_number {
  * Solves the constraint file, entering at most `allowance` alternatives. Only the verdict CUDRETH_TREE writes: cudreth_written(result)
  * bytes at the front of `answer`; all other bytes stay as they were. `answer_len` is the length lent, at least CUDRETH_ANSWER_BYTES.
  *
- * The same records in another order get the same result and write the same bytes. With its variables renumbered one to one a file still
- * has none or a tree, whichever it had, but count and tree may change, and so may whether the allowance is enough.
+ * The records of an accepted file in another order get, with the same allowance and a buffer that is long enough, the same result and
+ * write the same bytes; a refused file stays refused, by its first bad record. With its variables renumbered one to one an accepted file
+ * still has none or a tree, whichever it had, but count and tree may change, and so may whether the allowance is enough.
  */
 uint64_t cudreth_solve(const uint8_t *constraints, size_t constraints_len, uint8_t *answer, size_t answer_len,
                        uint32_t allowance);
 
 /*
- * Marks a candidate's answer file. With the same records in another order met stays met; the position is that of the first unmet record in
- * the order of the file that is marked.
+ * Marks a candidate's answer file. With the same records in another order met stays met; position and kind are those of the first unmet
+ * record in the order of the file that is marked.
  */
 uint64_t cudreth_mark(const uint8_t *constraints, size_t constraints_len, const uint8_t *answer, size_t answer_len);
 

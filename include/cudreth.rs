@@ -183,8 +183,9 @@ impl PathsRead {
 /// Solves the constraint file, entering at most `allowance` alternatives. Only `Solved::Tree` writes: `written` bytes at the front of
 /// `answer`; all other bytes stay as they were. `answer` has at least `ANSWER_BYTES` bytes, or is refused.
 ///
-/// The same records in another order get the same answer and write the same bytes. With its variables renumbered one to one a file still
-/// has none or a tree, whichever it had, but count and tree may change, and so may whether the allowance is enough.
+/// The records of an accepted file in another order get, with the same allowance and a buffer that is long enough, the same answer and
+/// write the same bytes; a refused file stays refused, by its first bad record. With its variables renumbered one to one an accepted file
+/// still has none or a tree, whichever it had, but count and tree may change, and so may whether the allowance is enough.
 pub fn solve(constraints: &[u8], answer: &mut [u8], allowance: u32) -> Solved {
     // Safe: a slice's pointer is valid for its length, and not null where that is 0; `answer` overlaps nothing that is borrowed.
     Solved::decode(unsafe {
@@ -192,8 +193,8 @@ pub fn solve(constraints: &[u8], answer: &mut [u8], allowance: u32) -> Solved {
     })
 }
 
-/// Marks a candidate's answer file. With the same records in another order met stays met; the position is that of the first unmet record in
-/// the order of the file that is marked.
+/// Marks a candidate's answer file. With the same records in another order met stays met; position and kind are those of the first unmet
+/// record in the order of the file that is marked.
 pub fn mark(constraints: &[u8], answer: &[u8]) -> Marked {
     // Safe: as in `solve`; nothing is written.
     Marked::decode(unsafe { cudreth_mark(constraints.as_ptr(), constraints.len(), answer.as_ptr(), answer.len()) })

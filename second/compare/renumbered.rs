@@ -53,6 +53,7 @@ impl Comparison {
                     self.note_shuffle_if(count != other, "renumbered none with another count");
                     true
                 }
+                (SolverVerdict::Spent { .. }, SolverVerdict::Spent { .. }) => true,
                 (SolverVerdict::Spent { .. }, _) | (_, SolverVerdict::Spent { .. }) => {
                     self.note_shuffle("renumbered, one of them spent");
                     true

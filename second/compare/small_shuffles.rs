@@ -38,10 +38,21 @@ impl Comparison {
                 self.every_order(orders, &solved);
                 for numbers in permutations(number_of_variables(constraints)) {
                     if renumbered(&solved.file, &numbers) != solved.file {
-                        self.hold_renumbered(renumberings, &solved, &numbers);
+                        self.hold_small_renumbering(renumberings, &solved, &numbers);
                     }
                 }
             });
+        }
+    }
+
+    /// Where the counts differ, with the smaller as well: one of the two is then spent.
+    fn hold_small_renumbering(&mut self, sort: &'static str, solved: &Solved, numbers: &[usize]) {
+        let other = self.hold_renumbered(sort, solved, numbers);
+        let smaller = count_of(&solved.verdict).min(count_of(&other.verdict));
+        if count_of(&solved.verdict) != count_of(&other.verdict) {
+            let verdict = second::solve(&solved.file, LEAST_BUFFER, smaller);
+            let solved = Solved { file: solved.file.clone(), allowance: smaller, verdict };
+            self.hold_renumbered(sort, &solved, numbers);
         }
     }
 
@@ -105,6 +116,14 @@ impl Comparison {
                 });
             }
         }
+    }
+}
+
+/// Of a search that has come to its end.
+fn count_of(verdict: &SolverVerdict) -> u32 {
+    match *verdict {
+        SolverVerdict::Tree { count, .. } | SolverVerdict::None { count } => count,
+        SolverVerdict::Spent { .. } | SolverVerdict::Refused(_) => panic!("no end"),
     }
 }
 

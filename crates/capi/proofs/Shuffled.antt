@@ -14,7 +14,7 @@ use Rattle.meaning.specs.Marking.{met, unmet}
 use Rattle.meaning.specs.Files.{quads, Judged, refused, accepted, judge, accepted-answer, judgeAnswer, assigned}
 use Rattle.meaning.specs.Results.{Solved, solver-refuses, solver-answers, written, Marked, marker-refuses, marker-answers, told, solvedNumber, markedNumber}
 use Rattle.meaning.specs.Promises.{Answered, SolverPromise}
-use Rattle.meaning.specs.Shuffled.{Shuffled, SameRoom, FirstUnmet, Renumbering, Renumbered, SaysNone, SaysSpent}
+use Rattle.meaning.specs.Shuffled.{AnotherOrder, SameRoom, FirstUnmet, Renumbering, Renumbered, SaysNone, SaysSpent}
 use Rattle.meaning.proofs.Records.{FileOf, spells-kind, quads-length, accepted-file, refused-small}
 use Rattle.meaning.proofs.Said.{answered, count-within}
 use Rattle.meaning.proofs.Shuffled.{same-solved, answers-not, same-marked}
@@ -24,7 +24,7 @@ use Rattle.capi.specs.Solves.{Solves}
 use Rattle.capi.specs.Grades.{Grades}
 use Rattle.capi.specs.Shuffled.{verdict, middle, low, ToldSame}
 
--- ---- another order
+-- ---- a result taken apart
 
 -- what an answer puts at the front of the buffer
 frontOf : Solved → List ℕ
@@ -40,19 +40,6 @@ written-front (solver-answers (a-tree c bs)) buffer = refl
 written-front (solver-answers (a-none c)) buffer = refl
 written-front (solver-answers (a-spent c)) buffer = refl
 
-pub told-same : {A r s : ℕ} {file other buffer after lent later : List ℕ} {cs : List Constraint} → Shuffled file other → judge file ≡ accepted cs → SameRoom buffer lent
-    → Solves A file buffer r after → Solves A other lent s later → ToldSame buffer after lent later r s
-told-same {buffer = buffer} {lent = lent} p e room u v =
-    let w = same-solved p .answers e room (u .promise) (v .promise) in
-    record {
-      number = v .number ∙ ap solvedNumber (w .0) ∙ sym (u .number);
-      front = frontOf _;
-      wrote = w .1 ∙ written-front _ buffer;
-      other-wrote = w .2 ∙ written-front _ lent;
-    }
-
--- ---- the verdict
-
 abbrev verdictOf : Solved → ℕ
 verdictOf (solver-answers (a-tree c bs)) = 0
 verdictOf (solver-answers (a-none c)) = 1
@@ -65,6 +52,13 @@ Fits (solver-answers (a-tree c bs)) = (c ≤ 4294967295) × (length bs ≤ 132)
 Fits (solver-answers (a-none c)) = c ≤ 4294967295
 Fits (solver-answers (a-spent c)) = c ≤ 4294967295
 Fits (solver-refuses q) = q ≤ 7
+
+middle-is : (r : Solved) → Fits r → middle (solvedNumber r) ≡ length (frontOf r)
+unfolding middle solvedNumber told frontOf
+middle-is (solver-answers (a-tree c bs)) f = let l = f .0 in let k = f .1 in omega arith
+middle-is (solver-answers (a-none c)) f = omega arith
+middle-is (solver-answers (a-spent c)) f = omega arith
+middle-is (solver-refuses q) f = omega arith
 
 verdict-is : (r : Solved) → Fits r → verdict (solvedNumber r) ≡ verdictOf r
 unfolding verdict solvedNumber told
@@ -102,6 +96,23 @@ none-verdict (solver-answers (a-none c)) = (λ e. (c, refl), λ w. refl)
 none-verdict (solver-answers (a-spent c)) = (λ e. absurd (omega arith), λ w. let e = w .1 in let z : _≡_ {A = ℕ} 0 1 = cc in absurd (omega arith))
 none-verdict (solver-refuses q) = (λ e. absurd (omega arith), λ w. let e = w .1 in let z : _≡_ {A = ℕ} 0 1 = cc in absurd (omega arith))
 
+-- ---- another order
+
+-- allowances are of 32 bits
+pub told-same : {A r s : ℕ} {file other buffer after lent later : List ℕ} {cs : List Constraint} → A ≤ 4294967295 → AnotherOrder file other → judge file ≡ accepted cs → SameRoom buffer lent
+    → Solves A file buffer r after → Solves A other lent s later → ToldSame buffer after lent later r s
+told-same {buffer = buffer} {lent = lent} most p e room u v =
+    let w = same-solved p .answers e room (u .promise) (v .promise) in
+    record {
+      number = v .number ∙ ap solvedNumber (w .0) ∙ sym (u .number);
+      front = frontOf _;
+      as-told = sym (middle-is _ (fits most (u .promise))) ∙ ap middle (sym (u .number));
+      wrote = w .1 ∙ written-front _ buffer;
+      other-wrote = w .2 ∙ written-front _ lent;
+    }
+
+-- ---- variables renumbered
+
 -- C sees verdict 1 exactly where none is said, and 2 where spent is
 module _ {A r : ℕ} {file buffer after : List ℕ} (most : A ≤ 4294967295) (u : Solves A file buffer r after) where
   verdict-told : verdict r ≡ verdictOf (solver A file buffer)
@@ -113,9 +124,6 @@ module _ {A r : ℕ} {file buffer after : List ℕ} (most : A ≤ 4294967295) (u
   spent-told : SaysSpent (solver A file buffer) → verdict r ≡ 2
   spent-told w = verdict-told ∙ ap verdictOf (w .1)
 
--- ---- variables renumbered
-
--- allowances are of 32 bits
 pub told-none : {A B r s : ℕ} {to : Var → Var} {file other buffer after lent later : List ℕ} {cs : List Constraint} → A ≤ 4294967295 → B ≤ 4294967295
     → Renumbered to file other → judge file ≡ accepted cs → Renumbering (vars cs) to → SameRoom buffer lent
     → Solves A file buffer r after → Solves B other lent s later → ¬ (verdict r ≡ 2) → ¬ (verdict s ≡ 2) → (verdict r ≡ 1) ↔ (verdict s ≡ 1)
@@ -132,7 +140,7 @@ met-number (marker-answers (unmet i k)) e = absurd (omega arith)
 met-number (marker-refuses q) e = absurd (omega arith)
 
 -- met is the number 0
-pub told-met : {r s : ℕ} {file other answer : List ℕ} {cs : List Constraint} → Shuffled file other → judge file ≡ accepted cs
+pub told-met : {r s : ℕ} {file other answer : List ℕ} {cs : List Constraint} → AnotherOrder file other → judge file ≡ accepted cs
     → Grades file answer r → Grades other answer s → (s ≡ 0) ↔ (r ≡ 0)
 unfolding markedNumber told
 told-met p e u v =
@@ -162,7 +170,7 @@ unfolding told low middle
 unmet-apart e l m = (omega arith, omega arith)
 
 -- the position told is that of the first unmet record in the order of the file that is marked, and the kind its first byte
-pub told-unmet : {s : ℕ} {file other answer : List ℕ} {cs : List Constraint} {vs : List NodeRecord} {ps : List Node} → Shuffled file other → judge file ≡ accepted cs
+pub told-unmet : {s : ℕ} {file other answer : List ℕ} {cs : List Constraint} {vs : List NodeRecord} {ps : List Node} → AnotherOrder file other → judge file ≡ accepted cs
     → judgeAnswer (vars cs) answer ≡ accepted-answer vs ps → Grades other answer s → verdict s ≡ 1 → FirstUnmet (treeOf vs) (assigned ps) (quads other) (low s) (middle s)
 unfolding markedNumber
 told-unmet {s} {other = other} {answer = answer} {vs = vs} {ps = ps} p e d v h =

@@ -9,16 +9,18 @@ use lib.ListN.{length, drop}
 unfoldable pub verdict : ℕ → ℕ
 verdict r = r / 2 ^ 48
 
--- of an unmet verdict the kind and the position
+-- the bytes written, or the kind of the first unmet record
 unfoldable pub middle : ℕ → ℕ
 middle r = r / 2 ^ 32 % 2 ^ 16
 
+-- the count, or the position of the first unmet record
 unfoldable pub low : ℕ → ℕ
 low r = r % 2 ^ 32
 
--- the same 64 bits, and the same bytes at the front of the two buffers, none where nothing is written; all others stay
+-- the same 64 bits, and at the front of the two buffers the same bytes, as many as are told; all others stay
 pub record ToldSame (buffer after lent later : List ℕ) (r s : ℕ) : Type 0 where
   pub number : s ≡ r
   pub front : List ℕ
+  pub as-told : length front ≡ middle r
   pub wrote : after ≡ front ++ drop (length front) buffer
   pub other-wrote : later ≡ front ++ drop (length front) lent

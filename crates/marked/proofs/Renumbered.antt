@@ -5,11 +5,12 @@ use Prim.Native.Nat.{ℕ, _<_}
 use native.Mathlib.Omega.{arith}
 use lib.Dec.{eqb}
 use Rattle.meaning.specs.Tree.{Var}
-use Rattle.meaning.specs.Finite.{pick}
-use Rattle.meaning.specs.Files.{quads}
+use Rattle.meaning.specs.Constraint.{named, vars}
+use Rattle.meaning.specs.Finite.{pick, _and_}
+use Rattle.meaning.specs.Files.{quads, judgePair, judgeRecord, before, judgeRecords, judge}
 use Rattle.meaning.specs.Shuffled.{Renumbering, renumberQuad, Renumbered}
 use Rattle.meaning.proofs.Tests.{pick-yes, pick-no, pick-either, pick-has, is-eq, self-eq}
-use Rattle.marked.specs.Renumbered.{swap, Swapped, RowsRenumbered}
+use Rattle.marked.specs.Renumbered.{swap, OwnN, Swapped, RowsRenumbered}
 
 module _ (i j : Var) where
   swap-inside : (n : ℕ) → i < n → j < n → (x : Var) → x < n → swap i j x < n
@@ -34,13 +35,14 @@ module _ (i j : Var) where
   swaps : (n : ℕ) → i < n → j < n → Renumbering n (swap i j)
   swaps n k l = record { inside = swap-inside n k l; one-to-one = λ x y a b e. sym (swap-twice x) ∙ ap (swap i j) e ∙ swap-twice y }
 
-swapped : {n : ℕ} {i j : Var} {file other : List ℕ} → i < n → j < n → Renumbered (swap i j) file other → Swapped n i j file other
-swapped {n} {i} {j} k l r = record { renumbering = swaps i j n k l; renumbered = r }
+swapped : {n : ℕ} {i j : Var} {file other : List ℕ} → i < n → j < n → OwnN file n → Renumbered (swap i j) file other → Swapped n i j file other
+swapped {n} {i} {j} k l o r = record { own = o; renumbering = swaps i j n k l; renumbered = r }
 
 pub rows-renumbered : RowsRenumbered
-unfolding quads renumberQuad swap pick
+unfolding quads renumberQuad swap pick _and_ judge judgeRecords before judgeRecord judgePair vars named
 rows-renumbered = record {
-  N1-swapped = swapped (omega arith) (omega arith) (record { whole = refl; other-whole = refl; renumbered = refl });
-  N2-swapped = swapped (omega arith) (omega arith) (record { whole = refl; other-whole = refl; renumbered = refl });
-  N3-swapped = swapped (omega arith) (omega arith) (record { whole = refl; other-whole = refl; renumbered = refl });
+  N1-swapped = swapped (omega arith) (omega arith) (_, refl, refl) (record { whole = refl; other-whole = refl; renumbered = refl });
+  N2-swapped = swapped (omega arith) (omega arith) (_, refl, refl) (record { whole = refl; other-whole = refl; renumbered = refl });
+  N3-swapped = swapped (omega arith) (omega arith) (_, refl, refl) (record { whole = refl; other-whole = refl; renumbered = refl });
+  N3-fewer = (_, refl, refl);
 }

@@ -15,7 +15,7 @@ use Rattle.meaning.proofs.Tests.{yes-case, and-left, and-right, and-bot
 use Rattle.meaning.proofs.Records.{quad-eq}
 
 module _ {A : Type 0} where
-  pub reordered-self : (xs : List A) → Reordered xs xs
+  reordered-self : (xs : List A) → Reordered xs xs
   reordered-self [] = nothing
   reordered-self (x ∷ xs) = first-kept (reordered-self xs)
 

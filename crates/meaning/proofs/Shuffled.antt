@@ -15,21 +15,21 @@ use Rattle.meaning.specs.Marking.{Mark, met, unmet, kind, further, Marks
 use Rattle.meaning.specs.Files.{Quad, quads, Whole, quadOf, JudgedRecord, bad, good, judgeRecord, Spells, Judged, refused, accepted, before, judgeRecords, judge, JudgedAnswer, refused-answer, accepted-answer, judgeAnswer, assigned}
 use Rattle.meaning.specs.Results.{Solved, solver-answers, Marked, marker-refuses, marker-answers, written}
 use Rattle.meaning.specs.Promises.{SolverPromise, MarkerPromise}
-use Rattle.meaning.specs.Shuffled.{Reordered, Shuffled, FirstAt, FirstRefused, SameRoom, SameSolved, MetRecord, UnmetRecord, FirstUnmet, SameMarked}
+use Rattle.meaning.specs.Shuffled.{Reordered, AnotherOrder, FirstAt, FirstRefused, SameRoom, SameSolved, MetRecord, UnmetRecord, FirstUnmet, SameMarked}
 use Rattle.meaning.proofs.Records.{Askable, spells, FileOf, quads-length, accepted-file, file-accepted, long-refused, refused-long, refused-records}
 use Rattle.meaning.proofs.SameAnswer.{SameConstraints, same-vars, same-answer}
 use Rattle.meaning.proofs.Reordered.{reordered-back, reordered-length, reordered-in, reordered-map}
 
-pub shuffled-back : {file other : List ℕ} → Shuffled file other → Shuffled other file
-shuffled-back p = record { whole = p .other-whole; other-whole = p .whole; reordered = reordered-back (p .reordered) }
+order-back : {file other : List ℕ} → AnotherOrder file other → AnotherOrder other file
+order-back p = record { whole = p .other-whole; other-whole = p .whole; reordered = reordered-back (p .reordered) }
 
 same-constraints : {cs ds : List Constraint} → Reordered cs ds → SameConstraints cs ds
 same-constraints p = record { to = λ c m. reordered-in p m; fro = λ c m. reordered-in (reordered-back p) m }
 
 -- ---- what the questions say
 
-shuffled-length : {file other : List ℕ} → Shuffled file other → length other ≡ length file
-shuffled-length {file} {other} p =
+order-length : {file other : List ℕ} → AnotherOrder file other → length other ≡ length file
+order-length {file} {other} p =
     sym (quads-length other (p .other-whole)) ∙ ap (λ (k : ℕ). 4 * k) (sym (reordered-length (p .reordered))) ∙ quads-length file (p .whole)
 
 -- the other file's constraints are the first one's, reordered
@@ -38,12 +38,12 @@ record Refiled (other : List ℕ) (cs : List Constraint) : Type 0 where
   reordered : Reordered cs list
   judged : judge other ≡ accepted list
 
-module _ {file other : List ℕ} (p : Shuffled file other) where
+module _ {file other : List ℕ} (p : AnotherOrder file other) where
   refiled : {cs : List Constraint} → judge file ≡ accepted cs → Refiled other cs
   refiled {cs} e =
       let f = accepted-file e in
       let w = reordered-map quadOf (p .reordered) cs (f .of .records) in
-      let l = shuffled-length p in
+      let l = order-length p in
       let s = f .short in
       record {
         list = w .list;
@@ -56,7 +56,7 @@ module _ {file other : List ℕ} (p : Shuffled file other) where
       }
 
   still-long : judge file ≡ refused 1 → judge other ≡ refused 1
-  still-long e = let h = refused-long file e in let l = shuffled-length p in long-refused other (omega arith)
+  still-long e = let h = refused-long file e in let l = order-length p in long-refused other (omega arith)
 
 accepted-not : {cs : List Constraint} {q : ℕ} → accepted cs ≡ refused q → ⊥
 accepted-not e = let z : _≡_ {A = ℕ} 0 1 = cc in omega arith
@@ -92,7 +92,7 @@ first-refused (k ∷ x ∷ y ∷ l ∷ bs) p w e = by (judgeRecord k x y l) (jud
     by (good c) (accepted cs) d f g h = absurd (accepted-not g)
     by (good c) (refused q) d f g h = let u = h (f ∙ g) in (suc (u .0), u .1, first-further (c, d) (u .2), u .3)
 
-module _ {file other : List ℕ} (p : Shuffled file other) where
+module _ {file other : List ℕ} (p : AnotherOrder file other) where
   abbrev StillRefused : ℕ → Type 0
   StillRefused q = (k : ℕ) × (judge other ≡ refused k) × ((k ≡ 1) ↔ (q ≡ 1)) × (¬ (k ≡ 1) → FirstRefused (quads other) k)
 
@@ -100,17 +100,17 @@ module _ {file other : List ℕ} (p : Shuffled file other) where
   still-refused {q} d = by (judge other) refl
     where
       by : (j : Judged) → judge other ≡ j → StillRefused q
-      by (accepted ds) e = absurd (accepted-not (sym (refiled (shuffled-back p) e .judged) ∙ d))
+      by (accepted ds) e = absurd (accepted-not (sym (refiled (order-back p) e .judged) ∙ d))
       by (refused k) e = (
         k,
         e,
-        (λ z. number-is (sym d ∙ still-long (shuffled-back p) (e ∙ ap refused z)), λ z. number-is (sym e ∙ still-long p (d ∙ ap refused z))),
+        (λ z. number-is (sym d ∙ still-long (order-back p) (e ∙ ap refused z)), λ z. number-is (sym e ∙ still-long p (d ∙ ap refused z))),
         λ n. first-refused other k (p .other-whole) (refused-records other (p .other-whole) e n),
       )
 
 -- ---- the solver
 
-module _ {file other : List ℕ} (p : Shuffled file other) {cs : List Constraint} (e : judge file ≡ accepted cs) where
+module _ {file other : List ℕ} (p : AnotherOrder file other) {cs : List Constraint} (e : judge file ≡ accepted cs) where
   answered-alike : {A : ℕ} {buffer after lent later : List ℕ} {r s : Solved} → SameRoom buffer lent
       → SolverPromise A file buffer r after → SolverPromise A other lent s later → s ≡ r
   answered-alike {A} {buffer} {lent = lent} {r = r} {s = s} room u v = go (decLe 132 (length buffer))
@@ -131,7 +131,7 @@ module _ {file other : List ℕ} (p : Shuffled file other) {cs : List Constraint
           let short : ¬ (132 ≤ length lent) = λ m. l (room .1 m) in
           v .short-buffer (w .judged) (omega arith) ∙ sym (u .short-buffer e (omega arith))
 
-pub same-solved : {file other : List ℕ} → Shuffled file other → SameSolved file other
+pub same-solved : {file other : List ℕ} → AnotherOrder file other → SameSolved file other
 same-solved p = record {
   accepts = λ e. let w = refiled p e in (w .list, w .judged, same-vars (same-constraints (w .reordered)));
   refuses = still-refused p;
@@ -227,7 +227,7 @@ unmet-in-order {file} {answer} {r} {cs} {vs} {ps} {i} {k} e d u = (to, from)
 pub answers-not : {q : ℕ} {m : Mark} → marker-answers m ≡ marker-refuses q → ⊥
 answers-not e = let z : _≡_ {A = ℕ} 0 1 = cc in omega arith
 
-module _ {file other : List ℕ} (p : Shuffled file other) {answer : List ℕ} {r s : Marked} (u : MarkerPromise file answer r) (v : MarkerPromise other answer s)
+module _ {file other : List ℕ} (p : AnotherOrder file other) {answer : List ℕ} {r s : Marked} (u : MarkerPromise file answer r) (v : MarkerPromise other answer s)
     {cs : List Constraint} (e : judge file ≡ accepted cs) where
   w : Refiled other cs
   w = refiled p e
@@ -253,14 +253,14 @@ module _ {file other : List ℕ} (p : Shuffled file other) {answer : List ℕ} {
         every = λ c m. all .every c (reordered-in (reordered-back (w .reordered)) m);
       }))
 
-pub same-marked : {file other : List ℕ} → Shuffled file other → SameMarked file other
+pub same-marked : {file other : List ℕ} → AnotherOrder file other → SameMarked file other
 same-marked p = record {
   refuses-iff = λ {cs} {answer} e u v. let w = refiled p e in (
-    λ h. refused-alike (shuffled-back p) v u (w .judged) (judgeAnswer (vars (w .list)) answer) refl h,
+    λ h. refused-alike (order-back p) v u (w .judged) (judgeAnswer (vars (w .list)) answer) refl h,
     λ h. refused-alike p u v e (judgeAnswer (vars cs) answer) refl h,
   );
   met-iff = λ {cs} {answer} e u v. let w = refiled p e in (
-    λ h. met-alike (shuffled-back p) v u (w .judged) (judgeAnswer (vars (w .list)) answer) refl h,
+    λ h. met-alike (order-back p) v u (w .judged) (judgeAnswer (vars (w .list)) answer) refl h,
     λ h. met-alike p u v e (judgeAnswer (vars cs) answer) refl h,
   );
   unmet-iff = λ {cs} {answer} e d v. let w = refiled p e in

@@ -20,7 +20,7 @@ pub record MeetsNamed (t : Tree) (a : Assignment) (cs : List Constraint) : Type 
   pub placed : (c : Constraint) → List·Memᴰ c cs → (x : Var) → Names c x → a x < t .size
   pub every : (c : Constraint) → List·Memᴰ c cs → Meets t a c
 
-pub meets-named : (n : ℕ) (t : Tree) (a : Assignment) (cs : List Constraint) → vars cs ≤ n → MeetsAll n t a cs → MeetsNamed t a cs
+meets-named : (n : ℕ) (t : Tree) (a : Assignment) (cs : List Constraint) → vars cs ≤ n → MeetsAll n t a cs → MeetsNamed t a cs
 meets-named n t a cs few m = record {
   placed = λ c k x w. m .placed x (le-trans (names-below c x w) (le-trans (named-most cs c k) few));
   every = m .every;
@@ -39,7 +39,7 @@ module _ (t : Tree) (i : IsTree t) (a : Assignment) where
   unfolding on-nodes
   on-nodes-same x l = sym (pick-yes (a x) 0 (lt-yes l))
 
-  pub anywhere : (n : ℕ) (cs : List Constraint) → MeetsNamed t a cs → CanBeMet n cs
+  anywhere : (n : ℕ) (cs : List Constraint) → MeetsNamed t a cs → CanBeMet n cs
   anywhere n cs m = record {
     tree = t;
     is-tree = i;
@@ -50,11 +50,16 @@ module _ (t : Tree) (i : IsTree t) (a : Assignment) where
     };
   }
 
--- variables may be added, or taken away down to those named
-pub unnamed-met : (n m : ℕ) (cs : List Constraint) → vars cs ≤ n → CanBeMet n cs → CanBeMet m cs
-unnamed-met n m cs few w = anywhere (w .tree) (w .is-tree) (w .assignment) m cs (meets-named n (w .tree) (w .assignment) cs few (w .meets))
+-- that other variables are placed asks nothing more: over any n that covers the constraints they can be met exactly when they can with only the
+-- variables that they name on nodes
+pub named-enough : (n : ℕ) (cs : List Constraint) → vars cs ≤ n → CanBeMet n cs ↔ ((t : Tree) × IsTree t × (a : Assignment) × MeetsNamed t a cs)
+named-enough n cs few = (λ w. (w .tree, w .is-tree, w .assignment, meets-named n (w .tree) (w .assignment) cs few (w .meets)), λ w. anywhere (w .0) (w .1) (w .2) n cs (w .3))
 
--- so the fixed search ends in none over n variables exactly when it does over m
+-- so variables may be added, or taken away down to those named
+pub unnamed-met : (n m : ℕ) (cs : List Constraint) → vars cs ≤ n → CanBeMet n cs → CanBeMet m cs
+unnamed-met n m cs few w = let v = named-enough n cs few .0 w in anywhere (v .0) (v .1) (v .2) m cs (v .3)
+
+-- and the fixed search ends in none over n variables exactly when it does over m
 pub unnamed-none : {n m c d : ℕ} {cs : List Constraint} {o p : Outcome} → vars cs ≤ n → vars cs ≤ m → FixedSearch n cs o c → FixedSearch m cs p d → (o ≡ in-none) ↔ (p ≡ in-none)
 unnamed-none {n} {m} {cs = cs} l k f g = (
   λ e. none-cannot g .1 (λ w. none-cannot f .0 e (unnamed-met m n cs k w)),

@@ -25,7 +25,8 @@ pub data Reordered {A : Type 0} : List A → List A → Type 0 where
   exchanged : {x y : A} {xs : List A} → Reordered (x ∷ y ∷ xs) (y ∷ x ∷ xs)
   in-turn : {xs ys zs : List A} → Reordered xs ys → Reordered ys zs → Reordered xs zs
 
-pub record Shuffled (file other : List ℕ) : Type 0 where
+-- the other file has the records of this one in another order, or in the same
+pub record AnotherOrder (file other : List ℕ) : Type 0 where
   pub whole : Whole file
   pub other-whole : Whole other
   pub reordered : Reordered (quads file) (quads other)
@@ -86,7 +87,7 @@ pub record Renumbering (n : ℕ) (to : Var → Var) : Type 0 where
   pub inside : (x : Var) → x < n → to x < n
   pub one-to-one : (x y : Var) → x < n → y < n → to x ≡ to y → x ≡ y
 
--- kinds 1 to 5 name x and y, kinds 6 to 8 name x alone; all other bytes stay
+-- of an accepted file: kinds 1 to 5 name x and y, kinds 6 to 8 name x alone; all other bytes stay
 unfoldable pub renumberQuad : (Var → Var) → Quad → Quad
 renumberQuad to q = quad (q .first) (to (q .second)) (pick (leb (q .first) 5) (to (q .third)) (q .third)) (q .fourth)
 

@@ -7,12 +7,12 @@ use Rattle.meaning.specs.Constraint.{Constraint}
 use Rattle.meaning.specs.Files.{accepted, judge}
 use Rattle.meaning.specs.Results.{Solved}
 use Rattle.meaning.specs.Text.{solvedText}
-use Rattle.meaning.specs.Shuffled.{Shuffled}
+use Rattle.meaning.specs.Shuffled.{AnotherOrder}
 use Rattle.meaning.proofs.Shuffled.{same-solved}
 use Rattle.theory.specs.Programs.{solver}
 use Rattle.text.specs.Printing.{room, SolvedAs}
 
-pub printed-same : {A r s : ℕ} {file other before after later : List ℕ} {cs : List Constraint} → Shuffled file other → judge file ≡ accepted cs
+pub printed-same : {A r s : ℕ} {file other before after later : List ℕ} {cs : List Constraint} → AnotherOrder file other → judge file ≡ accepted cs
     → SolvedAs A file before r after → SolvedAs A other before s later → (s ≡ r) × (later ≡ after)
 printed-same {A} {r} {s} {file} {other} {before} p e u v =
     let d : solver A other room ≡ solver A file room = same-solved p .answers e (λ l. l, λ l. l) (u .promise) (v .promise) .0 in
