@@ -40,11 +40,11 @@ written-front (solver-answers (a-tree c bs)) buffer = refl
 written-front (solver-answers (a-none c)) buffer = refl
 written-front (solver-answers (a-spent c)) buffer = refl
 
-abbrev verdictOf : Solved → ℕ
-verdictOf (solver-answers (a-tree c bs)) = 0
-verdictOf (solver-answers (a-none c)) = 1
-verdictOf (solver-answers (a-spent c)) = 2
-verdictOf (solver-refuses q) = 3
+abbrev verdictNumber : Solved → ℕ
+verdictNumber (solver-answers (a-tree c bs)) = 0
+verdictNumber (solver-answers (a-none c)) = 1
+verdictNumber (solver-answers (a-spent c)) = 2
+verdictNumber (solver-refuses q) = 3
 
 -- the parts of the number fit their places
 abbrev Fits : Solved → Type 0
@@ -60,7 +60,7 @@ middle-is (solver-answers (a-none c)) f = omega arith
 middle-is (solver-answers (a-spent c)) f = omega arith
 middle-is (solver-refuses q) f = omega arith
 
-verdict-is : (r : Solved) → Fits r → verdict (solvedNumber r) ≡ verdictOf r
+verdict-is : (r : Solved) → Fits r → verdict (solvedNumber r) ≡ verdictNumber r
 unfolding verdict solvedNumber told
 verdict-is (solver-answers (a-tree c bs)) f = let l = f .0 in let k = f .1 in omega arith
 verdict-is (solver-answers (a-none c)) f = omega arith
@@ -90,7 +90,7 @@ module _ {A : ℕ} {file buffer after : List ℕ} {r : Solved} (most : A ≤ 429
           go (yes l) = answer-fits e (p .answers e l .1)
           go (no l) = refusal-fits (omega arith) (p .short-buffer e (omega arith))
 
-none-verdict : (r : Solved) → (verdictOf r ≡ 1) ↔ SaysNone r
+none-verdict : (r : Solved) → (verdictNumber r ≡ 1) ↔ SaysNone r
 none-verdict (solver-answers (a-tree c bs)) = (λ e. absurd (omega arith), λ w. let e = w .1 in let z : _≡_ {A = ℕ} 0 1 = cc in absurd (omega arith))
 none-verdict (solver-answers (a-none c)) = (λ e. (c, refl), λ w. refl)
 none-verdict (solver-answers (a-spent c)) = (λ e. absurd (omega arith), λ w. let e = w .1 in let z : _≡_ {A = ℕ} 0 1 = cc in absurd (omega arith))
@@ -115,14 +115,14 @@ told-same {buffer = buffer} {lent = lent} most p e room u v =
 
 -- C sees verdict 1 exactly where none is said, and 2 where spent is
 module _ {A r : ℕ} {file buffer after : List ℕ} (most : A ≤ 4294967295) (u : Solves A file buffer r after) where
-  verdict-told : verdict r ≡ verdictOf (solver A file buffer)
+  verdict-told : verdict r ≡ verdictNumber (solver A file buffer)
   verdict-told = ap verdict (u .number) ∙ verdict-is (solver A file buffer) (fits most (u .promise))
 
   none-told : (verdict r ≡ 1) ↔ SaysNone (solver A file buffer)
   none-told = let n = none-verdict (solver A file buffer) in (λ e. n .0 (sym verdict-told ∙ e), λ w. verdict-told ∙ n .1 w)
 
   spent-told : SaysSpent (solver A file buffer) → verdict r ≡ 2
-  spent-told w = verdict-told ∙ ap verdictOf (w .1)
+  spent-told w = verdict-told ∙ ap verdictNumber (w .1)
 
 pub told-none : {A B r s : ℕ} {to : Var → Var} {file other buffer after lent later : List ℕ} {cs : List Constraint} → A ≤ 4294967295 → B ≤ 4294967295
     → Renumbered to file other → judge file ≡ accepted cs → Renumbering (vars cs) to → SameRoom buffer lent
