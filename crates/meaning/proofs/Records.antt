@@ -16,6 +16,40 @@ use Rattle.meaning.specs.Files.{Quad, quad, quads, Whole, quadOf, Judged
 use Rattle.meaning.proofs.Tests.{and-left, and-right, and-both, pick-yes, pick-no, pick-has, is-eq, eq-yes, is-le, le-yes}
 use Rattle.meaning.proofs.Constraints.{OnLabelOf, vars-least}
 
+-- ---- at the limits of questions 3 to 6, by computing: a limit that is changed shows as its number
+
+kind-9-refused : judgeRecord 9 0 0 0 ≡ bad 3
+unfolding judgeRecord pick
+kind-9-refused = refl
+
+variable-15-passes : judgeRecord 7 15 0 0 ≡ good (is-leaf 15)
+unfolding judgeRecord judgeSingle pick _and_
+variable-15-passes = refl
+
+variable-16-refused : judgeRecord 7 16 0 0 ≡ bad 4
+unfolding judgeRecord judgeSingle pick _and_
+variable-16-refused = refl
+
+label-1-passes : judgeRecord 8 0 0 1 ≡ good (is-label 0 1)
+unfolding judgeRecord judgeLabel pick
+label-1-passes = refl
+
+label-0-refused : judgeRecord 8 0 0 0 ≡ bad 5
+unfolding judgeRecord judgeLabel pick
+label-0-refused = refl
+
+-- y is no variable of a root: 6, not 4
+unused-16-refused : judgeRecord 6 0 16 0 ≡ bad 6
+unfolding judgeRecord judgeSingle pick _and_
+unused-16-refused = refl
+
+same-spelt : judgeRecord 4 0 1 0 ≡ good (is-same 0 1)
+unfolding judgeRecord judgePair pick _and_
+same-spelt = refl
+
+same-record : quadOf (is-same 0 1) ≡ quad 4 0 1 0
+same-record = refl
+
 -- ---- one record
 
 -- its variables are at most 15, and a label is not blank
