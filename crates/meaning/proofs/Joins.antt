@@ -6,10 +6,10 @@ use Prim.Native.Nat.{ℕ, zero, suc, _<_}
 use native.Mathlib.Decide.{decLt}
 use native.Mathlib.Omega.{arith}
 use lib.ListN.{length, getD}
-use Rattle.meaning.specs.Tree.{Assignment, Tree, IsTree}
+use Rattle.meaning.specs.Tree.{Assignment, Tree, IsTree, Above}
 use Rattle.meaning.specs.Constraint.{Fact, below}
-use Rattle.meaning.specs.FixedSearch.{JoinKind, parent-join, chain-join, joinKinds, kindNumber, Join, join, IsJoin, first-alternative, second-alternative, key, Earlier, here, later, FirstJoin}
-use Rattle.meaning.proofs.Trees.{above-same, above-child, ancestors-chain}
+use Rattle.meaning.specs.FixedSearch.{JoinKind, parent-join, chain-join, sibling-join, joinKinds, kindNumber, Join, join, IsJoin, first-alternative, second-alternative, key, Earlier, here, later, FirstJoin}
+use Rattle.meaning.proofs.Trees.{above-same, above-child, ancestors-chain, above-sibling}
 use Rattle.meaning.proofs.Holds.{HoldsAll, holds-cons, settled-holds}
 
 -- ---- the first join is one
@@ -34,15 +34,18 @@ kindAt i = getD joinKinds i parent-join
 pub kind-at-number : (k : JoinKind) → kindAt (kindNumber k) ≡ k
 kind-at-number parent-join = refl
 kind-at-number chain-join = refl
+kind-at-number sibling-join = refl
 
 pub kind-number-small : (k : JoinKind) → kindNumber k < length joinKinds
 kind-number-small parent-join = omega arith
 kind-number-small chain-join = omega arith
+kind-number-small sibling-join = omega arith
 
 pub number-kind-at : (i : ℕ) → i < length joinKinds → kindNumber (kindAt i) ≡ i
 number-kind-at zero l = refl
 number-kind-at (suc zero) l = refl
-number-kind-at (suc (suc i)) l = absurd (omega arith)
+number-kind-at (suc (suc zero)) l = refl
+number-kind-at (suc (suc (suc i))) l = absurd (omega arith)
 
 key-injective : (j k : Join) → key j ≡ key k → j ≡ k
 key-injective (join k u v w) (join l x y z) e =
@@ -72,3 +75,14 @@ module _ (n : ℕ) (t : Tree) (i : IsTree t) (a : Assignment) (S : List Fact) (m
       (λ u. inl (holds-cons {f = below x y} m u))
       (λ u. inr (holds-cons {f = below y x} m u))
       (ancestors-chain t i (settled-holds n t i a S m (q .above-x)) (settled-holds n t i a S m (q .above-y)))
+  alternative-holds (join sibling-join y b x) q =
+      ⊎-elim
+      (λ e. inr (holds-cons {f = below b y} (holds-cons {f = below y b} m (above-same t i (sym e))) (above-same t i e)))
+      (λ u. inl (holds-cons {f = below b x} m u))
+      (⊎-elim
+      (λ s. let h = settled-holds n t i a S m s in above-sibling t i (h .parent-v) (h .parent-u) above)
+      (λ s. let h = settled-holds n t i a S m s in above-sibling t i (h .parent-u) (h .parent-v) above)
+      (q .siblings))
+    where
+      above : Above t (a b) (a y)
+      above = settled-holds n t i a S m (q .above)

@@ -3,6 +3,7 @@
 pub mod Tests
 pub mod Finite
 pub mod Lists
+pub mod Arranged
 -- trees, facts, the settled set as the least one, and why every rule of settling is sound
 pub mod Trees
 pub mod Facts

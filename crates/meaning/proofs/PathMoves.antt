@@ -8,7 +8,7 @@ use native.Mathlib.Nat.{lt-irrefl}
 use native.Mathlib.Omega.{arith}
 use Rattle.meaning.specs.Tree.{Var, Node, Assignment, Tree, IsTree, Parent, Above, self, up}
 use Rattle.meaning.specs.Constraint.{Constraint, is-label, Meets}
-use Rattle.meaning.specs.Paths.{Axis, to-self, to-child, to-parent, to-descendant, to-ancestor, to-descendant-or-self, to-ancestor-or-self, Test, letter, any}
+use Rattle.meaning.specs.Paths.{Axis, to-self, to-child, to-parent, to-descendant, to-ancestor, to-descendant-or-self, to-ancestor-or-self, to-following-sibling, to-preceding-sibling, Test, letter, any}
 use Rattle.meaning.specs.Selection.{Denotes, axisExpr, testExpr}
 use Rattle.meaning.specs.PathRecords.{axisRecord, moveRecords}
 use Rattle.meaning.proofs.Trees.{parent-smaller, above-le, above-trans}
@@ -43,6 +43,8 @@ module _ (t : Tree) (i : IsTree t) where
     axis-meets to-ancestor x y d = parent-below-proper (d .2) (d .3)
     axis-meets to-descendant-or-self x y d = d
     axis-meets to-ancestor-or-self x y d = d
+    axis-meets to-following-sibling x y d = d
+    axis-meets to-preceding-sibling x y d = d
 
     axis-denotes : (k : Axis) (x y : Var) → Meets t a (axisRecord k x y) → Denotes t (axisExpr k) (a x) (a y)
     unfolding axisExpr axisRecord
@@ -53,6 +55,8 @@ module _ (t : Tree) (i : IsTree t) where
     axis-denotes to-ancestor x y m = has-parent-below (m .0) (m .1)
     axis-denotes to-descendant-or-self x y m = m
     axis-denotes to-ancestor-or-self x y m = m
+    axis-denotes to-following-sibling x y m = m
+    axis-denotes to-preceding-sibling x y m = m
 
     abbrev pub Met : List Constraint → Type 0
     Met cs = (c : Constraint) → List·Memᴰ c cs → Meets t a c

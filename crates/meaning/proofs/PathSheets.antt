@@ -9,7 +9,7 @@ use native.Mathlib.Omega.{arith}
 use Rattle.meaning.specs.Tree.{Var}
 use Rattle.meaning.specs.Constraint.{Constraint, is-same, is-root, named, vars}
 use Rattle.meaning.specs.Finite.{Yes}
-use Rattle.meaning.specs.Paths.{Axis, to-self, to-child, to-parent, to-descendant, to-ancestor, to-descendant-or-self, to-ancestor-or-self, isLetter, Test, letter, any, Path, alone, from-root, from-here, Steps, one, more, Step, move, having}
+use Rattle.meaning.specs.Paths.{Axis, to-self, to-child, to-parent, to-descendant, to-ancestor, to-descendant-or-self, to-ancestor-or-self, to-following-sibling, to-preceding-sibling, isLetter, Test, letter, any, Path, alone, from-root, from-here, Steps, one, more, Step, move, having}
 use Rattle.meaning.specs.PathRecords.{Sheet, blankSheet, nextTaken, withRecords, rootedBy, rooted, axisRecord, moveRecords, pathSheet, stepsSheet, stepSheet, endSheet, lineSheet, linesSheet}
 use Rattle.meaning.proofs.Tests.{and-left, and-right, is-le}
 use Rattle.meaning.proofs.Constraints.{OnLabelOf, named-most}
@@ -25,6 +25,8 @@ axis-named to-descendant x y = refl
 axis-named to-ancestor x y = omega arith
 axis-named to-descendant-or-self x y = refl
 axis-named to-ancestor-or-self x y = omega arith
+axis-named to-following-sibling x y = refl
+axis-named to-preceding-sibling x y = omega arith
 
 pub move-vars : (k : Axis) (t : Test) (x y : Var) → vars (moveRecords k t x y) ≡ suc (max x y)
 unfolding vars named moveRecords
@@ -44,6 +46,8 @@ axis-lettered to-descendant x y = tt
 axis-lettered to-ancestor x y = tt
 axis-lettered to-descendant-or-self x y = tt
 axis-lettered to-ancestor-or-self x y = tt
+axis-lettered to-following-sibling x y = tt
+axis-lettered to-preceding-sibling x y = tt
 
 pub letter-range : (b : ℕ) → Yes (isLetter b) → (97 ≤ b) × (b ≤ 122)
 unfolding isLetter

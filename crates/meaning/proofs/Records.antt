@@ -10,7 +10,7 @@ use native.Mathlib.Omega.{arith}
 use lib.ListN.{length, length-map}
 use lib.Dec.{leb, eqb}
 use Rattle.meaning.specs.Tree.{Var}
-use Rattle.meaning.specs.Constraint.{Constraint, is-child, is-below, is-strictly-below, is-same, is-differ, is-root, is-leaf, is-label, named, vars}
+use Rattle.meaning.specs.Constraint.{Constraint, is-child, is-below, is-strictly-below, is-same, is-differ, is-root, is-leaf, is-label, is-before, named, vars}
 use Rattle.meaning.specs.Finite.{Yes, pick, _and_}
 use Rattle.meaning.specs.Files.{Quad, quad, quads, Whole, quadOf, JudgedRecord, bad, good, judgePair, judgeSingle, judgeLabel, judgeRecord, Judged, refused, accepted, before, judgeRecords, Spells, judge}
 use Rattle.meaning.proofs.Tests.{and-left, and-right, and-both, pick-yes, pick-no, pick-has, is-eq, eq-yes, is-le, le-yes}
@@ -18,9 +18,17 @@ use Rattle.meaning.proofs.Constraints.{OnLabelOf, vars-least}
 
 -- ---- at the limits of questions 3 to 6, by computing: a limit that is changed shows as its number
 
-kind-9-refused : judgeRecord 9 0 0 0 ≡ bad 3
+before-passes : judgeRecord 9 0 1 0 ≡ good (is-before 0 1)
+unfolding judgeRecord judgePair pick _and_
+before-passes = refl
+
+before-label-refused : judgeRecord 9 0 1 1 ≡ bad 6
+unfolding judgeRecord judgePair pick _and_
+before-label-refused = refl
+
+kind-10-refused : judgeRecord 10 0 0 0 ≡ bad 3
 unfolding judgeRecord pick
-kind-9-refused = refl
+kind-10-refused = refl
 
 variable-15-passes : judgeRecord 7 15 0 0 ≡ good (is-leaf 15)
 unfolding judgeRecord judgeSingle pick _and_
@@ -93,9 +101,10 @@ record-read q =
     (pick-has (Read q) _ _ _ (λ t. pair-read q is-differ _ _ _ (λ a b z. (quad-eq (is-eq t) refl refl z, record { few = omega arith; labelled = tt })))
     (pick-has (Read q) _ _ _ (λ t. single-read q is-root _ _ _ (λ a y z. (quad-eq (is-eq t) refl y z, record { few = omega arith; labelled = tt })))
     (pick-has (Read q) _ _ _ (λ t. single-read q is-leaf _ _ _ (λ a y z. (quad-eq (is-eq t) refl y z, record { few = omega arith; labelled = tt })))
-    (pick-has (Read q) _ _ _ (λ t. label-read q _ _ _ (λ a h y. (quad-eq (is-eq t) refl y refl, record { few = omega arith; labelled = h }))) refl)))))))
+    (pick-has (Read q) _ _ _ (λ t. label-read q _ _ _ (λ a h y. (quad-eq (is-eq t) refl y refl, record { few = omega arith; labelled = h })))
+    (pick-has (Read q) _ _ _ (λ t. pair-read q is-before _ _ _ (λ a b z. (quad-eq (is-eq t) refl refl z, record { few = omega arith; labelled = tt }))) refl))))))))
 
-kind-most : (c : Constraint) → quadOf c .first ≤ 8
+kind-most : (c : Constraint) → quadOf c .first ≤ 9
 kind-most (is-child x y) = omega arith
 kind-most (is-below x y) = omega arith
 kind-most (is-strictly-below x y) = omega arith
@@ -104,9 +113,10 @@ kind-most (is-differ x y) = omega arith
 kind-most (is-root x) = omega arith
 kind-most (is-leaf x) = omega arith
 kind-most (is-label x l) = omega arith
+kind-most (is-before x y) = omega arith
 
-pub spells-kind : (q : Quad) {c : Constraint} → Spells q c → q .first ≤ 8
-spells-kind q {c} e = let r : Read q (good c) = subst (Read q) e (record-read q) in subst (λ (p : Quad). p .first ≤ 8) (sym (r .0)) (kind-most c)
+pub spells-kind : (q : Quad) {c : Constraint} → Spells q c → q .first ≤ 9
+spells-kind q {c} e = let r : Read q (good c) = subst (Read q) e (record-read q) in subst (λ (p : Quad). p .first ≤ 9) (sym (r .0)) (kind-most c)
 
 -- and the record of a constraint that can be asked spells it
 pair-good : (k : Var → Var → Constraint) (x y : Var) → suc (max x y) ≤ 16 → judgePair k x y 0 ≡ good (k x y)
@@ -131,6 +141,7 @@ spells (is-differ x y) a = pair-good is-differ x y (a .few)
 spells (is-root x) a = single-good is-root x (a .few)
 spells (is-leaf x) a = single-good is-leaf x (a .few)
 spells (is-label x l) a = label-good x l (a .few) (a .labelled)
+spells (is-before x y) a = pair-good is-before x y (a .few)
 
 -- ---- the records of a file
 

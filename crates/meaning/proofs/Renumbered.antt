@@ -9,8 +9,8 @@ use native.Mathlib.Omega.{arith}
 use lib.ListN.{length, length-map}
 use lib.Dec.{eqb}
 use Rattle.meaning.specs.Tree.{Var, Label, Assignment, Tree}
-use Rattle.meaning.specs.Constraint.{Constraint, is-child, is-below, is-strictly-below, is-same, is-differ, is-root, is-leaf, is-label, Meets, CanBeMet, named, vars}
-use Rattle.meaning.specs.Finite.{pick, anyb, smallest}
+use Rattle.meaning.specs.Constraint.{Constraint, is-child, is-below, is-strictly-below, is-same, is-differ, is-root, is-leaf, is-label, is-before, Meets, CanBeMet, named, vars}
+use Rattle.meaning.specs.Finite.{pick, _or_, anyb, smallest}
 use Rattle.meaning.specs.Files.{quads, quadOf, accepted, judge}
 use Rattle.meaning.specs.Shuffled.{Renumbering, renumberQuad, Renumbered, SameNone}
 use Rattle.meaning.proofs.Tests.{yes-case, is-eq, self-eq}
@@ -32,11 +32,12 @@ renumber to (is-differ x y) = is-differ (to x) (to y)
 renumber to (is-root x) = is-root (to x)
 renumber to (is-leaf x) = is-leaf (to x)
 renumber to (is-label x l) = is-label (to x) l
+renumber to (is-before x y) = is-before (to x) (to y)
 
 module _ (to : Var → Var) where
   -- its record is the record renumbered
   quad-renumber : (c : Constraint) → renumberQuad to (quadOf c) ≡ quadOf (renumber to c)
-  unfolding renumberQuad pick
+  unfolding renumberQuad pick _or_
   quad-renumber (is-child x y) = refl
   quad-renumber (is-below x y) = refl
   quad-renumber (is-strictly-below x y) = refl
@@ -45,6 +46,7 @@ module _ (to : Var → Var) where
   quad-renumber (is-root x) = refl
   quad-renumber (is-leaf x) = refl
   quad-renumber (is-label x l) = refl
+  quad-renumber (is-before x y) = refl
 
   label-renumber : (P : Label → Type 0) (c : Constraint) → OnLabelOf P c → OnLabelOf P (renumber to c)
   label-renumber P (is-child x y) h = h
@@ -55,6 +57,7 @@ module _ (to : Var → Var) where
   label-renumber P (is-root x) h = h
   label-renumber P (is-leaf x) h = h
   label-renumber P (is-label x l) h = h
+  label-renumber P (is-before x y) h = h
 
   -- it is met where the constraint is met with each variable on the node of its new number
   meets-renumber : (t : Tree) (a : Assignment) (c : Constraint) → Meets t a (renumber to c) ≡ Meets t (λ x. a (to x)) c
@@ -66,6 +69,7 @@ module _ (to : Var → Var) where
   meets-renumber t a (is-root x) = refl
   meets-renumber t a (is-leaf x) = refl
   meets-renumber t a (is-label x l) = refl
+  meets-renumber t a (is-before x y) = refl
 
   pair-below : (n : ℕ) → ((x : Var) → x < n → to x < n) → (x y : Var) → suc (max x y) ≤ n → suc (max (to x) (to y)) ≤ n
   pair-below n f x y l = let a = f x (omega arith) in let b = f y (omega arith) in omega arith
@@ -80,6 +84,7 @@ module _ (to : Var → Var) where
   named-renumber n f (is-root x) l = f x l
   named-renumber n f (is-leaf x) l = f x l
   named-renumber n f (is-label x k) l = f x l
+  named-renumber n f (is-before x y) l = pair-below n f x y l
 
 -- ---- trees
 

@@ -8,7 +8,7 @@ use native.Mathlib.Decide.{decLe}
 use native.Mathlib.Omega.{arith}
 use lib.ListN.{length}
 use Rattle.meaning.specs.Tree.{Node, Assignment, Tree}
-use Rattle.meaning.specs.Constraint.{Constraint, is-child, is-below, is-strictly-below, is-same, is-differ, is-root, is-leaf, is-label, Meets, vars}
+use Rattle.meaning.specs.Constraint.{Constraint, is-child, is-below, is-strictly-below, is-same, is-differ, is-root, is-leaf, is-label, is-before, Meets, vars}
 use Rattle.meaning.specs.ReadOff.{NodeRecord, treeOf}
 use Rattle.meaning.specs.Demand.{Demand3}
 use Rattle.meaning.specs.Marking.{Mark, met, unmet, kind, further, Marks, all-met, not-met, is-met}
@@ -151,6 +151,7 @@ kind-first (is-differ x y) = refl
 kind-first (is-root x) = refl
 kind-first (is-leaf x) = refl
 kind-first (is-label x l) = refl
+kind-first (is-before x y) = refl
 
 spells-one : (q : Quad) {c d : Constraint} → Spells q c → Spells q d → c ≡ d
 spells-one q {c} {d} e f = let g : good c ≡ good d = sym e ∙ f in cc

@@ -3,9 +3,9 @@
 use mathlib.Core.List.{List, [], _∷_, _++_}
 use Prim.Native.Nat.{ℕ, zero, suc}
 use Rattle.meaning.specs.Tree.{Var}
-use Rattle.meaning.specs.Constraint.{Constraint, is-child, is-below, is-strictly-below, is-same, is-root, is-label}
+use Rattle.meaning.specs.Constraint.{Constraint, is-child, is-below, is-strictly-below, is-same, is-root, is-label, is-before}
 use Rattle.meaning.specs.Files.{quadOf}
-use Rattle.meaning.specs.Paths.{Axis, to-self, to-child, to-parent, to-descendant, to-ancestor, to-descendant-or-self, to-ancestor-or-self, Test, letter, any, Path, alone, from-root, from-here, Steps, one, more, Step, move, having}
+use Rattle.meaning.specs.Paths.{Axis, to-self, to-child, to-parent, to-descendant, to-ancestor, to-descendant-or-self, to-ancestor-or-self, to-following-sibling, to-preceding-sibling, Test, letter, any, Path, alone, from-root, from-here, Steps, one, more, Step, move, having}
 
 -- what has been written so far: the next number, the root's number (0 while it has none, since 0 is never the root's), the records
 pub record Sheet : Type 0 where
@@ -33,7 +33,8 @@ unfoldable pub rooted : Sheet → Sheet
 unfolding rootedBy
 rooted w = rootedBy (w .rootAt) w
 
--- "In an axis record x is the node left and y the one reached, the other way round for parent and ancestor axes"; "self is same"
+-- "In an axis record x is the node left and y the one reached, the other way round for parent and ancestor axes"; "self is same";
+-- "following-sibling and preceding-sibling, the latter with x the node reached"
 unfoldable pub axisRecord : Axis → Var → Var → Constraint
 axisRecord to-self x y = is-same x y
 axisRecord to-child x y = is-child x y
@@ -42,6 +43,8 @@ axisRecord to-descendant x y = is-strictly-below x y
 axisRecord to-ancestor x y = is-strictly-below y x
 axisRecord to-descendant-or-self x y = is-below x y
 axisRecord to-ancestor-or-self x y = is-below y x
+axisRecord to-following-sibling x y = is-before x y
+axisRecord to-preceding-sibling x y = is-before y x
 
 -- "for each step its axis record, then any label"
 unfoldable pub moveRecords : Axis → Test → Var → Var → List Constraint

@@ -13,7 +13,7 @@ use Rattle.meaning.specs.Ascii.{ascii}
 -- ---- paths
 
 pub data Axis : Type 0 where
-  to-self to-child to-parent to-descendant to-ancestor to-descendant-or-self to-ancestor-or-self : Axis
+  to-self to-child to-parent to-descendant to-ancestor to-descendant-or-self to-ancestor-or-self to-following-sibling to-preceding-sibling : Axis
 
 -- a to z
 unfoldable pub isLetter : ℕ → Bool
@@ -49,6 +49,8 @@ axisText to-descendant = ascii "descendant"
 axisText to-ancestor = ascii "ancestor"
 axisText to-descendant-or-self = ascii "descendant-or-self"
 axisText to-ancestor-or-self = ascii "ancestor-or-self"
+axisText to-following-sibling = ascii "following-sibling"
+axisText to-preceding-sibling = ascii "preceding-sibling"
 
 -- 42 is *
 unfoldable pub testByte : Test → ℕ

@@ -2,24 +2,27 @@
 use mathlib.Core.Path.{_≡_}
 use mathlib.Core.List.{List, List·Memᴰ}
 use Prim.Native.Nat.{_<_}
-use Rattle.meaning.specs.Tree.{Node, Label, Tree, IsTree, Parent, Above}
-use Rattle.meaning.specs.AnyTree.{Reaches, AnyTree}
-use Rattle.meaning.specs.Paths.{Axis, to-self, to-child, to-parent, to-descendant, to-ancestor, to-descendant-or-self, to-ancestor-or-self, Test, letter, any, Path, alone, from-root, from-here, Steps, one, more, Step, move, having}
+use Rattle.meaning.specs.Tree.{Node, Label, Tree, IsTree, Parent, Above, EarlierSibling}
+use Rattle.meaning.specs.AnyTree.{Reaches, AnyTree, PrecedesSibling}
+use Rattle.meaning.specs.Paths.{Axis, to-self, to-child, to-parent, to-descendant, to-ancestor, to-descendant-or-self, to-ancestor-or-self, to-following-sibling, to-preceding-sibling, Test, letter, any, Path, alone, from-root, from-here, Steps, one, more, Step, move, having}
 
--- the expressions of definition 2.2 that the paths need: ε ↑ ↓ ↑* ↓*, the document root, a tag, p₁/p₂ and p₁[p₂]
+-- the expressions of definition 2.2 that the paths need: ε ↑ ↓ ↑* ↓*, ← and → (long here, since → is a word of antt), the document root, a tag,
+-- p₁/p₂ and p₁[p₂]
 pub data Expr : Type 0 where
-  ε ↑ ↓ ↑* ↓* document-root : Expr
+  ε ↑ ↓ ↑* ↓* ⟵ ⟶ document-root : Expr
   tag : Label → Expr
   over filter : Expr → Expr → Expr
 
 -- definition 2.3: (n, n′) is in the meaning of p; n and n′ are nodes, as is every n″
 abbrev pub Denotes : Tree → Expr → Node → Node → Type 0
--- (1) to (5)
+-- (1) to (7)
 Denotes t ε n n′ = n ≡ n′
 Denotes t ↑ n n′ = Parent t n′ n
 Denotes t ↓ n n′ = Parent t n n′
 Denotes t ↑* n n′ = Above t n′ n
 Denotes t ↓* n n′ = Above t n n′
+Denotes t ⟵ n n′ = EarlierSibling t n′ n
+Denotes t ⟶ n n′ = EarlierSibling t n n′
 -- (8)
 Denotes t document-root n n′ = n′ ≡ 0
 -- (9)
@@ -40,6 +43,8 @@ axisExpr to-descendant = over ↓ ↓*
 axisExpr to-ancestor = over ↑ ↑*
 axisExpr to-descendant-or-self = ↓*
 axisExpr to-ancestor-or-self = ↑*
+axisExpr to-following-sibling = ⟶
+axisExpr to-preceding-sibling = ⟵
 
 -- "child::a/ancestor::b can be represented in our syntax as ↓/a/↑⁺/b"
 unfoldable pub testExpr : Test → Expr → Expr
@@ -86,6 +91,8 @@ DenotesAny T ↑ n n′ = T .IsParent n′ n
 DenotesAny T ↓ n n′ = T .IsParent n n′
 DenotesAny T ↑* n n′ = Reaches (T .IsParent) n′ n
 DenotesAny T ↓* n n′ = Reaches (T .IsParent) n n′
+DenotesAny T ⟵ n n′ = PrecedesSibling T n′ n
+DenotesAny T ⟶ n n′ = PrecedesSibling T n n′
 DenotesAny T document-root n n′ = n′ ≡ T .root
 DenotesAny T (tag l) n n′ = (n ≡ n′) × (T .label n ≡ l)
 DenotesAny {N} T (over p₁ p₂) n n′ = (n″ : N) × DenotesAny T p₁ n n″ × DenotesAny T p₂ n″ n′

@@ -5,10 +5,10 @@ use mathlib.Core.Logic.{_↔_}
 use mathlib.Core.List.{List, [], _∷_, _++_, map, List·Memᴰ}
 use Prim.Native.Nat.{ℕ, _≤_, _<_}
 use lib.ListN.{length}
-use lib.Dec.{leb}
+use lib.Dec.{eqb, leb}
 use Rattle.meaning.specs.Tree.{Var, Node, Assignment, Tree}
 use Rattle.meaning.specs.Constraint.{Constraint, Meets, vars}
-use Rattle.meaning.specs.Finite.{pick}
+use Rattle.meaning.specs.Finite.{pick, _or_}
 use Rattle.meaning.specs.ReadOff.{NodeRecord, treeOf}
 use Rattle.meaning.specs.Demand.{a-none, a-spent}
 use Rattle.meaning.specs.Marking.{met, unmet}
@@ -87,9 +87,9 @@ pub record Renumbering (n : ℕ) (to : Var → Var) : Type 0 where
   pub inside : (x : Var) → x < n → to x < n
   pub one-to-one : (x y : Var) → x < n → y < n → to x ≡ to y → x ≡ y
 
--- of an accepted file: kinds 1 to 5 name x and y, kinds 6 to 8 name x alone; all other bytes stay
+-- of an accepted file: kinds 1 to 5 and 9 name x and y, kinds 6 to 8 name x alone; all other bytes stay
 unfoldable pub renumberQuad : (Var → Var) → Quad → Quad
-renumberQuad to q = quad (q .first) (to (q .second)) (pick (leb (q .first) 5) (to (q .third)) (q .third)) (q .fourth)
+renumberQuad to q = quad (q .first) (to (q .second)) (pick (leb (q .first) 5 or eqb (q .first) 9) (to (q .third)) (q .third)) (q .fourth)
 
 pub record Renumbered (to : Var → Var) (file other : List ℕ) : Type 0 where
   pub whole : Whole file

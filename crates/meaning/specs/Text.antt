@@ -59,7 +59,8 @@ kindName k =
     (pick (eqb k 4) "same"
     (pick (eqb k 5) "differ"
     (pick (eqb k 6) "root"
-    (pick (eqb k 7) "leaf" "label"))))))
+    (pick (eqb k 7) "leaf"
+    (pick (eqb k 8) "label" "before")))))))
 
 -- ---- answers
 

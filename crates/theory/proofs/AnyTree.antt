@@ -1,17 +1,17 @@
 -- Trees whose nodes bear no numbers and trees of docs/FORMAT.md meet the same constraints, since each is the other under a numbering. So 'none'
 -- also means that no tree in the sense of source 004, definition 2.1, meets the constraints.
 use mathlib.Core.Path.{_≡_, refl, sym, ap, _∙_, subst}
-use mathlib.Core.Logic.{_↔_, ⊎-elim}
+use mathlib.Core.Logic.{_≢_, _↔_, _⊎_, inl, inr, ⊎-elim}
 use mathlib.Core.HLevel.{Σ-prop-path}
 use mathlib.Core.List.{List, [], _∷_, List·Memᴰ, List·Memᴰ·head, List·Memᴰ·tail}
 use Prim.Native.Nat.{ℕ, zero, suc, _≤_, _<_, zero-le}
-use native.Mathlib.Nat.{le-refl, le-trans, le-of-lt, lt-irrefl, not-suc-le-zero}
+use native.Mathlib.Nat.{le-refl, le-trans, lt-trans, le-of-lt, lt-irrefl, not-suc-le-zero}
 use native.Mathlib.Bridge.{le-prop}
 use native.Mathlib.Decide.{decLt, decLe}
 use native.Mathlib.Omega.{arith}
-use Rattle.meaning.specs.Tree.{Var, Node, Label, Assignment, Tree, IsTree, Parent, Above, self, up}
-use Rattle.meaning.specs.Constraint.{Constraint, is-child, is-below, is-strictly-below, is-same, is-differ, is-root, is-leaf, is-label, Meets, vars, MeetsAll, ByteLabels}
-use Rattle.meaning.specs.AnyTree.{Reaches, here, down, AnyTree, ByteLabelled, MeetsAny, MeetsAllAny, NoAnyTree, Numbering}
+use Rattle.meaning.specs.Tree.{Var, Node, Label, Assignment, Tree, IsTree, Parent, Above, self, up, EarlierSibling}
+use Rattle.meaning.specs.Constraint.{Constraint, is-child, is-below, is-strictly-below, is-same, is-differ, is-root, is-leaf, is-label, is-before, Meets, vars, MeetsAll, ByteLabels}
+use Rattle.meaning.specs.AnyTree.{Reaches, here, down, AnyTree, PrecedesSibling, ByteLabelled, MeetsAny, MeetsAllAny, NoAnyTree, Numbering}
 use Rattle.meaning.specs.FixedSearch.{Outcome, in-none}
 use Rattle.meaning.specs.Demand.{a-none, FixedSearch, Demand3}
 use Rattle.meaning.specs.Files.{accepted, judge}
@@ -30,6 +30,14 @@ module _ {N : Type 0} (T : AnyTree N) (t : Tree) (s : Numbering T t) where
   pub number-reaches : {u v : N} → Reaches (T .IsParent) u v → Above t (s .number u) (s .number v)
   number-reaches here = self
   number-reaches (down p h) = up (s .same-parents _ _ .0 p) (number-reaches h)
+
+  pub number-sibling : {u v : N} → PrecedesSibling T u v → EarlierSibling t (s .number u) (s .number v)
+  number-sibling h = record {
+    above = s .number (h .above);
+    parent-u = s .same-parents _ _ .0 (h .parent-u);
+    parent-v = s .same-parents _ _ .0 (h .parent-v);
+    smaller = s .same-order (h .parent-u) (h .parent-v) .0 (h .first);
+  }
 
 module _ {N : Type 0} (T : AnyTree N) (t : Tree) (i : IsTree t) (s : Numbering T t) where
   -- a numbered node with a parent has one in T
@@ -52,6 +60,13 @@ module _ {N : Type 0} (T : AnyTree N) (t : Tree) (i : IsTree t) (s : Numbering T
       let r : t .parent (s .number v) ≡ m = ap (t .parent) e ∙ p .is in
       down (w .1) (above-numbered h (w .0) (sym q ∙ r) u f)
 
+  pub sibling-numbered : {u v : N} → EarlierSibling t (s .number u) (s .number v) → PrecedesSibling T u v
+  sibling-numbered {u} {v} h =
+      let w = parent-numbered (h .parent-u) in
+      let e : h .above ≡ s .number (w .0) = sym (h .parent-u .is) ∙ s .same-parents (w .0) u .0 (w .1) .is in
+      let b : T .IsParent (w .0) v = s .same-parents (w .0) v .1 (subst (λ (k : Node). Parent t k (s .number v)) e (h .parent-v)) in
+      record { above = w .0; parent-u = w .1; parent-v = b; first = s .same-order (w .1) b .1 (h .smaller) }
+
   pub numbering-meets : (a : Var → N) (c : Constraint) → MeetsAny T a c ↔ Meets t (λ x. s .number (a x)) c
   numbering-meets a (is-child x y) = s .same-parents (a x) (a y)
   numbering-meets a (is-below x y) = (number-reaches T t s, λ h. above-numbered h (a y) refl (a x) refl)
@@ -64,6 +79,7 @@ module _ {N : Type 0} (T : AnyTree N) (t : Tree) (i : IsTree t) (s : Numbering T
   numbering-meets a (is-root x) = (λ h k p. let w = parent-numbered p in h (w .0) (w .1), λ h u p. h (s .number u) (s .same-parents u (a x) .0 p))
   numbering-meets a (is-leaf x) = (λ h k p. let w = child-numbered p in h (w .0) (w .1), λ h v p. h (s .number v) (s .same-parents (a x) v .0 p))
   numbering-meets a (is-label x l) = (λ e. s .same-labels (a x) ∙ e, λ e. sym (s .same-labels (a x)) ∙ e)
+  numbering-meets a (is-before x y) = (number-sibling T t s, λ h. sibling-numbered h)
 
   pub numbering-meets-all : (n : ℕ) (a : Var → N) (cs : List Constraint) → MeetsAllAny T a cs ↔ MeetsAll n t (λ x. s .number (a x)) cs
   numbering-meets-all n a cs = (
@@ -98,6 +114,10 @@ module _ {N : Type 0} (T : AnyTree N) where
     one-parent = T .one-parent;
     reached = T .reached;
     label = λ v. byte-or-blank (T .label v) (decLe (T .label v) 255);
+    Precedes = T .Precedes;
+    precedes-not = T .precedes-not;
+    precedes-chain = T .precedes-chain;
+    precedes-total = T .precedes-total;
   }
 
   pub with-bytes-small : ByteLabelled with-bytes
@@ -111,6 +131,7 @@ module _ {N : Type 0} (T : AnyTree N) where
   with-bytes-meets a cs b (is-differ x y) m h = h
   with-bytes-meets a cs b (is-root x) m h = h
   with-bytes-meets a cs b (is-leaf x) m h = h
+  with-bytes-meets a cs b (is-before x y) m h = record { above = h .above; parent-u = h .parent-u; parent-v = h .parent-v; first = h .first }
   with-bytes-meets a cs b (is-label x l) m h = byte-stays _ _ (subst (λ (k : Label). k ≤ 255) (sym h) (b x l m)) ∙ h
 
   -- where a tree of the paper meets constraints whose labels are bytes, so does one of docs/FORMAT.md
@@ -148,6 +169,11 @@ module _ (t : Tree) (i : IsTree t) where
       let k : w < t .size = omega arith in
       down {w = (w, k)} p (above-reaches h l k)
 
+  compared : (u v : NodeOf t) → u ≢ v → Dec (u .0 < v .0) → Dec (v .0 < u .0) → (u .0 < v .0) ⊎ (v .0 < u .0)
+  compared u v d (yes l) _ = inl l
+  compared u v d (no l) (yes k) = inr k
+  compared u v d (no l) (no k) = absurd (d (node-same u v (omega arith)))
+
   pub any-tree : AnyTree (NodeOf t)
   any-tree = record {
     nodes = nodes-below (t .size) (le-refl _);
@@ -158,6 +184,10 @@ module _ (t : Tree) (i : IsTree t) where
     one-parent = λ {u} {v} p q. node-same u v (sym (p .is) ∙ q .is);
     reached = λ v. above-reaches (root-above t i (v .0) (v .1)) (i .some-node) (v .1);
     label = λ v. t .label (v .0);
+    Precedes = λ u v. u .0 < v .0;
+    precedes-not = λ v l. lt-irrefl _ l;
+    precedes-chain = λ l k. lt-trans l k;
+    precedes-total = λ {p} {u} {v} a b d. compared u v d (decLt (u .0) (v .0)) (decLt (v .0) (u .0));
   }
 
   -- its nodes under their own numbers
@@ -170,6 +200,7 @@ module _ (t : Tree) (i : IsTree t) where
     onto = λ k l. ((k, l), refl);
     same-parents = λ u v. (λ p. p, λ p. p);
     same-labels = λ v. refl;
+    same-order = λ a b. (λ l. l, λ l. l);
   }
 
   on-node : (n : ℕ) (a : Assignment) → ((x : Var) → x < n → a x < t .size) → (x : Var) → Dec (x < n) → NodeOf t

@@ -1,15 +1,16 @@
--- Every finite tree whose nodes bear no numbers has a numbering as docs/FORMAT.md wants, with the same parents and labels. A node's key is its
--- depth, then its place in the list of nodes; its number is how many keys are smaller. A parent is less deep, so its number is smaller.
+-- Every finite tree whose nodes bear no numbers has a numbering as docs/FORMAT.md wants, with the same parents and labels, and siblings in their
+-- order. A node's key is its depth, then how many siblings precede it, then its place in the list of nodes; its number is how many keys are
+-- smaller. A parent is less deep, so its number is smaller; of two siblings the one that precedes has fewer before it.
 use mathlib.Core.Path.{_≡_, refl, sym, ap, _∙_, subst}
 use mathlib.Core.Logic.{_≢_, _⊎_, inl, inr, ⊎-elim}
 use mathlib.Core.List.{List, [], _∷_, List·Memᴰ, List·Memᴰ·head, List·Memᴰ·tail, List·Memᴰ·cases-cons, List·Memᴰ·not-nil}
-use Prim.Native.Nat.{ℕ, suc, _+_, _*_, _%_, _<_, max, suc-le-suc}
-use native.Mathlib.Nat.{zero-lt-suc, suc-mul, mul-add-mod-self-right, mod-eq-of-lt}
-use native.Mathlib.Decide.{decLt, ℕ-discrete}
+use Prim.Native.Nat.{ℕ, suc, _+_, _*_, _%_, _≤_, _<_, max, zero-le, suc-le-suc}
+use native.Mathlib.Nat.{le-refl, le-step, zero-lt-suc, mul-le-mul-right, suc-mul, mul-add-mod-self-right, mod-eq-of-lt}
+use native.Mathlib.Decide.{map-dec, decLt, ℕ-discrete}
 use native.Mathlib.Omega.{arith}
 use lib.ListN.{length, getD}
 use Rattle.meaning.specs.Tree.{Node, Tree, IsTree}
-use Rattle.meaning.specs.AnyTree.{Reaches, here, down, AnyTree, ByteLabelled, Numbering}
+use Rattle.meaning.specs.AnyTree.{Reaches, here, down, AnyTree, PrecedesSibling, ByteLabelled, Numbering}
 use Rattle.theory.proofs.Rank.{rank, rank-smaller, rank-onto}
 
 -- ---- the place of a member of a list
@@ -34,6 +35,40 @@ remainders-same n a b p q l k e = sym (rest a p l) ∙ ap (λ (i : ℕ). i % n) 
   where
     rest : (c r : ℕ) → r < n → (c * n + r) % n ≡ r
     rest c r h = mul-add-mod-self-right c n r ∙ mod-eq-of-lt h
+
+-- the first of two digits decides
+digits : (n a b p q : ℕ) → a < b → p < n → a * n + p < b * n + q
+digits n a b p q l k = let m : suc a * n ≤ b * n = mul-le-mul-right n l in let e : suc a * n ≡ a * n + n = suc-mul a n in omega arith
+
+-- one more if it holds
+more : {A : Type 0} → Dec A → ℕ → ℕ
+more (yes h) k = suc k
+more (no h) k = k
+
+more-most : {A : Type 0} (d : Dec A) (k : ℕ) → more d k ≤ suc k
+unfolding more
+more-most (yes h) k = le-refl _
+more-most (no h) k = le-step (le-refl _)
+
+more-le : {A B : Type 0} (d : Dec A) (e : Dec B) → (A → B) → {j k : ℕ} → j ≤ k → more d j ≤ more e k
+unfolding more
+more-le (yes h) (yes g) f l = suc-le-suc l
+more-le (yes h) (no g) f l = absurd (g (f h))
+more-le (no h) (yes g) f l = le-step l
+more-le (no h) (no g) f l = l
+
+more-still : {A B : Type 0} (d : Dec A) (e : Dec B) → (A → B) → {j k : ℕ} → j < k → more d j < more e k
+unfolding more
+more-still (yes h) (yes g) f l = suc-le-suc l
+more-still (yes h) (no g) f l = absurd (g (f h))
+more-still (no h) (yes g) f l = le-step l
+more-still (no h) (no g) f l = l
+
+more-lt : {A B : Type 0} (d : Dec A) (e : Dec B) → ¬ A → B → {j k : ℕ} → j ≤ k → more d j < more e k
+unfolding more
+more-lt (yes h) e n b l = absurd (n h)
+more-lt (no h) (yes g) n b l = suc-le-suc l
+more-lt (no h) (no g) n b l = absurd (g b)
 
 -- ---- depth
 
@@ -69,17 +104,93 @@ module _ {N : Type 0} (T : AnyTree N) where
   place-one-to-one : (u v : N) → place (T .listed u) ≡ place (T .listed v) → u ≡ v
   place-one-to-one u v e = sym (place-at (T .listed u) (T .root)) ∙ ap (λ (i : ℕ). getD (T .nodes) i (T .root)) e ∙ place-at (T .listed v) (T .root)
 
-  -- ---- the key of a node: its depth, then its place in the list
+  pub nodes-discrete : (u v : N) → Dec (u ≡ v)
+  nodes-discrete u v = map-dec (place-one-to-one u v) (ap (λ (w : N). place (T .listed w))) (ℕ-discrete _ _)
+
+  -- ---- the siblings that precede a node
+
+  -- two siblings can be compared
+  pub siblings-compared : {p u v : N} → T .IsParent p u → T .IsParent p v → Dec (T .Precedes u v)
+  siblings-compared {p} {u} {v} a b = same-or-not (nodes-discrete u v)
+    where
+      same-or-not : Dec (u ≡ v) → Dec (T .Precedes u v)
+      same-or-not (yes e) = no (λ q. T .precedes-not v (subst (λ (w : N). T .Precedes w v) e q))
+      same-or-not (no d) = ⊎-elim yes (λ r. no (λ q. T .precedes-not u (T .precedes-chain q r))) (T .precedes-total a b d)
+
+  sibling-decided : (u v : N) → Dec (PrecedesSibling T u v)
+  sibling-decided u v = by (root-or-child u) (root-or-child v)
+    where
+      by : (u ≡ T .root) ⊎ ((p : N) × T .IsParent p u) → (v ≡ T .root) ⊎ ((q : N) × T .IsParent q v) → Dec (PrecedesSibling T u v)
+      by (inl e) r = no (λ s. T .no-parent (s .above) (subst (T .IsParent (s .above)) e (s .parent-u)))
+      by (inr a) (inl e) = no (λ s. T .no-parent (s .above) (subst (T .IsParent (s .above)) e (s .parent-v)))
+      by (inr a) (inr b) = parents (nodes-discrete (a .0) (b .0))
+        where
+          parents : Dec (a .0 ≡ b .0) → Dec (PrecedesSibling T u v)
+          parents (no d) = no (λ s. d (T .one-parent (a .1) (s .parent-u) ∙ T .one-parent (s .parent-v) (b .1)))
+          parents (yes e) =
+              let c : T .IsParent (a .0) v = subst (λ (w : N). T .IsParent w v) (sym e) (b .1) in
+              map-dec (λ f. record { above = a .0; parent-u = a .1; parent-v = c; first = f }) (λ s. s .first) (siblings-compared (a .1) c)
+
+  -- how many members of a list do
+  preceding : List N → N → ℕ
+  preceding [] v = 0
+  preceding (x ∷ xs) v = more (sibling-decided x v) (preceding xs v)
+
+  preceding-most : (xs : List N) (v : N) → preceding xs v ≤ length xs
+  unfolding preceding
+  preceding-most [] v = zero-le
+  preceding-most (x ∷ xs) v = let a = more-most (sibling-decided x v) (preceding xs v) in let b = preceding-most xs v in omega arith
+
+  precedes-chain : {u v w : N} → PrecedesSibling T u v → PrecedesSibling T v w → PrecedesSibling T u w
+  precedes-chain {w = w} h k = record {
+    above = h .above;
+    parent-u = h .parent-u;
+    parent-v = subst (λ (p : N). T .IsParent p w) (T .one-parent (k .parent-u) (h .parent-v)) (k .parent-v);
+    first = T .precedes-chain (h .first) (k .first);
+  }
+
+  preceding-le : (xs : List N) {u v : N} → PrecedesSibling T u v → preceding xs u ≤ preceding xs v
+  unfolding preceding
+  preceding-le [] s = zero-le
+  preceding-le (x ∷ xs) {u} {v} s = more-le (sibling-decided x u) (sibling-decided x v) (λ q. precedes-chain q s) (preceding-le xs s)
+
+  -- u precedes v and not itself
+  preceding-lt : (xs : List N) {u v : N} → List·Memᴰ u xs → PrecedesSibling T u v → preceding xs u < preceding xs v
+  unfolding preceding
+  preceding-lt [] m s = absurd (List·Memᴰ·not-nil m)
+  preceding-lt (x ∷ xs) {u} {v} m s =
+      ⊎-elim
+      (λ e. more-lt (sibling-decided x u) (sibling-decided x v)
+      (λ q. T .precedes-not u (subst (λ (w : N). T .Precedes w u) (sym e) (q .first))) (subst (λ (w : N). PrecedesSibling T w v) e s) (preceding-le xs s))
+      (λ k. more-still (sibling-decided x u) (sibling-decided x v) (λ q. precedes-chain q s) (preceding-lt xs k s))
+      (List·Memᴰ·cases-cons m)
+
+  -- ---- the key of a node: its depth, then the number of siblings that precede it, then its place in the list
+
+  spread : N → ℕ
+  spread v = depth v * suc (length (T .nodes)) + preceding (T .nodes) v
 
   key : N → ℕ
-  key v = depth v * length (T .nodes) + place (T .listed v)
+  key v = spread v * length (T .nodes) + place (T .listed v)
+
+  key-later : (u v : N) → spread u < spread v → key u < key v
+  unfolding key
+  key-later u v l = digits _ _ _ _ _ l (place-inside (T .listed u))
 
   key-parent : {u v : N} → T .IsParent u v → key u < key v
-  unfolding key
+  unfolding spread
   key-parent {u} {v} p =
-      let a = place-inside (T .listed u) in
-      let b : depth v * length (T .nodes) ≡ depth u * length (T .nodes) + length (T .nodes) = ap (λ (d : ℕ). d * length (T .nodes)) (depth-parent p) ∙ suc-mul _ _ in
-      omega arith
+      key-later u v (digits _ _ _ _ _ (subst (λ (d : ℕ). depth u < d) (sym (depth-parent p)) (le-refl _)) (suc-le-suc (preceding-most (T .nodes) u)))
+
+  depth-sibling : {p u v : N} → T .IsParent p u → T .IsParent p v → depth u ≡ depth v
+  depth-sibling a b = depth-parent a ∙ sym (depth-parent b)
+
+  key-sibling : {u v : N} → PrecedesSibling T u v → key u < key v
+  unfolding spread
+  key-sibling {u} {v} s =
+      let e : depth u * suc (length (T .nodes)) ≡ depth v * suc (length (T .nodes)) = ap (λ (d : ℕ). d * suc (length (T .nodes))) (depth-sibling (s .parent-u) (s .parent-v)) in
+      let l = preceding-lt (T .nodes) (T .listed u) s in
+      key-later u v (omega arith)
 
   key-one-to-one : (u v : N) → key u ≡ key v → u ≡ v
   unfolding key
@@ -215,7 +326,17 @@ module _ {N : Type 0} (T : AnyTree N) where
       λ p. subst (λ (w : N). T .IsParent w v) (number-one-to-one _ u (ap number-of (ap parent-of (sym (number-node v))) ∙ p .is)) (parent-there v (not-root v (p .not-first))),
     );
     same-labels = λ v. ap (T .label) (number-node v);
+    same-order = λ {p} {u} {v} a b. (
+      λ q. number-smaller u v (key-sibling (record { above = p; parent-u = a; parent-v = b; first = q })),
+      λ l. order-back a b l (siblings-compared a b),
+    );
   }
+    where
+      order-back : {p u v : N} → T .IsParent p u → T .IsParent p v → number-of u < number-of v → Dec (T .Precedes u v) → T .Precedes u v
+      order-back a b l (yes q) = q
+      order-back {p} {u} {v} a b l (no q) =
+          ⊎-elim (λ r. r) (λ r. absurd (let z = number-smaller v u (key-sibling (record { above = p; parent-u = b; parent-v = a; first = r })) in omega arith))
+          (T .precedes-total a b (λ e. let z : number-of u ≡ number-of v = ap number-of e in omega arith))
 
   -- every finite tree whose labels are bytes has a numbering
   pub numbered : ByteLabelled T → (t : Tree) × IsTree t × Numbering T t

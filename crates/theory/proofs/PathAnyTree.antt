@@ -8,12 +8,12 @@ use native.Mathlib.Omega.{arith}
 use Rattle.meaning.specs.Tree.{Node, Label, Tree, IsTree}
 use Rattle.meaning.specs.Constraint.{CanBeMet, vars}
 use Rattle.meaning.specs.AnyTree.{AnyTree, Numbering}
-use Rattle.meaning.specs.Paths.{Axis, to-self, to-child, to-parent, to-descendant, to-ancestor, to-descendant-or-self, to-ancestor-or-self, Test, letter, any, Path, alone, from-root, from-here, Steps, one, more, Step, move, having}
-use Rattle.meaning.specs.Selection.{Expr, ε, ↑, ↓, ↑*, ↓*, document-root, tag, over, filter, Denotes, DenotesAny, axisExpr, testExpr, pathExpr, stepsExpr, stepExpr, SomeTreeSelects, SomeAnyTreeSelects}
+use Rattle.meaning.specs.Paths.{Axis, to-self, to-child, to-parent, to-descendant, to-ancestor, to-descendant-or-self, to-ancestor-or-self, to-following-sibling, to-preceding-sibling, Test, letter, any, Path, alone, from-root, from-here, Steps, one, more, Step, move, having}
+use Rattle.meaning.specs.Selection.{Expr, ε, ↑, ↓, ↑*, ↓*, ⟵, ⟶, document-root, tag, over, filter, Denotes, DenotesAny, axisExpr, testExpr, pathExpr, stepsExpr, stepExpr, SomeTreeSelects, SomeAnyTreeSelects}
 use Rattle.meaning.specs.PathRecords.{recordsOf}
 use Rattle.meaning.proofs.Trees.{no-parent}
 use Rattle.theory.proofs.Numbering.{numbered}
-use Rattle.theory.proofs.AnyTree.{number-reaches, parent-numbered, above-numbered, byte-stays, with-bytes, with-bytes-small, NodeOf, any-tree, any-tree-numbering}
+use Rattle.theory.proofs.AnyTree.{number-reaches, number-sibling, parent-numbered, above-numbered, sibling-numbered, byte-stays, with-bytes, with-bytes-small, NodeOf, any-tree, any-tree-numbering}
 use Rattle.meaning.proofs.PathSheets.{letter-range}
 use Rattle.meaning.proofs.PathMeaning.{met-if-selected, selected-if-met}
 
@@ -30,6 +30,8 @@ module _ {N : Type 0} (T : AnyTree N) (t : Tree) (i : IsTree t) (s : Numbering T
   denotes-number ↓ u v d = s .same-parents u v .0 d
   denotes-number ↑* u v d = number-reaches T t s d
   denotes-number ↓* u v d = number-reaches T t s d
+  denotes-number ⟵ u v d = number-sibling T t s d
+  denotes-number ⟶ u v d = number-sibling T t s d
   denotes-number document-root u v d = ap (s .number) d ∙ root-first
   denotes-number (tag l) u v d = (ap (s .number) (d .0), s .same-labels u ∙ d .1)
   denotes-number (over p q) u v d = (s .number (d .0), s .inside (d .0), denotes-number p u (d .0) (d .1), denotes-number q (d .0) v (d .2))
@@ -41,6 +43,8 @@ module _ {N : Type 0} (T : AnyTree N) (t : Tree) (i : IsTree t) (s : Numbering T
   number-denotes ↓ u v d = s .same-parents u v .1 d
   number-denotes ↑* u v d = above-numbered T t i s d u refl v refl
   number-denotes ↓* u v d = above-numbered T t i s d v refl u refl
+  number-denotes ⟵ u v d = sibling-numbered T t i s d
+  number-denotes ⟶ u v d = sibling-numbered T t i s d
   number-denotes document-root u v d = first-root v d
   number-denotes (tag l) u v d = (s .one-to-one u v (d .0), sym (s .same-labels u) ∙ d .1)
   number-denotes (over p q) u v d =
@@ -62,6 +66,8 @@ ByteTags ↑ = Unit {0}
 ByteTags ↓ = Unit {0}
 ByteTags ↑* = Unit {0}
 ByteTags ↓* = Unit {0}
+ByteTags ⟵ = Unit {0}
+ByteTags ⟶ = Unit {0}
 ByteTags document-root = Unit {0}
 ByteTags (tag l) = l ≤ 255
 ByteTags (over p q) = ByteTags p × ByteTags q
@@ -76,6 +82,8 @@ axis-tags to-descendant = (tt, tt)
 axis-tags to-ancestor = (tt, tt)
 axis-tags to-descendant-or-self = tt
 axis-tags to-ancestor-or-self = tt
+axis-tags to-following-sibling = tt
+axis-tags to-preceding-sibling = tt
 
 test-tags : (q : Test) (e : Expr) → ByteTags e → ByteTags (testExpr q e)
 unfolding testExpr
@@ -104,6 +112,8 @@ denotes-bytes T ↑ b u v d = d
 denotes-bytes T ↓ b u v d = d
 denotes-bytes T ↑* b u v d = d
 denotes-bytes T ↓* b u v d = d
+denotes-bytes T ⟵ b u v d = record { above = d .above; parent-u = d .parent-u; parent-v = d .parent-v; first = d .first }
+denotes-bytes T ⟶ b u v d = record { above = d .above; parent-u = d .parent-u; parent-v = d .parent-v; first = d .first }
 denotes-bytes T document-root b u v d = d
 denotes-bytes T (tag l) b u v d = (d .0, byte-stays _ _ (subst (λ (k : Label). k ≤ 255) (sym (d .1)) b) ∙ d .1)
 denotes-bytes T (over p q) b u v d = (d .0, denotes-bytes T p (b .0) u (d .0) (d .1), denotes-bytes T q (b .1) (d .0) v (d .2))

@@ -8,7 +8,7 @@ use native.Mathlib.Omega.{arith}
 use lib.ListN.{length, drop}
 use lib.Dec.{eqb}
 use Rattle.meaning.specs.Finite.{Yes, pick}
-use Rattle.meaning.specs.Paths.{Axis, to-self, to-child, to-parent, to-descendant, to-ancestor, to-descendant-or-self, to-ancestor-or-self, isLetter, Test, Path, Step, having, axisText, testByte, pathText, stepsText, stepText, linesText, OfForm}
+use Rattle.meaning.specs.Paths.{Axis, to-self, to-child, to-parent, to-descendant, to-ancestor, to-descendant-or-self, to-ancestor-or-self, to-following-sibling, to-preceding-sibling, isLetter, Test, Path, Step, having, axisText, testByte, pathText, stepsText, stepText, linesText, OfForm}
 use Rattle.theory.specs.PathReader.{Got, nothing, got, andThen, byte, front, afterName, axisAt, testBy, testAt, moveAt, pathAt, stepsAt, stepAt, bracketsAt, fuel, linesAt}
 use Rattle.meaning.proofs.PathSheets.{letter-range}
 use Rattle.theory.proofs.PathReader.{move-text, having-text, more-text, lines-read}
@@ -46,8 +46,10 @@ axis-reads : (bs : List ℕ) → Reads axisText bs (axisAt bs)
 unfolding axisAt
 axis-reads bs =
     name-reads to-descendant-or-self bs _
+    (name-reads to-following-sibling bs _
+    (name-reads to-preceding-sibling bs _
     (name-reads to-ancestor-or-self bs _
-    (name-reads to-descendant bs _ (name-reads to-ancestor bs _ (name-reads to-parent bs _ (name-reads to-child bs _ (name-reads to-self bs nothing tt))))))
+    (name-reads to-descendant bs _ (name-reads to-ancestor bs _ (name-reads to-parent bs _ (name-reads to-child bs _ (name-reads to-self bs nothing tt))))))))
 
 abbrev testText : Test → List ℕ
 testText t = testByte t ∷ []

@@ -11,7 +11,7 @@ use lib.ListN.{length, drop, length-append}
 use lib.Dec.{eqb}
 use Rattle.meaning.specs.Finite.{Yes, pick, _and_}
 use Rattle.meaning.specs.Ascii.{ascii}
-use Rattle.meaning.specs.Paths.{Axis, to-self, to-child, to-parent, to-descendant, to-ancestor, to-descendant-or-self, to-ancestor-or-self, isLetter, Test, letter, any, Path, alone, from-root, from-here, Steps, one, more, Step, move, having, axisText, testByte, pathText, stepsText, stepText, linesText, OfForm}
+use Rattle.meaning.specs.Paths.{Axis, to-self, to-child, to-parent, to-descendant, to-ancestor, to-descendant-or-self, to-ancestor-or-self, to-following-sibling, to-preceding-sibling, isLetter, Test, letter, any, Path, alone, from-root, from-here, Steps, one, more, Step, move, having, axisText, testByte, pathText, stepsText, stepText, linesText, OfForm}
 use Rattle.theory.specs.PathReader.{Got, nothing, got, andThen, byte, front, afterName, axisAt, testBy, testAt, moveAt, pathAt, stepsAt, stepAt, bracketsAt, fuel, linesAt}
 use Rattle.meaning.proofs.PathSheets.{letter-range}
 use Rattle.meaning.proofs.Tests.{pick-yes, pick-no, is-eq}
@@ -27,6 +27,8 @@ axis-read to-descendant r = refl
 axis-read to-ancestor r = refl
 axis-read to-descendant-or-self r = refl
 axis-read to-ancestor-or-self r = refl
+axis-read to-following-sibling r = refl
+axis-read to-preceding-sibling r = refl
 
 testBy-letter : (b : ℕ) (v : Bool) (e : isLetter b ≡ v) (l : Yes (isLetter b)) (r : List ℕ) → testBy b v e r ≡ got (letter b l) r
 unfolding testBy
@@ -56,6 +58,8 @@ axis-first to-descendant r = refl
 axis-first to-ancestor r = refl
 axis-first to-descendant-or-self r = refl
 axis-first to-ancestor-or-self r = refl
+axis-first to-following-sibling r = refl
+axis-first to-preceding-sibling r = refl
 
 pub move-text : (a : Axis) (t : Test) (r : List ℕ) → stepText (move a t) ++ r ≡ axisText a ++ (58 ∷ 58 ∷ testByte t ∷ r)
 unfolding stepText

@@ -9,7 +9,7 @@ use lib.ListN.{drop}
 use lib.Dec.{eqb}
 use Rattle.meaning.specs.Finite.{Yes, pick, _and_, neg}
 use Rattle.meaning.specs.Ascii.{ascii}
-use Rattle.meaning.specs.Paths.{Axis, to-self, to-child, to-parent, to-descendant, to-ancestor, to-descendant-or-self, to-ancestor-or-self, Test, letter, any, Path, alone, from-root, from-here, Steps, one, more, Step, move, having, axisText, testByte, pathText, stepsText, stepText}
+use Rattle.meaning.specs.Paths.{Axis, to-self, to-child, to-parent, to-descendant, to-ancestor, to-descendant-or-self, to-ancestor-or-self, to-following-sibling, to-preceding-sibling, Test, letter, any, Path, alone, from-root, from-here, Steps, one, more, Step, move, having, axisText, testByte, pathText, stepsText, stepText}
 use Rattle.theory.specs.PathReader.{Got, nothing, got, andThen, byte, pathAt, bracketsAt, goesOn}
 use Rattle.meaning.proofs.PathSheets.{letter-range}
 use Rattle.theory.proofs.PathReader.{move-text, having-text, more-text}
@@ -60,6 +60,8 @@ axis-plain to-descendant = refl
 axis-plain to-ancestor = refl
 axis-plain to-descendant-or-self = refl
 axis-plain to-ancestor-or-self = refl
+axis-plain to-following-sibling = refl
+axis-plain to-preceding-sibling = refl
 
 test-plain : (t : Test) → Yes (noBracket (58 ∷ 58 ∷ testByte t ∷ []))
 unfolding testByte neg _and_

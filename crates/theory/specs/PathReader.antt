@@ -7,7 +7,7 @@ use Prim.Native.Nat.{ℕ, zero, suc, _+_, _*_}
 use lib.ListN.{length, getD, drop}
 use lib.Dec.{eqb, leb}
 use Rattle.meaning.specs.Finite.{pick, _and_}
-use Rattle.meaning.specs.Paths.{Axis, to-self, to-child, to-parent, to-descendant, to-ancestor, to-descendant-or-self, to-ancestor-or-self, isLetter, Test, letter, any, Path, alone, from-root, from-here, Steps, one, more, Step, move, having, axisText}
+use Rattle.meaning.specs.Paths.{Axis, to-self, to-child, to-parent, to-descendant, to-ancestor, to-descendant-or-self, to-ancestor-or-self, to-following-sibling, to-preceding-sibling, isLetter, Test, letter, any, Path, alone, from-root, from-here, Steps, one, more, Step, move, having, axisText}
 use Rattle.meaning.specs.PathRecords.{recordsOf, variablesOf, fileBytes}
 use Rattle.meaning.specs.Results.{PathsRead, paths-refused, paths-written}
 
@@ -36,12 +36,14 @@ afterName a bs r = pick (front bs (axisText a)) (got a (drop (length (axisText a
 unfoldable pub axisAt : List ℕ → Got Axis
 axisAt bs =
     afterName to-descendant-or-self bs
+    (afterName to-following-sibling bs
+    (afterName to-preceding-sibling bs
     (afterName to-ancestor-or-self bs
     (afterName to-descendant bs
     (afterName to-ancestor bs
     (afterName to-parent bs
     (afterName to-child bs
-    (afterName to-self bs nothing))))))
+    (afterName to-self bs nothing))))))))
 
 unfoldable pub testBy : (b : ℕ) (v : Bool) → isLetter b ≡ v → List ℕ → Got Test
 testBy b true e bs = got (letter b e) bs
