@@ -1,24 +1,59 @@
--- What it is for facts to have no clash, and that tables that decide a settled set have none just where that set has none.
-use mathlib.Core.Path.{sym, _∙_}
+-- What it is for facts to have no clash, and that tables that decide a settled set have none just where that set has none; and what the test of
+-- before against below says.
+use mathlib.Core.Path.{_≡_, sym, _∙_}
+use mathlib.Core.Logic.{⊎-elim}
+use mathlib.Core.Bool.{Bool, true, false}
 use mathlib.Core.List.{List}
-use Prim.Native.Nat.{ℕ}
-use Rattle.meaning.specs.Tree.{Var}
-use Rattle.meaning.specs.Constraint.{Fact, differ}
-use Rattle.meaning.specs.Settled.{Clash, differs, labels}
+use Prim.Native.Nat.{ℕ, _≤_}
+use native.Mathlib.Nat.{le-trans}
+use Rattle.meaning.specs.Constraint.{Fact, below, before}
+use Rattle.meaning.specs.Settled.{Settled, Clash, differs, labels, above-sibling, under-sibling}
 use Rattle.meaning.specs.Finite.{Yes}
 use Rattle.meaning.specs.ReadOff.{Decides}
-use Rattle.tables.specs.Tables.{has}
+use Rattle.meaning.specs.Closed.{Within}
+use Rattle.tables.specs.Tables.{has, Columns}
+use Rattle.tables.specs.Rows.{Crossed}
 use Rattle.tables.specs.declared.Facts.{Facts}
-use Rattle.tables.specs.Free.{Free}
+use Rattle.tables.specs.Free.{Clear, Free}
 use Rattle.tables.proofs.Labels.{label-is}
 
+pub clear-less : {P Q : Fact → Type 0} → ((φ : Fact) → Q φ → P φ) → Clear P → Clear Q
+clear-less to h = record { not-above = λ x y u v. h .not-above x y (to _ u) (to _ v); not-under = λ x y u v. h .not-under x y (to _ u) (to _ v) }
+
 pub free-less : {P Q : Fact → Type 0} → ((φ : Fact) → Q φ → P φ) → Free P → Free Q
-free-less to h = record { apart = λ x u. h .apart x (to _ u) }
+free-less to h = record { apart = λ x u. h .apart x (to _ u); clear = clear-less to (h .clear) }
 
 module _ (n : ℕ) (S : List Fact) (f : Facts) (d : Decides n S (has f)) where
   pub free-clash : Free (λ φ. Yes (has f φ)) → ¬ Clash n S
   free-clash h (differs {x} c) = h .apart x (d .complete c)
   free-clash h (labels {x} {l} {m} a b z) = z (sym (label-is f x l (d .complete a) .0) ∙ label-is f x m (d .complete b) .0)
+  free-clash h (above-sibling {x} {y} a b) = h .clear .not-above x y (d .complete a) (d .complete b)
+  free-clash h (under-sibling {x} {y} a b) = h .clear .not-under x y (d .complete a) (d .complete b)
 
   pub clash-free : ¬ Clash n S → Free (λ φ. Yes (has f φ))
-  clash-free k = record { apart = λ x u. k (differs (d .sound u)) }
+  clash-free k = record {
+    apart = λ x u. k (differs (d .sound u));
+    clear = record { not-above = λ x y u v. k (above-sibling (d .sound u) (d .sound v)); not-under = λ x y u v. k (under-sibling (d .sound u) (d .sound v)) };
+  }
+
+-- ---- the test of before against below
+
+module _ (n : ℕ) (few : n ≤ 16) (f : Facts) (columns : Columns (f .below) (f .above)) (within : (φ : Fact) → Yes (has f φ) → Within n φ) (r : Bool)
+    (t : Crossed (f .before) (f .below) (f .above) r) where
+  pub crossed-clash : (S : List Fact) → ((φ : Fact) → Yes (has f φ) → Settled n S φ) → r ≡ true → Clash n S
+  unfolding has
+  crossed-clash S sound e =
+      let w = t .some e in
+      let x = w .0 in
+      let y = w .1 in
+      let h = within (before x y) (w .3) in
+      ⊎-elim (λ u. above-sibling (sound (before x y) (w .3)) (sound (below x y) u))
+      (λ u. under-sibling (sound (before x y) (w .3)) (sound (below y x) (sym (columns y x (le-trans (h .1) few) (w .2)) ∙ u))) (w .4)
+
+  pub uncrossed-clear : r ≡ false → Clear (λ φ. Yes (has f φ))
+  unfolding has
+  uncrossed-clear e = record {
+    not-above = λ x y u v. t .none e x y (le-trans (within (before x y) u .0) few) u .0 v;
+    not-under = λ x y u v. let h = within (before x y) u in
+        t .none e x y (le-trans (h .0) few) u .1 (columns y x (le-trans (h .1) few) (le-trans (h .0) few) ∙ v);
+  }

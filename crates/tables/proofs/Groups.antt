@@ -1,11 +1,11 @@
 -- Facts shared within groups. Let B be what below is to be, and let two variables be twins where B holds both ways. What a set of facts P has
--- of a variable is then shared by its twins. The set so shared is closed under the rules of sharing (`shared-sharing`) and is in every such
--- set that has P and B (`shared-least`). P itself need not be closed: only B has to have what its child, root and leaf facts give, and
--- differ has to hold with child, and both ways.
+-- of a variable is then shared by its twins; R is what before is to be, which the rules of sharing do not name. The set so shared is closed under these
+-- rules (`shared-sharing`) and is in every such set that has P, B and R (`shared-least`). P itself need not be closed: only B has to have what its
+-- child, root and leaf facts give, and differ has to hold with child, and both ways.
 use Prim.Native.Nat.{ℕ, _<_}
 use Rattle.meaning.specs.Tree.{Var}
-use Rattle.meaning.specs.Constraint.{Fact, child, below, differ, root, leaf, label}
-use Rattle.meaning.specs.Closed.{Within, Sharing, Rules}
+use Rattle.meaning.specs.Constraint.{Fact, child, below, differ, before, root, leaf, label}
+use Rattle.meaning.specs.Closed.{Within, Sharing, Siblings, Rules}
 
 module _ (B : Var → Var → Type 0) where
   pub record Twin (x y : Var) : Type 0 where
@@ -25,13 +25,14 @@ module _ (B : Var → Var → Type 0) where
     pub right-twin : Twin right y
     pub holds : R left right
 
-  abbrev pub Shared : (Fact → Type 0) → Fact → Type 0
-  Shared P (child x y) = Two (λ i j. P (child i j)) x y
-  Shared P (below x y) = B x y
-  Shared P (differ x y) = Two (λ i j. P (differ i j)) x y
-  Shared P (root x) = One (λ i. P (root i)) x
-  Shared P (leaf x) = One (λ i. P (leaf i)) x
-  Shared P (label x l) = One (λ i. P (label i l)) x
+  abbrev pub Shared : (Var → Var → Type 0) → (Fact → Type 0) → Fact → Type 0
+  Shared R P (child x y) = Two (λ i j. P (child i j)) x y
+  Shared R P (below x y) = B x y
+  Shared R P (differ x y) = Two (λ i j. P (differ i j)) x y
+  Shared R P (before x y) = R x y
+  Shared R P (root x) = One (λ i. P (root i)) x
+  Shared R P (leaf x) = One (λ i. P (leaf i)) x
+  Shared R P (label x l) = One (λ i. P (label i l)) x
 
 pub record Order (n : ℕ) (P : Fact → Type 0) (B : Var → Var → Type 0) : Type 0 where
   pub keeps : (x y : Var) → P (below x y) → B x y
@@ -63,15 +64,16 @@ module _ {B : Var → Var → Type 0} where
   turn h a = record { left = a .right; right = a .left; left-twin = a .right-twin; right-twin = a .left-twin; holds = h _ _ (a .holds) }
 
 -- what is held is shared
-module _ (n : ℕ) (P : Fact → Type 0) (B : Var → Var → Type 0) (keeps : (x y : Var) → P (below x y) → B x y) (self : (x : Var) → x < n → B x x)
-    (within : (φ : Fact) → P φ → Within n φ) where
+module _ (n : ℕ) (P : Fact → Type 0) (B R : Var → Var → Type 0) (keeps : (x y : Var) → P (below x y) → B x y) (self : (x : Var) → x < n → B x x)
+    (orders : (x y : Var) → P (before x y) → R x y) (within : (φ : Fact) → P φ → Within n φ) where
   own-twin : {x : Var} → x < n → Twin B x x
   own-twin l = alone (self _ l)
 
-  pub embed-in : (φ : Fact) → P φ → Shared B P φ
+  pub embed-in : (φ : Fact) → P φ → Shared B R P φ
   embed-in (child x y) p = let w = within (child x y) p in pair (own-twin (w .0)) (own-twin (w .1)) p
   embed-in (below x y) p = keeps x y p
   embed-in (differ x y) p = let w = within (differ x y) p in pair (own-twin (w .0)) (own-twin (w .1)) p
+  embed-in (before x y) p = orders x y p
   embed-in (root x) p = own (own-twin (within (root x) p)) p
   embed-in (leaf x) p = own (own-twin (within (leaf x) p)) p
   embed-in (label x l) p = own (own-twin (within (label x l) p)) p
@@ -89,8 +91,8 @@ module _ (n : ℕ) (P : Fact → Type 0) (B : Var → Var → Type 0) (o : Order
   move-right : {R : Var → Var → Type 0} {x y u : Var} → B y u → B u y → Two B R x y → Two B R x u
   move-right a b h = record { left = h .left; right = h .right; left-twin = h .left-twin; right-twin = via (h .right-twin) (record { to = a; fro = b }); holds = h .holds }
 
-  pub shared-sharing : Sharing n (Shared B P)
-  shared-sharing = record {
+  pub shared-sharing : (R : Var → Var → Type 0) → Sharing n (Shared B R P)
+  shared-sharing R = record {
     child-below = λ x y a. o .chain _ _ _ (a .left-twin .fro) (o .chain _ _ _ (o .over-child _ _ (a .holds)) (a .right-twin .to));
     child-differ = λ x y a. each (o .child-differ) a;
     self-below = o .self;
@@ -106,13 +108,13 @@ module _ (n : ℕ) (P : Fact → Type 0) (B : Var → Var → Type 0) (o : Order
     same-label = λ x u l a b. move-one a b;
   }
 
-  pub embed : ((φ : Fact) → P φ → Within n φ) → (φ : Fact) → P φ → Shared B P φ
-  embed = embed-in n P B (o .keeps) (o .self)
+  pub embed : (R : Var → Var → Type 0) → ((x y : Var) → P (before x y) → R x y) → ((φ : Fact) → P φ → Within n φ) → (φ : Fact) → P φ → Shared B R P φ
+  embed R = embed-in n P B R (o .keeps) (o .self)
 
--- what is shared is in every set that is closed under sharing and has P and B
-module _ (n : ℕ) (P Q : Fact → Type 0) (B : Var → Var → Type 0) (s : Sharing n Q) (has : (φ : Fact) → P φ → Q φ)
-    (over : (x y : Var) → B x y → Q (below x y)) where
-  pub shared-least : (φ : Fact) → Shared B P φ → Q φ
+-- what is shared is in every set that is closed under sharing and has P, B and R
+module _ (n : ℕ) (P Q : Fact → Type 0) (B R : Var → Var → Type 0) (s : Sharing n Q) (has : (φ : Fact) → P φ → Q φ)
+    (over : (x y : Var) → B x y → Q (below x y)) (earlier : (x y : Var) → R x y → Q (before x y)) where
+  pub shared-least : (φ : Fact) → Shared B R P φ → Q φ
   shared-least (child x y) a =
       s .same-parent _ _ _ (over _ _ (a .left-twin .to)) (over _ _ (a .left-twin .fro))
       (s .same-child _ _ _ (over _ _ (a .right-twin .to)) (over _ _ (a .right-twin .fro)) (has _ (a .holds)))
@@ -120,6 +122,7 @@ module _ (n : ℕ) (P Q : Fact → Type 0) (B : Var → Var → Type 0) (s : Sha
   shared-least (differ x y) a =
       s .same-differ _ _ _ (over _ _ (a .left-twin .to)) (over _ _ (a .left-twin .fro))
       (s .differ-back _ _ (s .same-differ _ _ _ (over _ _ (a .right-twin .to)) (over _ _ (a .right-twin .fro)) (s .differ-back _ _ (has _ (a .holds)))))
+  shared-least (before x y) a = earlier x y a
   shared-least (root x) a = s .same-root _ _ (over _ _ (a .twin .to)) (over _ _ (a .twin .fro)) (has _ (a .holds))
   shared-least (leaf x) a = s .same-leaf _ _ (over _ _ (a .twin .to)) (over _ _ (a .twin .fro)) (has _ (a .holds))
   shared-least (label x l) a = s .same-label _ _ _ (over _ _ (a .twin .to)) (over _ _ (a .twin .fro)) (has _ (a .holds))
@@ -144,5 +147,19 @@ module _ (n : ℕ) (P Q : Fact → Type 0) (to : (φ : Fact) → P φ → Q φ) 
     same-label = λ x u l a b c. to _ (s .same-label x u l (from _ a) (from _ b) (from _ c));
   }
 
+  pub siblings-same : Siblings n P → Siblings n Q
+  siblings-same b = record {
+    before-chain = λ x y z u v. to _ (b .before-chain x y z (from _ u) (from _ v));
+    before-differ = λ x y u. to _ (b .before-differ x y (from _ u));
+    before-child = λ x y u p q. to _ (b .before-child x y u (from _ p) (from _ q));
+    after-child = λ x y u p q. to _ (b .after-child x y u (from _ p) (from _ q));
+    same-before = λ x y u p q c. to _ (b .same-before x y u (from _ p) (from _ q) (from _ c));
+    same-after = λ x y u p q c. to _ (b .same-after x y u (from _ p) (from _ q) (from _ c));
+  }
+
   pub rules-same : Rules n P → Rules n Q
-  rules-same r = record { sharing = sharing-same (r .sharing); one-parent = λ x y z a b. to _ (r .one-parent x y z (from _ a) (from _ b)) }
+  rules-same r = record {
+    sharing = sharing-same (r .sharing);
+    siblings = siblings-same (r .siblings);
+    one-parent = λ x y z a b. to _ (r .one-parent x y z (from _ a) (from _ b));
+  }

@@ -1,21 +1,23 @@
 -- What the loops over one table know so far: a gathered row, and rows changed up to x.
 use mathlib.Core.Path.{_≡_, refl, sym, ap, _∙_, subst}
 use mathlib.Core.Logic.{_⊎_, inl, inr, ⊎-elim}
-use mathlib.Core.Bool.{Bool}
+use mathlib.Core.Bool.{Bool, not}
 use mathlib.Core.List.{List}
 use Prim.Native.Nat.{ℕ, zero, suc, _+_, _<_, _≤_}
 use native.Mathlib.Nat.{le-refl, le-trans, not-suc-le-zero}
 use native.Mathlib.Decide.{decLt, ℕ-discrete}
 use native.Mathlib.Omega.{arith}
 use lib.ListN.{set, length, length-set, replicate, List·getD-eq-default}
-use lib.Bits.{and-zero-r}
+use lib.Dec.{eqb}
+use lib.Bits.{bitOr, bitAnd, and-zero-r, and-le-l, or-lt}
 use lib.Seq.{getD-set-same, getD-set-other}
 use Rattle.meaning.specs.Finite.{Yes}
 use Rattle.meaning.proofs.Tests.{clash, eq-yes, yes-eq}
 use Rattle.rowbits.specs.Bit.{bit}
 use Rattle.tables.specs.Tables.{row, Columns}
-use Rattle.tables.specs.Rows.{Gathers, Transposed, Raised, Combined, gainedOne, gained, meets}
-use Rattle.tables.proofs.Bits.{gained-up, gained-has, gained-case, one-is, one-has, none-in}
+use Rattle.tables.specs.Rows.{Gathers, Transposed, Raised, Combined, gainedOne, gained, meets, Crossed}
+use Rattle.tables.proofs.Bits.{gained-up, gained-has, gained-case, one-is, one-has, none-in, or-case, or-l, or-r, in-both, both-in, some-in}
+use Rattle.tables.proofs.Tested.{not-eq, eq-not, not-yes}
 
 pub below-cases : {k y : ℕ} → k < y + 1 → (k ≡ y) ⊎ (k < y)
 below-cases {k} {y} h = go (ℕ-discrete k y)
@@ -104,3 +106,34 @@ zeros (suc n) (suc x) = zeros n x
 
 pub was-raised : (t : List ℕ) (which by x : ℕ) (r : List ℕ) → 16 ≤ x → x ≤ 16 → Rowing (λ k v. gained (bit which k) v by) 16 t x r → Raised t which by r
 was-raised t which by x r h h2 w = record { within = λ k l. w .done k (le-trans l h); beyond = λ k l. w .rest k (le-trans h2 l) }
+
+-- ---- rows compared with those of two other tables
+
+pub record Crossing (t below above : List ℕ) (x any : ℕ) : Type 0 where
+  pub small : any < 65536
+  pub from : (j : ℕ) → Yes (bit any j) → (k : ℕ) × (k < 16) × Yes (bit (row t k) j) × (Yes (bit (row below k) j) ⊎ Yes (bit (row above k) j))
+  pub to : (k j : ℕ) → k < x → Yes (bit (row t k) j) → Yes (bit (row below k) j) ⊎ Yes (bit (row above k) j) → Yes (bit any j)
+
+pub crossing-none : (t below above : List ℕ) → Crossing t below above 0 0
+crossing-none t below above = record { small = omega arith; from = λ j u. none-in j u; to = λ k j h. absurd (not-suc-le-zero h) }
+
+pub crossing-more : (t below above : List ℕ) (x any : ℕ) → x < 16 → row t x < 65536 → Crossing t below above x any
+    → Crossing t below above (x + 1) (bitOr any (bitAnd (row t x) (bitOr (row below x) (row above x))))
+crossing-more t below above x any h small w = record {
+  small = or-lt 16 any _ (w .small) (let l = and-le-l (row t x) (bitOr (row below x) (row above x)) in omega arith);
+  from = λ j u. ⊎-elim (w .from j) (λ v. let q = in-both (row t x) _ j v in (x, h, q .0, or-case (row below x) (row above x) j (q .1))) (or-case any _ j u);
+  to = λ k j l u v. ⊎-elim
+      (λ e. or-r any _ j (both-in (row t x) _ j (subst (λ (i : ℕ). Yes (bit (row t i) j)) e u)
+      (⊎-elim (λ y. or-l (row below x) (row above x) j (subst (λ (i : ℕ). Yes (bit (row below i) j)) e y))
+      (λ y. or-r (row below x) (row above x) j (subst (λ (i : ℕ). Yes (bit (row above i) j)) e y)) v)))
+      (λ m. or-l any _ j (w .to k j m u v)) (below-cases l);
+}
+
+pub was-crossed : (t below above : List ℕ) (x any : ℕ) → 16 ≤ x → Crossing t below above x any → (r : Bool) → r ≡ not (eqb any 0) → Crossed t below above r
+was-crossed t below above x any h w r e = record {
+  some = λ y. let k = some-in any (w .small) (not-eq any 0 (sym e ∙ y)) in let q = w .from (k .0) (k .1) in (q .0, k .0, q .1, q .2, q .3);
+  none = λ z k j l u. ((λ y. not-yes (sym e ∙ z) (met k j l u (inl y))), λ y. not-yes (sym e ∙ z) (met k j l u (inr y)));
+}
+  where
+    met : (k j : ℕ) → k < 16 → Yes (bit (row t k) j) → Yes (bit (row below k) j) ⊎ Yes (bit (row above k) j) → Yes (not (eqb any 0))
+    met k j l u v = eq-not any 0 (λ z. none-in j (subst (λ (i : ℕ). Yes (bit i j)) z (w .to k j (le-trans l h) u v)))

@@ -4,8 +4,8 @@
 use mathlib.Core.Logic.{_⊎_, inl, inr, ⊎-elim}
 use Prim.Native.Nat.{ℕ}
 use Rattle.meaning.specs.Tree.{Var}
-use Rattle.meaning.specs.Constraint.{Fact, child, below, differ, root, leaf, label}
-use Rattle.meaning.specs.Closed.{Sharing, Rules}
+use Rattle.meaning.specs.Constraint.{Fact, child, below, differ, before, root, leaf, label}
+use Rattle.meaning.specs.Closed.{Sharing, Siblings, Rules}
 
 pub record Ends (P : Fact → Type 0) (Up Down : Var → Type 0) : Type 0 where
   pub up : (x y : Var) → P (below x y) → Up y → Up x
@@ -27,6 +27,7 @@ module _ (P : Fact → Type 0) (Up Down : Var → Type 0) where
   Wider (child x y) = P (child x y)
   Wider (below x y) = Wide x y
   Wider (differ x y) = P (differ x y)
+  Wider (before x y) = P (before x y)
   Wider (root x) = P (root x)
   Wider (leaf x) = P (leaf x)
   Wider (label x l) = P (label x l)
@@ -37,6 +38,7 @@ module _ (P : Fact → Type 0) (Up Down : Var → Type 0) where
     wide-least (child x y) u = has _ u
     wide-least (below x y) u = ⊎-elim (has _) (λ p. over x y (p .0) (p .1)) u
     wide-least (differ x y) u = has _ u
+    wide-least (before x y) u = has _ u
     wide-least (root x) u = has _ u
     wide-least (leaf x) u = has _ u
     wide-least (label x l) u = has _ u
@@ -79,5 +81,19 @@ module _ (n : ℕ) (P : Fact → Type 0) (Up Down : Var → Type 0) (o : Opening
     same-label = λ x u l a b c. let h = wide-same s a b in s .same-label x u l (h .0) (h .1) c;
   }
 
+  pub wide-siblings : Sharing n P → Siblings n P → Siblings n (Wider P Up Down)
+  wide-siblings s b = record {
+    before-chain = b .before-chain;
+    before-differ = b .before-differ;
+    before-child = b .before-child;
+    after-child = b .after-child;
+    same-before = λ x y u p q c. let h = wide-same s p q in b .same-before x y u (h .0) (h .1) c;
+    same-after = λ x y u p q c. let h = wide-same s p q in b .same-after x y u (h .0) (h .1) c;
+  }
+
   pub wide-rules : Rules n P → Rules n (Wider P Up Down)
-  wide-rules r = record { sharing = wide-sharing (r .sharing); one-parent = λ x y z a b. inl (r .one-parent x y z a b) }
+  wide-rules r = record {
+    sharing = wide-sharing (r .sharing);
+    siblings = wide-siblings (r .sharing) (r .siblings);
+    one-parent = λ x y z a b. inl (r .one-parent x y z a b);
+  }

@@ -1,6 +1,7 @@
 -- What the helpers on rows compute.
-use mathlib.Core.Bool.{Bool}
+use mathlib.Core.Bool.{Bool, true, false}
 use mathlib.Core.Path.{_≡_}
+use mathlib.Core.Logic.{_⊎_}
 use mathlib.Core.List.{List}
 use Prim.Native.Nat.{ℕ, _^_, _<_, _≤_}
 use lib.Dec.{eqb}
@@ -71,3 +72,8 @@ pub record Union (t : List ℕ) (rows r : ℕ) : Type 0 where
   pub small : r < 65536
   pub from : (j : ℕ) → Yes (bit r j) → (i : ℕ) × Yes (bit rows i) × Yes (bit (row t i) j)
   pub to : (i j : ℕ) → Yes (bit rows i) → Yes (bit (row t i) j) → Yes (bit r j)
+
+-- whether a row of t has a number in common with the same row of one of two other tables
+pub record Crossed (t below above : List ℕ) (r : Bool) : Type 0 where
+  pub some : r ≡ true → (x y : ℕ) × (x < 16) × Yes (bit (row t x) y) × (Yes (bit (row below x) y) ⊎ Yes (bit (row above x) y))
+  pub none : r ≡ false → (x y : ℕ) → x < 16 → Yes (bit (row t x) y) → (¬ Yes (bit (row below x) y)) × (¬ Yes (bit (row above x) y))

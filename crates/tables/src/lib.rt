@@ -4,10 +4,10 @@ ghost use mathlib.Core.Path.{_≡_};
 ghost use mathlib.Core.Logic.{_≢_};
 ghost use Prim.Native.Nat.{_<_, _≤_, _^_, _-_};
 ghost use Rattle.meaning.specs.Finite.{pick};
-ghost use Rattle.tables.specs.Rows.{gained, meets, gainedOne, without, Gathers, Transposed, Raised, United, Common, Lowest, Rest, Union};
+ghost use Rattle.tables.specs.Rows.{gained, meets, gainedOne, without, Gathers, Transposed, Raised, United, Common, Lowest, Rest, Union, Crossed};
 ghost use Rattle.tables.specs.Tables.{row};
 
-// `parent` and `above` are the columns of `child` and `below`, kept as rows: bit x of row y. A label of 0 is no label fact.
+// `parent`, `above` and `after` are the columns of `child`, `below` and `before`, kept as rows: bit x of row y. A label of 0 is no label fact.
 // root and leaf lie apart: a compiler that loads two neighbours as one number waits for both to be stored.
 pub struct Facts {
     pub child: [u16; 16],
@@ -15,6 +15,8 @@ pub struct Facts {
     pub below: [u16; 16],
     pub above: [u16; 16],
     pub differ: [u16; 16],
+    pub before: [u16; 16],
+    pub after: [u16; 16],
     pub root: u16,
     pub label: [u8; 16],
     pub leaf: u16,
@@ -172,4 +174,18 @@ pub fn common(t: [u16; 16], u: [u16; 16]) -> [u16; 16]
         a[x] = v & w;
     }
     a
+}
+
+// Whether a row of t has a number in common with the same row of one of the two other tables.
+pub fn crossed(t: [u16; 16], below: [u16; 16], above: [u16; 16]) -> bool
+    ensures { λ r. ⌜ Crossed t below above r ⌝ }
+{
+    let mut any: u16 = 0;
+    for x in 0usize..16 {
+        let v = t[x];
+        let w = below[x];
+        let u = above[x];
+        any = any | (v & (w | u));
+    }
+    any != 0
 }
