@@ -120,6 +120,14 @@ P13 =
     reads "/\n/\n/\n/\n/\n/\n/\n/\n"
     (four 6 1 0 0 ++ four 4 1 0 0 ++ four 4 1 0 0 ++ four 4 1 0 0 ++ four 4 1 0 0 ++ four 4 1 0 0 ++ four 4 1 0 0 ++ four 4 1 0 0 ++ four 4 1 0 0)
 
+-- before(1,2) label(2,a), then before(0,2) label(0,b): of preceding-sibling x is the node reached
+abbrev pub P14 : Row
+P14 = reads "following-sibling::a/preceding-sibling::b\n" (four 9 1 2 0 ++ four 8 2 0 97 ++ four 9 0 2 0 ++ four 8 0 0 98)
+
+-- root(1) child(1,0) label(0,a), before(2,0), before(0,3)
+abbrev pub P15 : Row
+P15 = reads "/child::a[preceding-sibling::*][following-sibling::*]\n" (four 6 1 0 0 ++ four 1 1 0 0 ++ four 8 0 0 97 ++ four 9 2 0 0 ++ four 9 0 3 0)
+
 unfoldable pub table : List Row
 table =
     P1
@@ -135,11 +143,15 @@ table =
     ∷ P11
     ∷ P12
     ∷ P13
+    ∷ P14
+    ∷ P15
     ∷ refuses "/\n/\n/\n/\n/\n/\n/\n/\n/\n" 13
     ∷ refuses "" 13
     ∷ refuses "child::a" 13
     ∷ refuses "child:a\n" 13
     ∷ refuses "child::A\n" 13
+    ∷ refuses "following::a\n" 13
+    ∷ refuses "preceding-siblings::a\n" 13
     ∷ refuses "child::a/\n" 13
     ∷ refuses "//child::a\n" 13
     ∷ refuses "child::a[]\n" 13

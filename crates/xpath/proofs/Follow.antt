@@ -11,7 +11,7 @@ use lib.Seq.{sets, take-at, sets-eq, length-sets, getD-set-same, getD-set-other,
 use lib.Dec.{eqb, ltb}
 use Rattle.meaning.specs.Finite.{pick}
 use Rattle.meaning.specs.Tree.{Var}
-use Rattle.meaning.specs.Constraint.{Constraint, is-child, is-below, is-strictly-below, is-same, is-root, is-label}
+use Rattle.meaning.specs.Constraint.{Constraint, is-child, is-below, is-strictly-below, is-same, is-root, is-label, is-before}
 use Rattle.meaning.specs.Paths as spec
 use Rattle.meaning.specs.Paths.{Test, letter, any, testByte}
 use Rattle.meaning.specs.PathRecords.{Sheet, nextTaken, withRecords, rootedBy, rooted, axisRecord, moveRecords, recordBytes, fileBytes}
@@ -222,6 +222,8 @@ module _ (v : Sheet) (b : List ℕ) (x y X Y : ℕ) (o : Follows v b) (p : For v
   axis-follows spec.to-ancestor = against 3 (is-strictly-below Y X) refl
   axis-follows spec.to-descendant-or-self = along 2 (is-below X Y) refl
   axis-follows spec.to-ancestor-or-self = against 2 (is-below Y X) refl
+  axis-follows spec.to-following-sibling = along 9 (is-before X Y) refl
+  axis-follows spec.to-preceding-sibling = against 9 (is-before Y X) refl
 
   two-records : (c d : Constraint) → withRecords (d ∷ []) (withRecords (c ∷ []) v) ≡ withRecords (c ∷ d ∷ []) v
   unfolding withRecords

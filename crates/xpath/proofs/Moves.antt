@@ -13,7 +13,7 @@ use lib.Dec.{eqb, leb}
 use borrow.Author.Tests.{ne-eqb}
 use Rattle.meaning.specs.Finite.{Yes, pick, _and_, neg}
 use Rattle.meaning.specs.Ascii.{ascii}
-use Rattle.meaning.specs.Paths.{Axis, to-self, to-child, to-parent, to-descendant, to-ancestor, to-descendant-or-self, to-ancestor-or-self, isLetter, Test, letter, any, Step, move, axisText, testByte}
+use Rattle.meaning.specs.Paths.{Axis, to-self, to-child, to-parent, to-descendant, to-ancestor, to-descendant-or-self, to-ancestor-or-self, to-following-sibling, to-preceding-sibling, isLetter, Test, letter, any, Step, move, axisText, testByte}
 use Rattle.meaning.proofs.Tests.{clash, yes-case, pick-yes, pick-no, eq-yes, is-eq, le-yes, is-le}
 use Rattle.theory.specs.PathReader.{Got, nothing, got, andThen, byte, front, afterName, axisAt, testBy, testAt, moveAt}
 use Rattle.xpath.specs.declared.Axis as code
@@ -34,6 +34,8 @@ name-long to-descendant = omega arith
 name-long to-ancestor = omega arith
 name-long to-descendant-or-self = omega arith
 name-long to-ancestor-or-self = omega arith
+name-long to-following-sibling = omega arith
+name-long to-preceding-sibling = omega arith
 
 -- a name stands there, or it does not
 pub name-hit : (s : List ℕ) (at : ℕ) (a : Axis) (g : Got Axis) → Yes (front (drop at s) (axisText a)) → at + length (axisText a) ≤ length s
@@ -82,18 +84,36 @@ module _ (s : List ℕ) (at : ℕ) where
   abbrev from-ancestor-or-self : Got Axis
   from-ancestor-or-self = afterName to-ancestor-or-self (drop at s) from-descendant
 
+  abbrev from-preceding : Got Axis
+  from-preceding = afterName to-preceding-sibling (drop at s) from-ancestor-or-self
+
+  abbrev from-following : Got Axis
+  from-following = afterName to-following-sibling (drop at s) from-preceding
+
   module _ (r : Named) where
+    past-two : (getD s at 0 ≡ 99 → ⊥) → (getD s at 0 ≡ 115 → ⊥) → AxisRead s at nothing r → AxisRead s at from-child r
+    unfolding axisText ascii
+    past-two c f h = skip to-child 99 _ refl c from-self r (skip to-self 115 _ refl f nothing r h)
+
     past-three : (getD s at 0 ≡ 112 → ⊥) → (getD s at 0 ≡ 99 → ⊥) → (getD s at 0 ≡ 115 → ⊥) → AxisRead s at nothing r → AxisRead s at from-parent r
     unfolding axisText ascii
-    past-three p c f h =
-        skip to-parent 112 _ refl p from-child r
-        (skip to-child 99 _ refl c from-self r (skip to-self 115 _ refl f nothing r h))
+    past-three p c f h = skip to-parent 112 _ refl p from-child r (past-two c f h)
+
+    -- past the names with d and with a
+    past-d-and-a : (getD s at 0 ≡ 100 → ⊥) → (getD s at 0 ≡ 97 → ⊥) → AxisRead s at from-parent r → AxisRead s at from-ancestor-or-self r
+    unfolding axisText ascii
+    past-d-and-a m n h =
+        skip to-ancestor-or-self 97 _ refl n from-descendant r (skip to-descendant 100 _ refl m from-ancestor r (skip to-ancestor 97 _ refl n from-parent r h))
 
     -- the first byte is d
     module _ (e : getD s at 0 ≡ 100) (n : front (drop at s) (axisText to-descendant-or-self) ≡ false) where
       pub d-second : AxisRead s at from-descendant r → AxisRead s at (axisAt (drop at s)) r
       unfolding axisAt axisText ascii
-      d-second h = name-miss s at to-descendant-or-self from-ancestor-or-self r n (skip to-ancestor-or-self 97 _ refl (λ d. omega (arith, e, d)) from-descendant r h)
+      d-second h =
+          name-miss s at to-descendant-or-self from-following r n
+          (skip to-following-sibling 102 _ refl (λ d. omega (arith, e, d)) from-preceding r
+          (skip to-preceding-sibling 112 _ refl (λ d. omega (arith, e, d)) from-ancestor-or-self r
+          (skip to-ancestor-or-self 97 _ refl (λ d. omega (arith, e, d)) from-descendant r h)))
 
       pub d-none : front (drop at s) (axisText to-descendant) ≡ false → AxisRead s at nothing r → AxisRead s at (axisAt (drop at s)) r
       unfolding axisText ascii
@@ -105,7 +125,10 @@ module _ (s : List ℕ) (at : ℕ) where
     module _ (e : getD s at 0 ≡ 97) where
       pub a-first : AxisRead s at from-ancestor-or-self r → AxisRead s at (axisAt (drop at s)) r
       unfolding axisAt axisText ascii
-      a-first h = skip to-descendant-or-self 100 _ refl (λ d. omega (arith, e, d)) from-ancestor-or-self r h
+      a-first h =
+          skip to-descendant-or-self 100 _ refl (λ d. omega (arith, e, d)) from-following r
+          (skip to-following-sibling 102 _ refl (λ d. omega (arith, e, d)) from-preceding r
+          (skip to-preceding-sibling 112 _ refl (λ d. omega (arith, e, d)) from-ancestor-or-self r h))
 
       pub a-second : front (drop at s) (axisText to-ancestor-or-self) ≡ false → AxisRead s at from-ancestor r → AxisRead s at (axisAt (drop at s)) r
       unfolding axisText ascii
@@ -115,12 +138,41 @@ module _ (s : List ℕ) (at : ℕ) where
       a-none n m h =
           a-second n (name-miss s at to-ancestor from-parent r m (past-three (λ d. omega (arith, e, d)) (λ d. omega (arith, e, d)) (λ d. omega (arith, e, d)) h))
 
-    -- it is neither
-    pub past-d-and-a : (getD s at 0 ≡ 100 → ⊥) → (getD s at 0 ≡ 97 → ⊥) → AxisRead s at from-parent r → AxisRead s at (axisAt (drop at s)) r
+    -- it is p
+    module _ (e : getD s at 0 ≡ 112) where
+      pub p-first : AxisRead s at from-preceding r → AxisRead s at (axisAt (drop at s)) r
+      unfolding axisAt axisText ascii
+      p-first h =
+          skip to-descendant-or-self 100 _ refl (λ d. omega (arith, e, d)) from-following r
+          (skip to-following-sibling 102 _ refl (λ d. omega (arith, e, d)) from-preceding r h)
+
+      pub p-second : front (drop at s) (axisText to-preceding-sibling) ≡ false → AxisRead s at from-parent r → AxisRead s at (axisAt (drop at s)) r
+      p-second n h = p-first (name-miss s at to-preceding-sibling from-ancestor-or-self r n (past-d-and-a (λ d. omega (arith, e, d)) (λ d. omega (arith, e, d)) h))
+
+      pub p-none : front (drop at s) (axisText to-preceding-sibling) ≡ false → front (drop at s) (axisText to-parent) ≡ false → AxisRead s at nothing r → AxisRead s at (axisAt (drop at s)) r
+      p-none n m h = p-second n (name-miss s at to-parent from-child r m (past-two (λ d. omega (arith, e, d)) (λ d. omega (arith, e, d)) h))
+
+    -- it is f
+    module _ (e : getD s at 0 ≡ 102) where
+      pub f-first : AxisRead s at from-following r → AxisRead s at (axisAt (drop at s)) r
+      unfolding axisAt axisText ascii
+      f-first h = skip to-descendant-or-self 100 _ refl (λ d. omega (arith, e, d)) from-following r h
+
+      pub f-none : front (drop at s) (axisText to-following-sibling) ≡ false → AxisRead s at nothing r → AxisRead s at (axisAt (drop at s)) r
+      unfolding axisText ascii
+      f-none n h =
+          f-first (name-miss s at to-following-sibling from-preceding r n
+          (skip to-preceding-sibling 112 _ refl (λ d. omega (arith, e, d)) from-ancestor-or-self r
+          (past-d-and-a (λ d. omega (arith, e, d)) (λ d. omega (arith, e, d)) (past-three (λ d. omega (arith, e, d)) (λ d. omega (arith, e, d)) (λ d. omega (arith, e, d)) h))))
+
+    -- it is none of these
+    pub past-four : (getD s at 0 ≡ 100 → ⊥) → (getD s at 0 ≡ 97 → ⊥) → (getD s at 0 ≡ 112 → ⊥) → (getD s at 0 ≡ 102 → ⊥) → AxisRead s at from-child r
+        → AxisRead s at (axisAt (drop at s)) r
     unfolding axisAt axisText ascii
-    past-d-and-a m n h =
-        skip to-descendant-or-self 100 _ refl m from-ancestor-or-self r
-        (skip to-ancestor-or-self 97 _ refl n from-descendant r (skip to-descendant 100 _ refl m from-ancestor r (skip to-ancestor 97 _ refl n from-parent r h)))
+    past-four m n p q h =
+        skip to-descendant-or-self 100 _ refl m from-following r
+        (skip to-following-sibling 102 _ refl q from-preceding r
+        (skip to-preceding-sibling 112 _ refl p from-ancestor-or-self r (past-d-and-a m n (skip to-parent 112 _ refl p from-child r h))))
 
 -- ---- what was read of the axis
 

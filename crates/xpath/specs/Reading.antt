@@ -32,6 +32,8 @@ axisFor spec.to-descendant = record { 0 = 3; 1 = false }
 axisFor spec.to-ancestor = record { 0 = 3; 1 = true }
 axisFor spec.to-descendant-or-self = record { 0 = 2; 1 = false }
 axisFor spec.to-ancestor-or-self = record { 0 = 2; 1 = true }
+axisFor spec.to-following-sibling = record { 0 = 9; 1 = false }
+axisFor spec.to-preceding-sibling = record { 0 = 9; 1 = true }
 
 -- r is an axis read of s at a place, and the place after its name
 abbrev pub AxisRead : List ℕ → ℕ → Got spec.Axis → Named → Type 0

@@ -33,6 +33,8 @@ const ROOTED: u8 = 6;
 
 const LABELLED: u8 = 8;
 
+const BEFORE: u8 = 9;
+
 // What an axis writes: the kind of its record, and whether x is the node reached.
 pub struct Axis(pub u8, pub bool);
 
@@ -107,8 +109,20 @@ fn axis_at(s: &[u8], at: usize) -> Named
         }
         return Named::Unknown;
     }
-    if starts(s, at, b"parent") {
-        return Named::Is(Axis(CHILD, true), at + 6);
+    if first == b'p' {
+        if starts(s, at, b"preceding-sibling") {
+            return Named::Is(Axis(BEFORE, true), at + 17);
+        }
+        if starts(s, at, b"parent") {
+            return Named::Is(Axis(CHILD, true), at + 6);
+        }
+        return Named::Unknown;
+    }
+    if first == b'f' {
+        if starts(s, at, b"following-sibling") {
+            return Named::Is(Axis(BEFORE, false), at + 17);
+        }
+        return Named::Unknown;
     }
     if starts(s, at, b"child") {
         return Named::Is(Axis(CHILD, false), at + 5);
