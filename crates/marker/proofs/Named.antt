@@ -1,11 +1,11 @@
--- The variables that a record names: x in every kind, and y in kinds 1 to 5.
+-- The variables that a record names: x in every kind, and y in kinds 1 to 5 and 9.
 use mathlib.Core.Path.{_≡_, sym, subst}
 use Prim.Native.Nat.{ℕ, _<_}
 use native.Mathlib.Omega.{arith}
 use Rattle.meaning.specs.Constraint.{named}
 use Rattle.constraints.specs.Record.{constraintAs, constraintOf}
 use Rattle.constraints.specs.declared.Kind.{Kind}
-use Rattle.constraints.specs.declared.Kind.the-variants.{Child, Below, StrictlyBelow, Same, Differ, Root, Leaf, Label}
+use Rattle.constraints.specs.declared.Kind.the-variants.{Child, Below, StrictlyBelow, Same, Differ, Root, Leaf, Label, Before}
 use Rattle.constraints.specs.declared.Record.{Record}
 
 x-of-kind : (k : Kind) (x y l : ℕ) → x < named (constraintAs k x y l)
@@ -18,6 +18,7 @@ x-of-kind Differ x y l = omega arith
 x-of-kind Root x y l = omega arith
 x-of-kind Leaf x y l = omega arith
 x-of-kind Label x y l = omega arith
+x-of-kind Before x y l = omega arith
 
 pub x-named : (r : Record) → r .x .0 < named (constraintOf r)
 unfolding constraintOf
