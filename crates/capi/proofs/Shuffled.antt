@@ -150,14 +150,14 @@ told-met p e u v =
     )
 
 -- position and kind fit their places
-unmet-small : {t : Tree} {a : Assignment} {file : List ℕ} {cs : List Constraint} {i k : ℕ} → FileOf file cs → FirstUnmet t a (quads file) i k → (i ≤ 256) × (k ≤ 8)
+unmet-small : {t : Tree} {a : Assignment} {file : List ℕ} {cs : List Constraint} {i k : ℕ} → FileOf file cs → FirstUnmet t a (quads file) i k → (i ≤ 256) × (k ≤ 9)
 unmet-small {file = file} {cs = cs} f u =
     let n = quads-length file (f .whole) in
     let s = f .short in
     let l = u .1 in
     let e = ap length (l .is-list) ∙ length-append (l .earlier) (u .0 ∷ l .later) in
     let p = l .position in
-    (omega arith, subst (λ (k : ℕ). k ≤ 8) (u .3) (spells-kind (u .0) (u .2 .1)))
+    (omega arith, subst (λ (k : ℕ). k ≤ 9) (u .3) (spells-kind (u .0) (u .2 .1)))
 
 unmet-number : (r : Marked) → verdict (markedNumber r) ≡ 1 → ((q : ℕ) → ¬ (r ≡ marker-refuses q)) → (i : ℕ) × (k : ℕ) × (r ≡ marker-answers (unmet i k))
 unfolding verdict markedNumber told
@@ -165,7 +165,7 @@ unmet-number (marker-answers met) e f = absurd (omega arith)
 unmet-number (marker-answers (unmet i k)) e f = (i, k, refl)
 unmet-number (marker-refuses q) e f = absurd (f q refl)
 
-unmet-apart : {s i k : ℕ} → s ≡ told 1 k i → i ≤ 256 → k ≤ 8 → (low s ≡ i) × (middle s ≡ k)
+unmet-apart : {s i k : ℕ} → s ≡ told 1 k i → i ≤ 256 → k ≤ 9 → (low s ≡ i) × (middle s ≡ k)
 unfolding told low middle
 unmet-apart e l m = (omega arith, omega arith)
 

@@ -18,13 +18,16 @@ fn met_and_unmet() {
     mark_sheet(b"unmet_root");
     mark_sheet(b"unmet_leaf");
     mark_sheet(b"unmet_label");
+    mark_sheet(b"unmet_before");
+    mark_sheet(b"met_before");
     mark_sheet(b"root_own_child");
+    mark_sheet(b"root_own_brother");
 }
 
 fn constraint_questions() {
     mark_sheet(b"c_1025");
     mark_sheet(b"c_5");
-    mark_sheet(b"c_kind_9");
+    mark_sheet(b"c_kind_10");
     mark_sheet(b"c_variable_16");
     mark_sheet(b"c_label_0");
     mark_sheet(b"c_root_16");

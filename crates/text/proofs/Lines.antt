@@ -14,7 +14,7 @@ use Rattle.meaning.specs.Ascii.{ascii}
 use Rattle.meaning.specs.Text.{decimal, numbered, recordLine, recordLines, kindName}
 use Rattle.constraints.specs.Record.{kindNumber}
 use Rattle.constraints.specs.declared.Kind.{Kind}
-use Rattle.constraints.specs.declared.Kind.the-variants.{Child, Below, StrictlyBelow, Same, Differ, Root, Leaf, Label}
+use Rattle.constraints.specs.declared.Kind.the-variants.{Child, Below, StrictlyBelow, Same, Differ, Root, Leaf, Label, Before}
 use Rattle.answers.proofs.Quads.{quadAt, quad-at, no-quad}
 use Rattle.text.proofs.Numbers.{byte-digits}
 
@@ -64,3 +64,4 @@ name-short Differ = omega arith
 name-short Root = omega arith
 name-short Leaf = omega arith
 name-short Label = omega arith
+name-short Before = omega arith

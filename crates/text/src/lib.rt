@@ -110,6 +110,7 @@ fn put_kind(out: &mut [u8], at: usize, kind: Kind) -> usize
         Kind::Root => put(out, at, b"root"),
         Kind::Leaf => put(out, at, b"leaf"),
         Kind::Label => put(out, at, b"label"),
+        Kind::Before => put(out, at, b"before"),
     }
 }
 
