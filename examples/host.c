@@ -1,7 +1,7 @@
 /*
  * A host program: solves the question of document 01's listing (M10), prints the tree and marks four candidates; solves and marks a question
- * in another order and with other numbers; reads one set as paths and solves it; and lists what a refusal can say. What it prints is held to
- * examples/host.stdout. It is C99 and C++; host.rs is the same in Rust.
+ * in another order and with other numbers, and one of siblings in order; reads one set as paths and solves it; and lists what a refusal
+ * can say. What it prints is held to examples/host.stdout. It is C99 and C++; host.rs is the same in Rust.
  */
 #include <inttypes.h>
 #include <stdbool.h>
@@ -160,6 +160,28 @@ static void solve_shuffled(uint8_t *answer, uint8_t *other)
     print_marked(cudreth_mark(last_to_first, sizeof last_to_first, upside_down, sizeof upside_down));
 }
 
+/* Siblings in order: 0 waits for 3. Then before(0,1), marked with 0 on the second child and 1 on the first. */
+static void solve_brothers(uint8_t *answer)
+{
+    const uint8_t question[] = {
+        CUDRETH_BEFORE, 3, 0, 0,
+        CUDRETH_DIFFER, 1, 2, 0,
+    };
+    print_solved(cudreth_solve(question, sizeof question, answer, CUDRETH_ANSWER_BYTES, UINT32_MAX), answer);
+    const uint8_t pair[] = {
+        CUDRETH_BEFORE, 0, 1, 0,
+    };
+    const uint8_t turned[] = {
+        CUDRETH_NODE,  0, 0, 0,
+        CUDRETH_NODE,  1, 0, 0,
+        CUDRETH_NODE,  2, 0, 0,
+        CUDRETH_PLACE, 0, 2, 0,
+        CUDRETH_PLACE, 1, 1, 0,
+    };
+    printf("the second child before the first: ");
+    print_marked(cudreth_mark(pair, sizeof pair, turned, sizeof turned));
+}
+
 /* A node that both lines select: its records, then a tree that has it, as the node of variable 0. */
 static void read_and_solve(uint8_t *records, uint8_t *answer)
 {
@@ -191,6 +213,7 @@ int main(void)
 
     solve_and_mark(answer);
     solve_shuffled(answer, other);
+    solve_brothers(answer);
     read_and_solve(records, answer);
     for (uint32_t number = CUDRETH_Q_CONSTRAINTS_LONG; number <= CUDRETH_Q_TEXT_VARIABLES; number++)
         print_refused(number);

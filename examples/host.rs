@@ -4,7 +4,8 @@
 mod cudreth;
 
 use cudreth::{
-    Marked, PathsRead, Solved, ANSWER_BYTES, BELOW, CHILD, DIFFER, NODE, PLACE, RECORDS_BYTES, RECORD_BYTES, ROOT,
+    Marked, PathsRead, Solved, ANSWER_BYTES, BEFORE, BELOW, CHILD, DIFFER, NODE, PLACE, RECORDS_BYTES, RECORD_BYTES,
+    ROOT,
 };
 
 fn print_answer(answer: &[u8]) {
@@ -109,6 +110,27 @@ const UPSIDE_DOWN: [u8; 24] = [
     PLACE, 3, 0, 0,
 ];
 
+/// Siblings in order: 0 waits for 3.
+#[rustfmt::skip]
+const BROTHERS: [u8; 8] = [
+    BEFORE, 3, 0, 0,
+    DIFFER, 1, 2, 0,
+];
+
+#[rustfmt::skip]
+const PAIR: [u8; 4] = [
+    BEFORE, 0, 1, 0,
+];
+
+#[rustfmt::skip]
+const TURNED: [u8; 20] = [
+    NODE,  0, 0, 0,
+    NODE,  1, 0, 0,
+    NODE,  2, 0, 0,
+    PLACE, 0, 2, 0,
+    PLACE, 1, 1, 0,
+];
+
 const LINES: &str = "/child::a/descendant::c\nchild::b/child::c\n";
 
 /// M10: solved, and four answers to it marked.
@@ -149,6 +171,13 @@ fn solve_shuffled(answer: &mut [u8]) {
     print_marked(cudreth::mark(&LAST_TO_FIRST, &UPSIDE_DOWN));
 }
 
+/// Siblings in order, then before(0,1), marked with 0 on the second child and 1 on the first.
+fn solve_brothers(answer: &mut [u8]) {
+    print_solved(cudreth::solve(&BROTHERS, answer, u32::MAX), answer);
+    print!("the second child before the first: ");
+    print_marked(cudreth::mark(&PAIR, &TURNED));
+}
+
 /// A node that both lines select: its records, then a tree that has it, as the node of variable 0.
 fn read_and_solve(records: &mut [u8], answer: &mut [u8]) {
     let text = LINES.as_bytes();
@@ -170,6 +199,7 @@ fn main() {
 
     solve_and_mark(&mut answer);
     solve_shuffled(&mut answer);
+    solve_brothers(&mut answer);
     read_and_solve(&mut records, &mut answer);
     for question in cudreth::Q_CONSTRAINTS_LONG..=cudreth::Q_TEXT_VARIABLES {
         print_refused(question);

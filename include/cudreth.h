@@ -27,7 +27,7 @@ extern "C" {
 #endif
 
 /* Rises with each landing that a host can notice. The archive does not know it: take header and archive from one commit. */
-#define CUDRETH_VERSION 2
+#define CUDRETH_VERSION 3
 
 /* Every record has 4 bytes; a file has no header. */
 #define CUDRETH_RECORD_BYTES 4
@@ -58,7 +58,8 @@ enum cudreth_kind {
     CUDRETH_DIFFER = 5,         /* x and y are on two nodes */
     CUDRETH_ROOT = 6,           /* the node of x has no parent */
     CUDRETH_LEAF = 7,           /* the node of x has no child */
-    CUDRETH_LABEL = 8           /* the node of x has that label, 1 to 255 */
+    CUDRETH_LABEL = 8,          /* the node of x has that label, 1 to 255 */
+    CUDRETH_BEFORE = 9          /* x and y are on siblings, and the node of x has the smaller number */
 };
 
 /* The first byte of an answer record. Node records come first. */
@@ -148,7 +149,7 @@ static inline const char *cudreth_question_words(uint32_t question)
     switch (question) {
     case CUDRETH_Q_CONSTRAINTS_LONG: return "the constraint file has more than 1,024 bytes";
     case CUDRETH_Q_CONSTRAINTS_CUT: return "the length of the constraint file is not a multiple of 4";
-    case CUDRETH_Q_KIND: return "the kind of a constraint record is not 1 to 8";
+    case CUDRETH_Q_KIND: return "the kind of a constraint record is not 1 to 9";
     case CUDRETH_Q_VARIABLE: return "a constraint record names a variable above 15";
     case CUDRETH_Q_LABEL: return "a label record has the label 0";
     case CUDRETH_Q_UNUSED: return "a byte that the record's kind does not use is not 0";
@@ -176,6 +177,7 @@ static inline const char *cudreth_kind_words(unsigned kind)
     case CUDRETH_ROOT: return "root";
     case CUDRETH_LEAF: return "leaf";
     case CUDRETH_LABEL: return "label";
+    case CUDRETH_BEFORE: return "before";
     default: return "a kind that this version does not know";
     }
 }

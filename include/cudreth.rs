@@ -17,7 +17,7 @@
 #![allow(dead_code)]
 
 /// Rises with each landing that a host can notice. The archive does not know it: take this file and the archive from one commit.
-pub const VERSION: u32 = 2;
+pub const VERSION: u32 = 3;
 
 /// Every record has 4 bytes; a file has no header.
 pub const RECORD_BYTES: usize = 4;
@@ -57,6 +57,8 @@ pub const ROOT: u8 = 6;
 pub const LEAF: u8 = 7;
 /// The node of x has that label, 1 to 255.
 pub const LABEL: u8 = 8;
+/// x and y are on siblings, and the node of x has the smaller number.
+pub const BEFORE: u8 = 9;
 
 // The first byte of an answer record. Node records come first.
 /// Own number, parent (0 for node 0), label (0 is blank).
@@ -213,7 +215,7 @@ pub fn question_words(question: u32) -> &'static str {
     match question {
         Q_CONSTRAINTS_LONG => "the constraint file has more than 1,024 bytes",
         Q_CONSTRAINTS_CUT => "the length of the constraint file is not a multiple of 4",
-        Q_KIND => "the kind of a constraint record is not 1 to 8",
+        Q_KIND => "the kind of a constraint record is not 1 to 9",
         Q_VARIABLE => "a constraint record names a variable above 15",
         Q_LABEL => "a label record has the label 0",
         Q_UNUSED => "a byte that the record's kind does not use is not 0",
@@ -240,6 +242,7 @@ pub fn kind_words(kind: u8) -> &'static str {
         ROOT => "root",
         LEAF => "leaf",
         LABEL => "label",
+        BEFORE => "before",
         _ => "a kind that this version does not know",
     }
 }
