@@ -101,7 +101,7 @@ fn earliest(after: [u16; 16], row: u16) -> usize
     0
 }
 
-// The order with the members of a row behind it, none before one that goes before it.
+// The order with the members of a row behind it, each after those that go before it.
 fn append(order: Order, row: u16, after: [u16; 16]) -> Order
     requires { ⌜ Small order × (length (groups order) + length (inLine after row) ≤ 16) × Strict after ⌝ }
     ensures { λ r. ⌜ Listed (groups order ++ inLine after row) r ⌝ }

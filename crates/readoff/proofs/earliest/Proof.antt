@@ -19,6 +19,10 @@ abbrev μ-loop : tie.MeasureT-loop
 variable-in : (c : tie.After-lowest Inv-loop μ-loop) → c .lowest .result < 16
 variable-in c = next-in _ _ _ _ (c .before .before .loop .inv) (c .before .loop-test .taken) (c .lowest .ensures)
 
+-- a member that is passed has one that goes before it
+not-free : (c : tie.Else1 Inv-loop μ-loop) → let w = c .before in let s = w .before .before .before in bitAnd (s .args .row) (row (s .args .t1) (w .lowest .result)) ≢ 0
+not-free c = c .if1 .left
+
 loop-holds : tie.Need-loop-holds Inv-loop μ-loop
 loop-holds c = passed-none _ _ (c .fits .row .fits)
 
@@ -49,7 +53,7 @@ loop-again : tie.Need-loop-again Inv-loop μ-loop
 loop-again c =
     let w = c .before .before in
     rw (c .rest .ensures _ (w .lowest .ensures))
-    (passed-more _ _ _ _ (w .before .before .loop .inv) (w .before .loop-test .taken) (w .lowest .ensures) _ (λ i p. p) (c .before .if1 .left))
+    (passed-more _ _ _ _ (w .before .before .loop .inv) (w .before .loop-test .taken) (w .lowest .ensures) _ (λ i p. p) (not-free (c .before)))
 
 returns-2 : tie.Need-returns-2 Inv-loop μ-loop
 returns-2 c =
