@@ -1,5 +1,5 @@
 -- Laws of a list arranged by a relation b: it has the same members and the same length, and where b is irreflexive and transitive no member
--- stands after one that it goes before.
+-- stands after one that it goes before. Which member is next, as code goes that takes them one by one.
 use mathlib.Core.Path.{_≡_, refl, sym, ap, _∙_, subst}
 use mathlib.Core.Logic.{_⊎_, inl, inr, ⊎-elim}
 use mathlib.Core.Bool.{Bool}
@@ -74,6 +74,14 @@ module _ (p : ℕ → Bool) where
       (λ z. let w = ⊎-elim (λ e. clash (subst (λ (i : ℕ). Yes (p i)) e t) z) (λ k. found-one gs x k t) (List·Memᴰ·cases-cons m) in (w .0, found-no g gs z .0 ∙ w .1))
       (yes-case (p g))
 
+  -- the first that passes stands behind those that do not
+  found-behind : (ys zs : List ℕ) (x : ℕ) → ((y : ℕ) → List·Memᴰ y ys → ¬ Yes (p y)) → Yes (p x) → (found p (ys ++ x ∷ zs) ≡ x ∷ []) × (without p (ys ++ x ∷ zs) ≡ ys ++ zs)
+  found-behind [] zs x none t = found-yes x zs t
+  found-behind (y ∷ ys) zs x none t =
+      let a = found-no y (ys ++ x ∷ zs) (no-neg (none y (List·Memᴰ·head refl))) in
+      let b = found-behind ys zs x (λ w m. none w (List·Memᴰ·tail m)) t in
+      (a .0 ∙ b .0, a .1 ∙ ap (λ (ws : List ℕ). y ∷ ws) (b .1))
+
 -- ---- the same members, and as many
 
 module _ (b : ℕ → ℕ → Bool) where
@@ -104,6 +112,26 @@ module _ (b : ℕ → ℕ → Bool) where
   length-arranged (suc k) xs =
       length-append (found (free xs) xs) (arranged b k (without (free xs) xs))
       ∙ (let a = length-arranged k (without (free xs) xs) in let c = split-length (free xs) xs in omega arith)
+
+  -- ---- the next is the first that none goes before, and the others are arranged without it
+
+  one-more : (ys zs : List ℕ) (x : ℕ) → length (ys ++ x ∷ zs) ≡ suc (length (ys ++ zs))
+  one-more ys zs x = let a = length-append ys (x ∷ zs) in let c = length-append ys zs in omega arith
+
+  pub arranged-next : (ys zs : List ℕ) (x : ℕ) → ((w : ℕ) → List·Memᴰ w (ys ++ x ∷ zs) → ¬ Yes (b w x))
+      → ((y : ℕ) → List·Memᴰ y ys → (w : ℕ) × List·Memᴰ w (ys ++ x ∷ zs) × Yes (b w y))
+      → arranged b (length (ys ++ x ∷ zs)) (ys ++ x ∷ zs) ≡ x ∷ arranged b (length (ys ++ zs)) (ys ++ zs)
+  unfolding arranged
+  arranged-next ys zs x none some =
+      ap (λ (k : ℕ). arranged b k (ys ++ x ∷ zs)) (one-more ys zs x)
+      ∙ ap (λ (ws : List ℕ). ws ++ arranged b (length (ys ++ zs)) (without (free (ys ++ x ∷ zs)) (ys ++ x ∷ zs))) (next .0)
+      ∙ ap (λ (ws : List ℕ). x ∷ arranged b (length (ys ++ zs)) ws) (next .1)
+    where
+      next : (found (free (ys ++ x ∷ zs)) (ys ++ x ∷ zs) ≡ x ∷ []) × (without (free (ys ++ x ∷ zs)) (ys ++ x ∷ zs) ≡ ys ++ zs)
+      next =
+          found-behind (free (ys ++ x ∷ zs)) ys zs x
+          (λ y m z. let w = some y m in clash (anyIn-intro (λ v. b v y) (w .1) (w .2)) z)
+          (no-neg (λ t. let w = anyIn-elim (ys ++ x ∷ zs) (λ v. b v x) t in none (w .0) (w .1) (w .2)))
 
   -- ---- in order
 
@@ -163,6 +191,10 @@ module _ (b : ℕ → ℕ → Bool) where
                   (List·Memᴰ·cases-cons m),
             ))
             (yes-case (b x (r .0)))
+
+    pub some-free : (xs : List ℕ) (x : ℕ) → List·Memᴰ x xs → (v : ℕ) × List·Memᴰ v xs × ((w : ℕ) → List·Memᴰ w xs → ¬ Yes (b w v))
+    some-free [] x m = absurd (List·Memᴰ·not-nil m)
+    some-free (y ∷ ys) x m = free-one y ys
 
     cons-order : (x : ℕ) (zs : List ℕ) → InOrder zs → ((w : ℕ) → List·Memᴰ w zs → ¬ Yes (b w x)) → InOrder (x ∷ zs)
     cons-order x zs f none zero zero p q t = absurd (not-self x t)

@@ -26,6 +26,7 @@ use Rattle.readoff.specs.Written.{Recorded, nodeRecord, placeRecord, Fil
 use Rattle.readoff.proofs.Listing.{length-groups}
 use Rattle.readoff.proofs.Numbering.{numbered-is, front-is}
 use Rattle.readoff.proofs.Meaning.{node-is, places-are}
+use Rattle.readoff.proofs.Preceding.{SayBefore}
 use Rattle.readoff.proofs.Layered.{Layered, order-is, tops-are}
 use Rattle.readoff.proofs.Leading.{led}
 use Rattle.readoff.proofs.Written.{nodeBytes-at, placeBytes-at, recorded-as}
@@ -127,16 +128,17 @@ pub record Ordered (f : Facts) (n lows : ℕ) (rows : List ℕ) (o : Order) : Ty
   pub columns : Columns (f .below) (f .above)
   pub low : Gathered n (isLow (f .below) (f .above)) lows
   pub layered : Layered (f .below) (f .above) n lows n rows
-  pub these : Listed (listed rows n) o
+  pub says : SayBefore f
+  pub these : Listed (listed (f .after) rows n) o
   pub long : length (o .group) ≡ 16
 
 pub room-for : (f : Facts) (n lows : ℕ) (rows : List ℕ) → n ≤ 16 → Columns (f .below) (f .above) → Gathered n (isLow (f .below) (f .above)) lows
-    → Layered (f .below) (f .above) n lows n rows → length (listed rows n) ≤ 16
-room-for f n lows rows few m g l = let a = order-most n (has f) in omega (arith, ap length (order-is f n few m lows g rows l))
+    → Layered (f .below) (f .above) n lows n rows → SayBefore f → length (listed (f .after) rows n) ≤ 16
+room-for f n lows rows few m g l says = let a = order-most n (has f) in omega (arith, ap length (order-is f n few m lows g rows l says))
 
 module _ (f : Facts) (n lows : ℕ) (rows : List ℕ) (o : Order) (s : Ordered f n lows rows o) where
   groups-are : groups o ≡ order n (has f)
-  groups-are = s .these .these ∙ order-is f n (s .few) (s .columns) lows (s .low) rows (s .layered)
+  groups-are = s .these .these ∙ order-is f n (s .few) (s .columns) lows (s .low) rows (s .layered) (s .says)
 
   len-is : o .len ≡ length (order n (has f))
   len-is = let a = s .these .small .few in let b = s .long in sym (length-groups o (omega arith)) ∙ ap length groups-are
@@ -146,7 +148,7 @@ module _ (f : Facts) (n lows : ℕ) (rows : List ℕ) (o : Order) (s : Ordered f
 
   module _ (front : Front) (e : front ≡ frontOf (ones (row rows 0))) where
     front-exact : front ≡ frontOf (length (layer n (has f) 0))
-    front-exact = e ∙ ap frontOf (tops-are f n (s .few) (s .columns) lows (s .low) rows (s .layered))
+    front-exact = e ∙ ap frontOf (tops-are f n (s .few) (s .columns) lows (s .low) rows (s .layered) (s .says))
 
     numbers-are : numbered front ≡ nodeAt n (has f)
     numbers-are = ap numbered front-exact ∙ numbered-is n (has f)

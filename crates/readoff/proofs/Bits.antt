@@ -1,7 +1,8 @@
 -- Laws of rows beyond those of `tables`: how many numbers a row has, when it is empty, and a row that gathers what passes a test.
 use mathlib.Core.Path.{_≡_, refl, sym, ap, _∙_, subst}
+use mathlib.Core.Logic.{_≢_}
 use mathlib.Core.Bool.{Bool, true, false, _||_, false≢true}
-use mathlib.Core.List.{List, [], _∷_, _++_, append-nil}
+use mathlib.Core.List.{List, [], _∷_, _++_, append-assoc, append-nil}
 use Prim.Native.Nat.{ℕ, zero, suc, _+_, _-_, _*_, _/_, _%_, _^_, _<_, _≤_}
 use native.Mathlib.Nat.{le-refl, le-trans, le-step, not-suc-le-zero, mod-lt, div-eq-of-lt, pow-suc}
 use native.Mathlib.Decide.{decLt, ℕ-discrete}
@@ -84,6 +85,26 @@ pub picked-eq : (n : ℕ) (p q : ℕ → Bool) → ((k : ℕ) → k < n → p k 
 unfolding picked
 picked-eq zero p q h = refl
 picked-eq (suc n) p q h = rw (picked-eq n p q (λ k l. h k (le-step l)), h n (le-refl _))
+
+-- the numbers before one of them and those behind it, and the list without it
+pub picked-apart : (n : ℕ) (p q : ℕ → Bool) (x : ℕ) → x < n → p x ≡ true → q x ≡ false → ((i : ℕ) → i < n → i ≢ x → q i ≡ p i)
+    → (zs : List ℕ) × (picked n p ≡ picked x p ++ x ∷ zs) × (picked n q ≡ picked x p ++ zs)
+unfolding picked pick
+picked-apart zero p q x l t z h = absurd (not-suc-le-zero l)
+picked-apart (suc n) p q x l t z h = go (ℕ-discrete x n) (λ k. picked-apart n p q x k t z (λ i k. h i (le-step k)))
+  where
+    go : Dec (x ≡ n) → (x < n → (zs : List ℕ) × (picked n p ≡ picked x p ++ x ∷ zs) × (picked n q ≡ picked x p ++ zs))
+        → (zs : List ℕ) × (picked n p ++ pick (p n) (n ∷ []) [] ≡ picked x p ++ x ∷ zs) × (picked n q ++ pick (q n) (n ∷ []) [] ≡ picked x p ++ zs)
+    go (yes e) r =
+        let same : picked n q ≡ picked n p = picked-eq n q p (λ j k. h j (le-step k) (λ d. omega arith)) in
+        ([], rw (← e, t), rw (same, ← e, z))
+    go (no e) r =
+        let w = r (omega arith) in (
+          w .0 ++ pick (p n) (n ∷ []) [],
+          ap (λ (ws : List ℕ). ws ++ pick (p n) (n ∷ []) []) (w .1) ∙ append-assoc (picked x p) (x ∷ w .0) (pick (p n) (n ∷ []) []),
+          ap (λ (b : Bool). picked n q ++ pick b (n ∷ []) []) (h n (le-refl _) (λ d. e (sym d))) ∙ ap (λ (ws : List ℕ). ws ++ pick (p n) (n ∷ []) []) (w .2)
+              ∙ append-assoc (picked x p) (w .0) (pick (p n) (n ∷ []) []),
+        )
 
 -- nothing passes the test between k and m
 picked-stop : (k m : ℕ) (p : ℕ → Bool) → k ≤ m → ((y : ℕ) → k ≤ y → y < m → p y ≡ false) → picked m p ≡ picked k p

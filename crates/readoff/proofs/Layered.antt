@@ -9,11 +9,13 @@ use native.Mathlib.Decide.{ℕ-discrete}
 use native.Mathlib.Omega.{arith}
 use lib.Bits.{bitAnd}
 use lib.Count.{ones}
+use lib.Dec.{eqb}
 use lib.ListN.{length, set, replicate, getD-replicate}
 use lib.Pow.{pow-mono}
 use lib.Seq.{getD-set-same, getD-set-other}
-use Rattle.meaning.specs.Finite.{_and_, picked}
-use Rattle.meaning.specs.ReadOff.{layer, layers, order}
+use Rattle.meaning.specs.Constraint.{before}
+use Rattle.meaning.specs.Finite.{_and_, arranged, picked}
+use Rattle.meaning.specs.ReadOff.{lowest, depth, layer, layers, order}
 use Rattle.meaning.proofs.Tests.{eq-yes, is-eq}
 use Rattle.meaning.proofs.Nodes.{length-picked}
 use Rattle.rowbits.specs.Bit.{bit}
@@ -22,8 +24,10 @@ use Rattle.tables.specs.Rows.{gainedOne}
 use Rattle.tables.proofs.Helpers.{gain-off}
 use Rattle.tables.specs.Tables.{row, has, Columns}
 use Rattle.readoff.specs.Rows.{Gathered, overRow, isLow, deep, inLayer}
-use Rattle.readoff.specs.Listing.{listed}
+use Rattle.readoff.specs.Listing.{inLine, listed}
 use Rattle.readoff.proofs.Bits.{yes-not, and-true, and-false, picked-eq, counted, gather-none, gather-more, gathered-picked}
+use Rattle.readoff.proofs.InLine.{length-in-line}
+use Rattle.readoff.proofs.Preceding.{SayBefore}
 use Rattle.readoff.proofs.Meaning.{lows-is, depth-is}
 
 module _ (t u : List ℕ) (n lows : ℕ) where
@@ -55,19 +59,25 @@ module _ (t u : List ℕ) (n lows : ℕ) where
           (g d h)
 
 module _ (f : Facts) (n : ℕ) (few : n ≤ 16) (m : Columns (f .below) (f .above)) (lows : ℕ) (g : Gathered n (isLow (f .below) (f .above)) lows)
-    (rows : List ℕ) (ls : Layered (f .below) (f .above) n lows n rows) where
-  layer-is : (d : ℕ) → d < 17 → picked 16 (bit (row rows d)) ≡ layer n (has f) d
-  unfolding layer inLayer Layered
-  layer-is d h =
+    (rows : List ℕ) (ls : Layered (f .below) (f .above) n lows n rows) (says : SayBefore f) where
+  members-are : (d : ℕ) → d < 17 → picked 16 (bit (row rows d)) ≡ picked n (λ x. lowest n (has f) x and eqb (depth n (has f) x) d)
+  unfolding inLayer Layered
+  members-are d h =
       gathered-picked n _ (row rows d) few (ls d h)
       ∙ picked-eq n _ _ (λ x l. rw (lows-is f n few m lows g x l, depth-is f n few m lows g x (omega arith)))
 
-  listed-is : (d : ℕ) → d ≤ 17 → listed rows d ≡ layers n (has f) d
+  layer-is : (d : ℕ) → d < 17 → inLine (f .after) (row rows d) ≡ layer n (has f) d
+  unfolding layer inLine
+  layer-is d h =
+      ap (λ (b : ℕ → ℕ → Bool). let gs = picked 16 (bit (row rows d)) in arranged b (length gs) gs) says
+      ∙ ap (λ (gs : List ℕ). arranged (λ w x. has f (before w x)) (length gs) gs) (members-are d h)
+
+  listed-is : (d : ℕ) → d ≤ 17 → listed (f .after) rows d ≡ layers n (has f) d
   unfolding listed layers
   listed-is zero h = refl
   listed-is (suc d) h = rw (listed-is d (omega arith), layer-is d h)
 
-  pub order-is : listed rows n ≡ order n (has f)
+  pub order-is : listed (f .after) rows n ≡ order n (has f)
   unfolding order
   order-is = listed-is n (omega arith)
 
@@ -75,4 +85,5 @@ module _ (f : Facts) (n : ℕ) (few : n ≤ 16) (m : Columns (f .below) (f .abov
   unfolding Layered
   tops-are =
       let p : 2 ^ n ≤ 2 ^ 16 = pow-mono few in
-      counted 16 (row rows 0) (le-trans (ls 0 (omega arith) .small) p) ∙ sym (length-picked 16 (bit (row rows 0))) ∙ ap length (layer-is 0 (omega arith))
+      counted 16 (row rows 0) (le-trans (ls 0 (omega arith) .small) p) ∙ sym (length-picked 16 (bit (row rows 0)))
+      ∙ sym (length-in-line (f .after) (row rows 0)) ∙ ap length (layer-is 0 (omega arith))

@@ -1,8 +1,10 @@
 pub mod Bits
 pub mod Numbering
+pub mod InLine
 pub mod Listing
 pub mod Written
 pub mod Meaning
+pub mod Preceding
 pub mod Layered
 pub mod Leading
 pub mod Answer

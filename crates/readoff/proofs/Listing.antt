@@ -1,29 +1,29 @@
 -- The order as a list: what stands at a place, one group more, and the place of the first group that passes a test.
 use mathlib.Core.Path.{_≡_, refl, sym, ap, _∙_, subst}
-use mathlib.Core.Logic.{_≢_, ⊎-elim}
+use mathlib.Core.Logic.{⊎-elim}
 use mathlib.Core.Bool.{Bool, true, false}
 use mathlib.Core.List.{List, [], _∷_, _++_, map, map-append, append-assoc, append-nil, List·Memᴰ, List·Memᴰ·head, List·Memᴰ·tail, List·Memᴰ·append-cases, List·Memᴰ·cases-cons, List·Memᴰ·not-nil}
 use Prim.Native.Nat.{ℕ, zero, suc, _+_, _^_, _≤_, _<_, zero-le, suc-le-suc}
 use native.Mathlib.Nat.{le-refl, le-step, le-trans, zero-add, not-suc-le-zero, le-of-suc-le-suc}
-use native.Mathlib.Decide.{decLt, ℕ-discrete}
+use native.Mathlib.Decide.{ℕ-discrete}
 use native.Mathlib.Numerals.{add-one}
 use native.Mathlib.Omega.{arith}
 use lib.Bits.{bitAnd}
 use lib.Dec.{eqb}
 use lib.ListN.{length, getD, take, drop, set, length-append, length-map, length-set, drop-of-length-le}
 use lib.Seq.{drop-cons, drop-nil, take-suc-set, length-take-le, getD-take, getD-set-same, getD-set-other}
-use Rattle.meaning.specs.Finite.{Yes, _and_, neg, pick, picked, position}
+use Rattle.meaning.specs.Finite.{pick, position}
 use Rattle.meaning.proofs.Tests.{pick-yes, pick-no, is-eq, eq-yes}
-use Rattle.meaning.proofs.Lists.{picked-out, picked-none, getD-mem}
+use Rattle.meaning.proofs.Lists.{getD-mem}
 use Rattle.rowbits.specs.Bit.{bit}
-use Rattle.rowbits.proofs.Laws.{bit-one, bit-none}
 use Rattle.tables.specs.Tables.{row}
 use Rattle.ids.specs.declared.Var.{Var}
 use Rattle.readoff.specs.declared.Order.{Order}
 use Rattle.tables.specs.Rows.{without, Lowest}
-use Rattle.tables.proofs.Bits.{one-has, some-in, in-row, without-less}
-use Rattle.readoff.specs.Listing.{groups, Small, listed, Listed, Placed, Led}
-use Rattle.readoff.proofs.Bits.{not-yes, yes-not, and-true, bit-without, picked-eq}
+use Rattle.tables.proofs.Bits.{without-less}
+use Rattle.readoff.specs.Listing.{groups, Small, Earliest, inLine, listed, Listed, Placed, Led}
+use Rattle.readoff.proofs.Bits.{not-yes, yes-not}
+use Rattle.readoff.proofs.InLine.{earliest-in, in-line-small, in-line-none, in-line-next}
 
 -- ---- the place of the first that passes a test
 
@@ -142,108 +142,79 @@ place-led t u n gs ps w p x k l low = let c = w x k l low in p k (c .0) ∙ posi
 
 -- ---- the members of a row, put behind the groups
 
--- the first member, and the members of the row without it
-picked-first : (n : ℕ) (p q : ℕ → Bool) (x : ℕ) → x < n → p x ≡ true → ((i : ℕ) → i < x → ¬ Yes (p i)) → q x ≡ false → ((i : ℕ) → i < n → i ≢ x → q i ≡ p i)
-    → picked n p ≡ x ∷ picked n q
-unfolding picked pick
-picked-first zero p q x l t f z h = absurd (not-suc-le-zero l)
-picked-first (suc n) p q x l t f z h = go (ℕ-discrete x n) (λ k. picked-first n p q x k t f z (λ i k. h i (le-step k)))
-  where
-    go : Dec (x ≡ n) → (x < n → picked n p ≡ x ∷ picked n q) → picked n p ++ pick (p n) (n ∷ []) [] ≡ x ∷ (picked n q ++ pick (q n) (n ∷ []) [])
-    go (yes e) r =
-        let none : picked n p ≡ [] = picked-none n p (λ j k. f j (omega arith)) in
-        let same : picked n q ≡ [] = picked-eq n q p (λ j k. h j (le-step k) (λ d. omega arith)) ∙ none in
-        rw (none, same, ← e, t, z)
-    go (no e) r = rw (r (omega arith), h n (le-refl _) (λ d. e (sym d)))
-
 groups-more : (o : Order) (x : ℕ) → o .len < length (o .group) → groups (record { group = set (o .group) (o .len) record { 0 = x }; len = o .len + 1 }) ≡ groups o ++ x ∷ []
 unfolding groups
 groups-more o x l =
     ap (map (λ (v : Var). v .0)) (ap (λ (k : ℕ). take k (set (o .group) (o .len) record { 0 = x })) (add-one (o .len)) ∙ take-suc-set (o .group) (o .len) record { 0 = x } l)
     ∙ map-append (λ (v : Var). v .0) (take (o .len) (o .group)) (record { 0 = x } ∷ [])
 
--- a row's smallest number is below 16 unless the row is empty
-lowest-in : (a x : ℕ) → a < 65536 → a ≢ 0 → Lowest a x → x < 16
-lowest-in a x h z w = go (decLt x 16)
-  where
-    go : Dec (x < 16) → x < 16
-    go (yes l) = l
-    go (no l) = let i = some-in a h z in absurd (w .none (i .0) (let k = in-row a (i .0) h (i .1) in omega arith) (i .1))
-
-picked-lowest : (a x : ℕ) → x < 16 → Lowest a x → picked 16 (bit a) ≡ x ∷ picked 16 (bit (without a (2 ^ x)))
-unfolding _and_ neg
-picked-lowest a x l w =
-    picked-first 16 (bit a) (bit (without a (2 ^ x))) x l (w .this l) (w .none)
-    (bit-without a (2 ^ x) x l ∙ rw (w .this l, one-has x))
-    (λ i k d. bit-without a (2 ^ x) i k ∙ rw (bit-one x i, yes-not (λ y. d (is-eq y))) (and-true (bit a i)))
-
 -- the row a is put behind gs; the row `rest` is still to come
-pub record Appending (a : ℕ) (gs : List ℕ) (rest : ℕ) (o : Order) : Type 0 where
+pub record Appending (after : List ℕ) (a : ℕ) (gs : List ℕ) (rest : ℕ) (o : Order) : Type 0 where
   pub long : length (o .group) ≡ 16
   pub few : o .len ≤ 16
   pub fits : rest < 65536
-  pub these : groups o ++ picked 16 (bit rest) ≡ gs ++ picked 16 (bit a)
+  pub these : groups o ++ inLine after rest ≡ gs ++ inLine after a
 
-module _ (a : ℕ) (gs : List ℕ) (rest : ℕ) (o : Order) (w : Appending a gs rest o) where
-  module _ (room : length gs + length (picked 16 (bit a)) ≤ 16) (some : rest ≢ 0) (x : ℕ) (low : Lowest rest x) where
+module _ (after : List ℕ) (a : ℕ) (gs : List ℕ) (rest : ℕ) (o : Order) (w : Appending after a gs rest o) where
+  module _ (room : length gs + length (inLine after a) ≤ 16) (x : ℕ) (early : Earliest after rest x) where
     pub next-in : x < 16
-    next-in = lowest-in rest x (w .fits) some low
+    next-in = earliest-in after rest (w .fits) x early
+
+    pub rest-less : without rest (2 ^ x) < rest
+    rest-less = without-less rest x next-in (early .member)
 
     pub appending-room : o .len < 16
     appending-room =
         let k = w .few in
         let g = w .long in
         let c = length-groups o (omega arith) in
-        let e = sym (length-append (groups o) (picked 16 (bit rest))) ∙ ap length (w .these) ∙ length-append gs (picked 16 (bit a)) in
-        let y = ap length (picked-lowest rest x next-in low) in
+        let e = sym (length-append (groups o) (inLine after rest)) ∙ ap length (w .these) ∙ length-append gs (inLine after a) in
+        let y = ap length (in-line-next after rest (w .fits) x early) in
         omega arith
 
-    pub appending-more : Appending a gs (without rest (2 ^ x)) (record { group = set (o .group) (o .len) record { 0 = x }; len = o .len + 1 })
+    pub appending-more : Appending after a gs (without rest (2 ^ x)) (record { group = set (o .group) (o .len) record { 0 = x }; len = o .len + 1 })
     appending-more = record {
       long = length-set (o .group) (o .len) record { 0 = x } ∙ w .long;
       few = omega (arith, appending-room);
-      fits = le-trans (without-less rest x next-in (low .this next-in)) (le-trans (le-step (le-refl rest)) (w .fits));
-      these = ap (λ (ys : List ℕ). ys ++ picked 16 (bit (without rest (2 ^ x)))) (groups-more o x (rw (w .long) appending-room))
-          ∙ append-assoc (groups o) (x ∷ []) (picked 16 (bit (without rest (2 ^ x))))
-          ∙ ap (λ (ys : List ℕ). groups o ++ ys) (sym (picked-lowest rest x next-in low)) ∙ w .these;
+      fits = le-trans rest-less (le-trans (le-step (le-refl rest)) (w .fits));
+      these = ap (λ (ys : List ℕ). ys ++ inLine after (without rest (2 ^ x))) (groups-more o x (rw (w .long) appending-room))
+          ∙ append-assoc (groups o) (x ∷ []) (inLine after (without rest (2 ^ x)))
+          ∙ ap (λ (ys : List ℕ). groups o ++ ys) (sym (in-line-next after rest (w .fits) x early)) ∙ w .these;
     }
 
-  pub appending-all : rest ≡ 0 → ((g : ℕ) → List·Memᴰ g gs → g < 16) → Listed (gs ++ picked 16 (bit a)) o
+  pub appending-all : rest ≡ 0 → ((g : ℕ) → List·Memᴰ g gs → g < 16) → Listed (gs ++ inLine after a) o
   appending-all z inside = record {
-    small = record { few = w .few; inside = λ g m. ⊎-elim (inside g) (λ k. picked-out 16 (bit a) g k .0) (List·Memᴰ·append-cases gs (subst (List·Memᴰ g) these m)) };
+    small = record { few = w .few; inside = λ g m. ⊎-elim (inside g) (in-line-small after a g) (List·Memᴰ·append-cases gs (subst (List·Memᴰ g) these m)) };
     these = these;
   }
     where
-      empty : picked 16 (bit rest) ≡ []
-      empty = picked-none 16 (bit rest) (λ j l t. not-yes (ap (λ (r : ℕ). bit r j) z ∙ bit-none j) t)
-
-      these : groups o ≡ gs ++ picked 16 (bit a)
-      these = sym (append-nil (groups o)) ∙ ap (λ (ys : List ℕ). groups o ++ ys) (sym empty) ∙ w .these
+      these : groups o ≡ gs ++ inLine after a
+      these = sym (append-nil (groups o)) ∙ ap (λ (ys : List ℕ). groups o ++ ys) (sym (in-line-none after rest z)) ∙ w .these
 
 -- ---- layer by layer
 
-listed-more : (t : List ℕ) (d n : ℕ) → d ≤ n → length (listed t d) ≤ length (listed t n)
+listed-more : (after t : List ℕ) (d n : ℕ) → d ≤ n → length (listed after t d) ≤ length (listed after t n)
 unfolding listed
-listed-more t d zero l = let e : d ≡ 0 = omega arith in rw e (le-refl _)
-listed-more t d (suc n) l = go (ℕ-discrete d (suc n)) (λ q. listed-more t d n q)
+listed-more after t d zero l = let e : d ≡ 0 = omega arith in rw e (le-refl _)
+listed-more after t d (suc n) l = go (ℕ-discrete d (suc n)) (λ q. listed-more after t d n q)
   where
-    go : Dec (d ≡ suc n) → (d ≤ n → length (listed t d) ≤ length (listed t n)) → length (listed t d) ≤ length (listed t n ++ picked 16 (bit (row t n)))
+    go : Dec (d ≡ suc n) → (d ≤ n → length (listed after t d) ≤ length (listed after t n)) → length (listed after t d) ≤ length (listed after t n ++ inLine after (row t n))
     go (yes e) r = rw e (le-refl _)
-    go (no e) r = let a = r (omega arith) in let b = length-append (listed t n) (picked 16 (bit (row t n))) in omega arith
+    go (no e) r = let a = r (omega arith) in let b = length-append (listed after t n) (inLine after (row t n)) in omega arith
 
-pub listed-none : (t : List ℕ) (vs : List Var) → Listed (listed t 0) (record { group = vs; len = 0 })
+pub listed-none : (after t : List ℕ) (vs : List Var) → Listed (listed after t 0) (record { group = vs; len = 0 })
 unfolding listed groups
-listed-none t vs = record { small = record { few = zero-le; inside = λ g m. absurd (List·Memᴰ·not-nil m) }; these = refl }
+listed-none after t vs = record { small = record { few = zero-le; inside = λ g m. absurd (List·Memᴰ·not-nil m) }; these = refl }
 
-module _ (t : List ℕ) (n d : ℕ) (room : length (listed t n) ≤ 16) (l : d < n) (o : Order) (w : Listed (listed t d) o) where
-  pub listed-room : length (groups o) + length (picked 16 (bit (row t d))) ≤ 16
+module _ (after t : List ℕ) (n d : ℕ) (room : length (listed after t n) ≤ 16) (l : d < n) (o : Order) (w : Listed (listed after t d) o) where
+  pub listed-room : length (groups o) + length (inLine after (row t d)) ≤ 16
   unfolding listed
   listed-room =
-      let a = listed-more t (suc d) n l in
-      let b = length-append (listed t d) (picked 16 (bit (row t d))) in
+      let a = listed-more after t (suc d) n l in
+      let b = length-append (listed after t d) (inLine after (row t d)) in
       let c = ap length (w .these) in
       omega arith
 
-  pub listed-next : (r : Order) → Listed (groups o ++ picked 16 (bit (row t d))) r → Listed (listed t (d + 1)) r
+  pub listed-next : (r : Order) → Listed (groups o ++ inLine after (row t d)) r → Listed (listed after t (d + 1)) r
   unfolding listed
   listed-next r v = rw add-one (rw (w .these) at v)

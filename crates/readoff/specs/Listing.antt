@@ -1,11 +1,13 @@
 -- The groups in the order of their nodes, as a list, and what is read from it.
 use mathlib.Core.Path.{_≡_}
+use mathlib.Core.Logic.{_≢_}
+use mathlib.Core.Bool.{Bool}
 use mathlib.Core.List.{List, [], _∷_, _++_, map, List·Memᴰ}
 use Prim.Native.Nat.{ℕ, zero, suc, _≤_, _<_}
 use lib.Bits.{bitAnd}
 use lib.Dec.{eqb}
-use lib.ListN.{take, getD}
-use Rattle.meaning.specs.Finite.{pick, picked, position}
+use lib.ListN.{length, take, getD}
+use Rattle.meaning.specs.Finite.{Yes, pick, arranged, picked, position}
 use Rattle.meaning.specs.ReadOff.{NodeRecord, nodeBytes}
 use Rattle.rowbits.specs.Bit.{bit}
 use Rattle.tables.specs.Tables.{row}
@@ -23,10 +25,28 @@ pub record Small (o : Order) : Type 0 where
   pub few : o .len ≤ 16
   pub inside : (g : ℕ) → List·Memᴰ g (groups o) → g < 16
 
+-- by the rows of `after` w goes before g
+abbrev pub precedes : List ℕ → ℕ → ℕ → Bool
+precedes after w g = bit (row after g) w
+
+pub record Strict (after : List ℕ) : Type 0 where
+  pub not-self : (v : ℕ) → ¬ Yes (precedes after v v)
+  pub chains : (u v w : ℕ) → Yes (precedes after u v) → Yes (precedes after v w) → Yes (precedes after u w)
+
+-- x is the lowest member of a row that none of its members goes before
+pub record Earliest (after : List ℕ) (r x : ℕ) : Type 0 where
+  pub member : Yes (bit r x)
+  pub free : bitAnd r (row after x) ≡ 0
+  pub first : (i : ℕ) → i < x → Yes (bit r i) → bitAnd r (row after i) ≢ 0
+
+-- the members of a row, the next always the lowest that none of those left goes before
+unfoldable pub inLine : List ℕ → ℕ → List ℕ
+inLine after r = let gs = picked 16 (bit r) in arranged (precedes after) (length gs) gs
+
 -- the members of the first d rows, row by row
-unfoldable pub listed : List ℕ → ℕ → List ℕ
-listed t zero = []
-listed t (suc d) = listed t d ++ picked 16 (bit (row t d))
+unfoldable pub listed : List ℕ → List ℕ → ℕ → List ℕ
+listed after t zero = []
+listed after t (suc d) = listed after t d ++ inLine after (row t d)
 
 pub record Listed (gs : List ℕ) (o : Order) : Type 0 where
   pub small : Small o

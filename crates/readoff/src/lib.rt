@@ -1,6 +1,7 @@
-// The answer file of settled tables: a node for each group of same variables, by depth and then by lowest variable, and the node of each
-// variable.
+// The answer file of settled tables: a node for each group of same variables, by depth, then siblings in their order and otherwise by lowest
+// variable, and the node of each variable.
 ghost use mathlib.Core.Path.{_≡_};
+ghost use mathlib.Core.Logic.{_≢_};
 ghost use mathlib.Core.List.{List, [], _∷_, _++_};
 ghost use Prim.Native.Nat.{ℕ, _+_, _-_, _*_, _^_, _<_, _≤_};
 ghost use lib.Bits.{bitAnd};
@@ -8,14 +9,14 @@ ghost use lib.Count.{ones};
 ghost use lib.Dec.{eqb};
 ghost use lib.ListN.{length};
 ghost use Rattle.meaning.specs.Constraint.{Fact};
-ghost use Rattle.meaning.specs.Finite.{_and_, picked, position, tab};
+ghost use Rattle.meaning.specs.Finite.{_and_, position, tab};
 ghost use Rattle.rowbits.specs.Bit.{bit};
 ghost use Rattle.tables.specs.Rows.{without};
 ghost use Rattle.tables.specs.Tables.{row, has, showing, Ready};
 ghost use Rattle.tables.specs.declared.Facts.{Facts};
 ghost use Rattle.readoff.specs.Rows.{Gathered, overRow, isLow, inLayer, near};
 ghost use Rattle.readoff.specs.Numbering.{frontOf, numbered, inFront};
-ghost use Rattle.readoff.specs.Listing.{groups, Small, listed, Listed, Placed, Led, nodeNumbers, placeIn, parentIn, groupRecord};
+ghost use Rattle.readoff.specs.Listing.{groups, Small, Strict, Earliest, inLine, listed, Listed, Placed, Led, nodeNumbers, placeIn, parentIn, groupRecord};
 ghost use Rattle.readoff.specs.Written.{Recorded, Put, nodeRecord, placeRecord, FileWritten};
 use ids::Node;
 use ids::Var;
@@ -83,34 +84,51 @@ fn layers(below: [u16; 16], above: [u16; 16], lows: u16, n: usize) -> [u16; 17]
     layer
 }
 
-// The order with the members of a row behind it.
-fn append(order: Order, row: u16) -> Order
-    requires { ⌜ Small order × (length (groups order) + length (picked 16 (bit row)) ≤ 16) ⌝ }
-    ensures { λ r. ⌜ Listed (groups order ++ picked 16 (bit row)) r ⌝ }
+// The lowest member of a row that none of them goes before. There is one, so the loop is left within.
+fn earliest(after: [u16; 16], row: u16) -> usize
+    requires { ⌜ (row ≢ 0) × Strict after ⌝ }
+    ensures { λ r. ⌜ Earliest after row r ⌝ }
+{
+    let mut left = row;
+    while left != 0 {
+        let x = tables::lowest(left);
+        let earlier = after[x];
+        if row & earlier == 0 {
+            return x;
+        }
+        left = tables::rest(left);
+    }
+    0
+}
+
+// The order with the members of a row behind it, each after those that go before it.
+fn append(order: Order, row: u16, after: [u16; 16]) -> Order
+    requires { ⌜ Small order × (length (groups order) + length (inLine after row) ≤ 16) × Strict after ⌝ }
+    ensures { λ r. ⌜ Listed (groups order ++ inLine after row) r ⌝ }
 {
     let mut o = order;
     let mut rest = row;
     while rest != 0 {
-        let x = tables::lowest(rest);
+        let x = earliest(after, rest);
         let at = o.len;
         o.group[at] = Var(x as u8);
         o.len = at + 1;
-        rest = tables::rest(rest);
+        rest = tables::except(rest, tables::one(x));
     }
     o
 }
 
 // The groups layer by layer.
-fn in_order(layer: [u16; 17], n: usize) -> Order
-    requires { ⌜ (n ≤ 16) × (length (listed layer n) ≤ 16) ⌝ }
-    ensures { λ r. ⌜ Listed (listed layer n) r ⌝ }
+fn in_order(layer: [u16; 17], after: [u16; 16], n: usize) -> Order
+    requires { ⌜ (n ≤ 16) × (length (listed after layer n) ≤ 16) × Strict after ⌝ }
+    ensures { λ r. ⌜ Listed (listed after layer n) r ⌝ }
 {
     let first = Var(0);
     let group = [first; 16];
     let mut o = Order { group, len: 0 };
     for d in 0..n {
         let row = layer[d];
-        o = append(o, row);
+        o = append(o, row, after);
     }
     o
 }
@@ -287,16 +305,17 @@ fn put_places(answer: &mut [u8], first: usize, nodes: [Node; 16], n: usize)
 pub fn read_off(
     below: [u16; 16],
     above: [u16; 16],
+    after: [u16; 16],
     label: [u8; 16],
     n: usize,
     answer: &mut [u8],
 ) -> usize
-    requires { ⌜ (n ≤ 16) × (132 ≤ length (now answer)) × ((S : List Fact) × (g : Facts) × Ready n S (showing below above label g)) ⌝ }
-    ensures { λ r. ⌜ ((g : Facts) → FileWritten n (has (showing below above label g)) (now (answer .entry)) r (now (answer .exit))) ⌝ }
+    requires { ⌜ (n ≤ 16) × (132 ≤ length (now answer)) × ((S : List Fact) × (g : Facts) × Ready n S (showing below above after label g)) ⌝ }
+    ensures { λ r. ⌜ ((S : List Fact) (g : Facts) → Ready n S (showing below above after label g) → FileWritten n (has (showing below above after label g)) (now (answer .entry)) r (now (answer .exit))) ⌝ }
 {
     let low = lows(below, above, n);
     let layer = layers(below, above, low, n);
-    let order = in_order(layer, n);
+    let order = in_order(layer, after, n);
     let top = layer[0];
     let front = front_of(top);
     put_front(answer, front);

@@ -74,8 +74,9 @@ pub fn solve_over(constraints: &[u8], n: usize, answer: &mut [u8], allowance: u3
         End::Tree => {
             let below = found.below;
             let above = found.above;
+            let after = found.after;
             let label = found.label;
-            let bytes = readoff::read_off(below, above, label, n, answer);
+            let bytes = readoff::read_off(below, above, after, label, n, answer);
             Verdict::Tree {
                 bytes,
                 count: found.count,

@@ -8,13 +8,13 @@ use Rattle.readoff.proofs.in_order.Statement.{statement}
 use Rattle.readoff.proofs.in_order.Tie as tie
 
 abbrev Inv-loop : tie.InvT-loop
-Inv-loop n layer o₀ d₀ o d = (d ≤ n) × Listed (listed layer d) o
+Inv-loop after n layer o₀ d₀ o d = (d ≤ n) × Listed (listed after layer d) o
 
 abbrev μ-loop : tie.MeasureT-loop
-μ-loop n layer o₀ d₀ o d = n - d
+μ-loop after n layer o₀ d₀ o d = n - d
 
 loop-holds : tie.Need-loop-holds Inv-loop μ-loop
-loop-holds c = (search needs, listed-none _ _)
+loop-holds c = (search needs, listed-none _ _ _)
 
 mul-row : tie.Need-mul-row Inv-loop μ-loop
 mul-row c = search needs
@@ -23,7 +23,7 @@ array-read-row : tie.Need-array-read-row Inv-loop μ-loop
 array-read-row c = search needs
 
 append-requires : tie.Need-append-requires Inv-loop μ-loop
-append-requires c κs = let s = c .before .before in (c .before .loop .inv .1 .small, listed-room (s .args .t1) (s .args .n) (c .before .loop .d) (s .pre .1) (c .loop-test .taken) (c .before .loop .o) (c .before .loop .inv .1))
+append-requires c κs = let s = c .before .before in (c .before .loop .inv .1 .small, listed-room (s .args .after) (s .args .t1) (s .args .n) (c .before .loop .d) (s .pre .1) (c .loop-test .taken) (c .before .loop .o) (c .before .loop .inv .1), s .pre .2)
 
 add-d : tie.Need-add-d Inv-loop μ-loop
 add-d c = search needs
@@ -32,7 +32,7 @@ loop-less : tie.Need-loop-less Inv-loop μ-loop
 loop-less c = search needs
 
 loop-again : tie.Need-loop-again Inv-loop μ-loop
-loop-again c = let i = c .before .before in let s = i .before in (search needs, listed-next (s .args .t1) (s .args .n) (i .loop .d) (s .pre .1) (c .before .loop-test .taken) (i .loop .o) (i .loop .inv .1) (c .append .result) (c .append .ensures))
+loop-again c = let i = c .before .before in let s = i .before in (search needs, listed-next (s .args .after) (s .args .t1) (s .args .n) (i .loop .d) (s .pre .1) (c .before .loop-test .taken) (i .loop .o) (i .loop .inv .1) (c .append .result) (c .append .ensures))
 
 returns : tie.Need-returns Inv-loop μ-loop
 returns c = let e : c .before .loop .d ≡ c .before .before .args .n = search needs in rw (← e) (c .before .loop .inv .1)

@@ -1,13 +1,16 @@
 -- `readoff::read_off` meets its contract: the groups are in order once the layers are listed, and what is written is the answer file.
+use mathlib.Core.List.{List}
 use Prim.Native.Nat.{ℕ, _+_, _<_, _≤_}
 use native.Mathlib.Omega.{arith}
 use lib.ListN.{length, getD}
-use mir.Syntax.{w8}
+use mir.Syntax.{w8, w16}
 use mir.Val.{Fits}
 use borrow.Author.Needs.{needs}
-use Rattle.tables.specs.Tables.{row, showing}
+use Rattle.meaning.specs.Constraint.{Fact}
+use Rattle.tables.specs.Tables.{row, showing, Ready}
 use Rattle.tables.specs.declared.Facts.{Facts}
 use Rattle.readoff.specs.Numbering.{numbered, inFront}
+use Rattle.readoff.proofs.Preceding.{SayBefore, says-before, strict}
 use Rattle.readoff.proofs.Layered.{Layered}
 use Rattle.readoff.proofs.Listing.{length-mapped}
 use Rattle.readoff.proofs.Answer.{Ordered, room-for, groups-led, few-records, file-written}
@@ -17,28 +20,39 @@ use Rattle.readoff.proofs.read_off.Tie as tie
 label-bytes : (c : tie.Start) (g : ℕ) → row (c .args .label) g < 256
 label-bytes c g = let e : Fits w8 (getD (c .args .label) g 0) = search needs in e .fits
 
+after-rows : (c : tie.Start) (g : ℕ) → row (c .args .after) g < 65536
+after-rows c g = let e : Fits w16 (getD (c .args .after) g 0) = search needs in e .fits
+
 -- tables with the rows, whatever the others are; and those that are ready
 abbrev tables : tie.Start → Facts → Facts
-tables s g = showing (s .args .below) (s .args .above) (s .args .label) g
+tables s g = showing (s .args .below) (s .args .above) (s .args .after) (s .args .label) g
 
 abbrev ready : tie.Start → Facts
 ready s = tables s (s .pre .2 .1)
+
+says : (s : tie.Start) (S : List Fact) (g : Facts) → Ready (s .args .n) S (tables s g) → SayBefore (tables s g)
+says s S g r = says-before (tables s g) (s .args .n) (s .pre .0) S r (search needs) (after-rows s)
 
 layered : (c : tie.After-layers) → let s = c .before .before .before in Layered (s .args .below) (s .args .above) (s .args .n) (c .before .lows .result) (s .args .n) (c .layers .result)
 unfolding Layered
 layered c = c .layers .ensures
 
-ordered : (c : tie.After-in-order) (g : Facts) → let s = c .before .before .before .before in Ordered (tables s g) (s .args .n) (c .before .before .lows .result) (c .before .layers .result) (c .in-order .result)
-ordered c g =
+ordered : (c : tie.After-in-order) (S : List Fact) (g : Facts) → let s = c .before .before .before .before in Ready (s .args .n) S (tables s g) → Ordered (tables s g) (s .args .n) (c .before .before .lows .result) (c .before .layers .result) (c .in-order .result)
+ordered c S g r =
     let s = c .before .before .before .before in
     record {
       few = s .pre .0;
-      columns = s .pre .2 .2 .mirrored .ancestors;
+      columns = r .mirrored .ancestors;
       low = c .before .before .lows .ensures;
       layered = layered (c .before);
+      says = says s S g r;
       these = c .in-order .ensures;
       long = search (needs, length-mapped);
     }
+
+-- of the tables that are ready
+ready-ordered : (c : tie.After-in-order) → let s = c .before .before .before .before in Ordered (ready s) (s .args .n) (c .before .before .lows .result) (c .before .layers .result) (c .in-order .result)
+ready-ordered c = let p = c .before .before .before .before .pre .2 in ordered c (p .0) (p .1) (p .2)
 
 -- the bounds that the writers need
 module _ (c : tie.After-front-of) where
@@ -46,7 +60,7 @@ module _ (c : tie.After-front-of) where
   s = c .before .before .before .before .before
 
   few : (numbered (c .front-of .result) (c .before .in-order .result .len) + s .args .n ≤ 33) × (length (inFront (c .front-of .result)) ≤ 33)
-  few = few-records (ready s) (s .args .n) (c .before .before .before .lows .result) (c .before .before .layers .result) (c .before .in-order .result) (ordered (c .before) (s .pre .2 .1)) (c .front-of .result) (c .front-of .ensures)
+  few = few-records (ready s) (s .args .n) (c .before .before .before .lows .result) (c .before .before .layers .result) (c .before .in-order .result) (ready-ordered (c .before)) (c .front-of .result) (c .front-of .ensures)
 
 -- the places before the one where the number of nodes is known
 module _ (c : tie.After-node-at) where
@@ -71,7 +85,11 @@ layers-requires c κs = search needs
 in-order-requires : tie.Need-in-order-requires
 in-order-requires c κs =
     let s = c .before .before .before in
-    (s .pre .0, room-for (ready s) (s .args .n) (c .before .lows .result) (c .layers .result) (s .pre .0) (s .pre .2 .2 .mirrored .ancestors) (c .before .lows .ensures) (layered c))
+    let p = s .pre .2 in (
+      s .pre .0,
+      room-for (ready s) (s .args .n) (c .before .lows .result) (c .layers .result) (s .pre .0) (p .2 .mirrored .ancestors) (c .before .lows .ensures) (layered c) (says s (p .0) (p .1) (p .2)),
+      strict (ready s) (s .args .n) (s .pre .0) (p .0) (p .2) (search needs) (after-rows s),
+    )
 
 array-read-top : tie.Need-array-read-top
 array-read-top c = search needs
@@ -100,7 +118,7 @@ assign-requires c κs =
       b .before .in-order .ensures .small,
       omega (arith, few b .0),
       s b .pre .0,
-      groups-led (ready (s b)) (s b .args .n) (b .before .before .before .lows .result) (b .before .before .layers .result) (b .before .in-order .result) (ordered (b .before) (s b .pre .2 .1)) (s b .pre .2 .0) (s b .pre .2 .2),
+      groups-led (ready (s b)) (s b .args .n) (b .before .before .before .lows .result) (b .before .before .layers .result) (b .before .in-order .result) (ready-ordered (b .before)) (s b .pre .2 .0) (s b .pre .2 .2),
     )
 
 put-places-requires : tie.Need-put-places-requires
@@ -124,8 +142,8 @@ returns c =
     let g = p .before .before in
     let a = g .before .before in
     let b = known a in
-    λ t.
-    file-written (tables (s b) t) (s b .args .n) (b .before .before .before .lows .result) (b .before .before .layers .result) (b .before .in-order .result) (ordered (b .before) t) (b .front-of .result) (b .front-of .ensures)
+    λ S t r.
+    file-written (tables (s b) t) (s b .args .n) (b .before .before .before .lows .result) (b .before .before .layers .result) (b .before .in-order .result) (ordered (b .before) S t r) (b .front-of .result) (b .front-of .ensures)
     (a .node-at .result .0) (s b .args .answer .now) (front-put a .put-front .last .0) (nodes-put a .put-nodes .last .0) (p .put-places .last .0) _ (a .node-at .ensures) (s b .pre .1) (label-bytes (s b))
     (front-put a .put-front .ensures) (nodes-put a .put-nodes .ensures) (p .put-places .ensures) (g .assign .ensures)
 

@@ -18,7 +18,7 @@ enum-told-3 c = search needs
 
 read-off-requires : tie.Need-read-off-requires
 read-off-requires c κs =
-    let told = c .before .before .before .before in
+    let told = c .before .before .before .before .before in
     let searched = told .before .before in
     let start = searched .before .before .before in
     let tree = solves-tree _ _ _ (vars-within _ _ (start .pre .0)) _ (searched .search-over .ensures) (told .enum-told3 .given .1) in
@@ -42,11 +42,11 @@ same-length c = search needs
 returns-3 : tie.Need-returns-3
 returns-3 c =
     let wrote = c .before .before in
-    let told = wrote .before .before .before .before .before in
+    let told = wrote .before .before .before .before .before .before in
     let searched = told .before .before in
     let start = searched .before .before .before in
     let tree = solves-tree _ _ _ (vars-within _ _ (start .pre .0)) _ (searched .search-over .ensures) (told .enum-told3 .given .1) in
-    answer-tree _ _ _ _ _ _ _ (tree .3) (wrote .read-off .ensures (tree .1))
+    answer-tree _ _ _ _ _ _ _ (tree .3) (wrote .read-off .ensures (tree .0) (tree .1) (tree .2))
 
 pub solve-over-spec : {M : Type 1} → statement M
 solve-over-spec =
