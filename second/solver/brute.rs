@@ -4,7 +4,8 @@ use crate::constraint::{number_of_variables, Constraint};
 use crate::tree::{first_unmet, Assignment, Node, Tree};
 use std::collections::BTreeSet;
 
-/// Every tree shape of this many nodes, as the list of the parents of nodes 1, 2, ...
+/// Every tree shape of this many nodes, as the list of the parents of nodes 1, 2, ... Every order of siblings is among them: numbered level by
+/// level, from first to last child, a tree has parents smaller than their children.
 pub fn shapes(nodes: usize) -> Vec<Vec<Node>> {
     let mut shapes = vec![Vec::new()];
     for node in 1..nodes {
@@ -58,7 +59,7 @@ fn asked_labels(constraints: &[Constraint], assignment: &Assignment, nodes: usiz
     labels
 }
 
-/// Every tree of this many nodes with labels of these, once up to the numbering of its nodes.
+/// Every tree of this many nodes with labels of these, once up to a numbering of its nodes that keeps the order of siblings.
 pub fn trees(nodes: usize, labels: &[u8]) -> Vec<Tree> {
     let mut known = BTreeSet::new();
     let mut trees = Vec::new();
@@ -79,11 +80,11 @@ fn words(letters: &[u8], length: usize) -> Vec<Vec<u8>> {
     })
 }
 
-/// The same for two trees exactly where one is the other numbered anew: label, number of children, and their codes in order.
+/// The same for two trees exactly where one is the other numbered anew with siblings in the same order: label, number of children, and their
+/// codes from first to last.
 fn code(tree: &Tree, node: Node) -> Vec<u8> {
     let children = (0..tree.parents.len()).map(Node).filter(|&child| tree.parent(child) == Some(node));
-    let mut codes: Vec<Vec<u8>> = children.map(|child| code(tree, child)).collect();
-    codes.sort();
+    let codes: Vec<Vec<u8>> = children.map(|child| code(tree, child)).collect();
     let head = vec![tree.label(node), codes.len() as u8];
     std::iter::once(head).chain(codes).flatten().collect()
 }
