@@ -147,8 +147,9 @@ pub fn crowded_path(random: &mut Random) -> Vec<Constraint> {
     constraints
 }
 
-/// A long search by the third join: siblings in a row, and others that must stand at or above one of them, some of them apart. Often two
-/// more are earlier than a third, the one above the other and apart from it: there is no tree, and every way is tried.
+/// A long search by the third join: siblings in a row, and others that must stand at or above one of them, some of them apart, some in the
+/// row themselves. Often two more are earlier than a third, the one above the other and apart from it: there is no tree, and every way is
+/// tried.
 pub fn crowded_siblings(random: &mut Random) -> Vec<Constraint> {
     let siblings = 2 + random.below(3);
     let others = 2 + random.below(5);
@@ -158,7 +159,12 @@ pub fn crowded_siblings(random: &mut Random) -> Vec<Constraint> {
     let (row, rest) = names.split_at(siblings);
     let (crowd, last) = rest.split_at(others);
     let mut constraints: Vec<Constraint> = row.windows(2).map(|pair| Constraint::Before(pair[0], pair[1])).collect();
-    constraints.extend(crowd.iter().map(|&a| Constraint::Below(a, random.pick(row))));
+    for &a in crowd {
+        constraints.push(Constraint::Below(a, random.pick(&row[1..])));
+        if random.one_in(4) {
+            constraints.push(Constraint::Before(row[0], a));
+        }
+    }
     for (at, &a) in crowd[..apart].iter().enumerate() {
         constraints.extend(crowd[..at].iter().filter(|_| random.one_in(2)).map(|&b| Constraint::Differ(b, a)));
     }

@@ -3,7 +3,7 @@
 
 use crate::constraint::{Constraint, Variable};
 
-#[derive(Clone, Copy, PartialEq, Eq, Debug)]
+#[derive(Clone, Copy, PartialEq, Eq, PartialOrd, Ord, Debug)]
 pub struct Node(pub usize);
 
 #[derive(Clone, PartialEq, Eq, Debug)]
