@@ -4,7 +4,7 @@ use crate::Comparison;
 use second::closure::Clash;
 use second::constraint;
 use second::search::{Join, Trace};
-use second::tree::{Assignment, Node, Tree};
+use second::tree::{Node, Tree};
 use second::verdict::SolverVerdict;
 use second::{answer, Refusal};
 use std::collections::BTreeMap;
@@ -70,14 +70,10 @@ fn is_by_lowest_variable(answer_file: &[u8]) -> bool {
     let nodes: Vec<Node> = (0..tree.parents.len()).map(Node).collect();
     nodes.windows(2).all(|pair| {
         let have_one_depth = depth(&tree, pair[0]) == depth(&tree, pair[1]);
-        !have_one_depth || lowest_variable(&assignment, pair[0]) < lowest_variable(&assignment, pair[1])
+        !have_one_depth || assignment.lowest_variable_on(pair[0]) < assignment.lowest_variable_on(pair[1])
     })
 }
 
 fn depth(tree: &Tree, node: Node) -> usize {
     tree.parent(node).map_or(0, |parent| 1 + depth(tree, parent))
-}
-
-fn lowest_variable(assignment: &Assignment, node: Node) -> Option<usize> {
-    assignment.0.iter().position(|&place| place == node)
 }

@@ -2,6 +2,7 @@
 
 use crate::rounds::Solved;
 use crate::Comparison;
+use questions::has_siblings;
 use second::constraint::{self, number_of_variables, Constraint, Variable};
 use second::verdict::SolverVerdict;
 use second::{answer, brute, LEAST_BUFFER};
@@ -135,10 +136,6 @@ pub fn joining_records(variables: u8) -> Vec<Constraint> {
 pub fn sibling_records(variables: u8) -> Vec<Constraint> {
     let is_sibling = |record: &Constraint| [1, 2, 9].contains(&record.kind());
     plain_records(variables).into_iter().filter(is_sibling).collect()
-}
-
-pub fn has_siblings(constraints: &[Constraint]) -> bool {
-    constraints.iter().any(|constraint| matches!(constraint, Constraint::Before(_, _)))
 }
 
 /// Visits every choice of `size` of the records, repeats included, order left out.

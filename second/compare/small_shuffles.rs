@@ -2,8 +2,9 @@
 //! refused files, and small answers to two records in both orders.
 
 use crate::rounds::Solved;
-use crate::small::{all_records, for_each_choice, has_siblings, joining_records, sibling_records};
+use crate::small::{all_records, for_each_choice, joining_records, sibling_records};
 use crate::Comparison;
+use questions::has_siblings;
 use questions::shuffle::{in_order, permutations, renumbered};
 use second::constraint::{self, number_of_variables, Constraint};
 use second::verdict::SolverVerdict;

@@ -88,6 +88,10 @@ pub fn random_constraint(random: &mut Random, variables: usize, mix: &Mix) -> Co
     }
 }
 
+pub fn has_siblings(constraints: &[Constraint]) -> bool {
+    constraints.iter().any(|constraint| matches!(constraint, Constraint::Before(_, _)))
+}
+
 pub fn free(random: &mut Random, variables: usize, records: usize, mix: &Mix) -> Vec<Constraint> {
     (0..records).map(|_| random_constraint(random, variables, mix)).collect()
 }

@@ -22,6 +22,10 @@ impl Assignment {
     pub fn node_of(&self, variable: Variable) -> Node {
         self.0[variable.0 as usize]
     }
+
+    pub fn lowest_variable_on(&self, node: Node) -> Option<Variable> {
+        self.0.iter().position(|&place| place == node).map(|variable| Variable(variable as u8))
+    }
 }
 
 impl Tree {
