@@ -3,6 +3,7 @@
 //!
 //! usage: compare [--seconds N] [--seed S]
 
+mod brothers;
 mod path_rounds;
 mod path_sorts;
 mod paths;
@@ -14,6 +15,7 @@ mod shuffled;
 mod small;
 mod small_shuffles;
 
+use brothers::Brothers;
 use path_sorts::PathSorts;
 use questions::Random;
 use second::constraint::{self, number_of_variables, Constraint};
@@ -21,7 +23,7 @@ use second::verdict::{hex, MarkerVerdict, SolverVerdict};
 use second::{answer, brute, Refusal};
 use selection::{Selections, SmallTrees};
 use shuffled::Shuffles;
-use std::collections::BTreeMap;
+use std::collections::{BTreeMap, BTreeSet};
 use std::time::{Duration, Instant};
 
 struct Comparison {
@@ -34,6 +36,7 @@ struct Comparison {
     counts: BTreeMap<usize, u64>,
     /// How many verdicts of the second solver were held against every small tree.
     against_all_small_trees: u64,
+    brothers: Brothers,
     shuffles: Shuffles,
     path_sorts: PathSorts,
     selections: Selections,
@@ -62,11 +65,13 @@ fn main() {
         seen: BTreeMap::new(),
         counts: BTreeMap::new(),
         against_all_small_trees: 0,
+        brothers: Brothers::default(),
         shuffles: Shuffles::default(),
         path_sorts: PathSorts::default(),
         selections: Selections::default(),
         small_trees: SmallTrees::default(),
     };
+    all_ordered_trees();
     comparison.empty_files();
     comparison.long_answers();
     comparison.all_small_questions();
@@ -80,6 +85,16 @@ fn main() {
         comparison.path_round();
     }
     comparison.report(start.elapsed());
+}
+
+/// The trees that verdicts are held against are all there: without labels there are as many ordered trees as Catalan's numbers say.
+fn all_ordered_trees() {
+    for (trees, nodes) in [1, 1, 2, 5, 14, 42, 132].into_iter().zip(1..) {
+        let made = brute::ordered_shapes(nodes).iter().collect::<BTreeSet<_>>().len();
+        if made != trees {
+            disagree("all small trees", &format!("{made} ordered trees of {nodes} nodes, expected {trees}"));
+        }
+    }
 }
 
 fn disagree(sort: &str, how: &str) -> ! {
@@ -117,8 +132,9 @@ impl Comparison {
     }
 
     fn solve(&mut self, sort: &'static str, file: &[u8], buffer: usize, allowance: u32) -> SolverVerdict {
-        let verdict = second::solve(file, buffer, allowance);
+        let (verdict, trace) = second::solve_traced(file, buffer, allowance);
         self.hold_solver(sort, file, buffer, allowance, &verdict);
+        self.note_brothers(file, &verdict, &trace);
         verdict
     }
 
@@ -170,7 +186,8 @@ impl Comparison {
             .chain([7, 13, 14].map(|question| format!("paths refused {question}")))
             .chain(["tree", "none", "spent", "met", "paths written"].map(String::from));
         let not_seen = must_be_seen.into_iter().find(|verdict| !self.seen.contains_key(verdict));
-        if let Some(sort) = not_seen.or_else(|| self.shuffle_not_seen()).or_else(|| self.path_sort_not_seen()) {
+        let not_seen = not_seen.or_else(|| self.brother_not_seen()).or_else(|| self.shuffle_not_seen());
+        if let Some(sort) = not_seen.or_else(|| self.path_sort_not_seen()) {
             println!("compare: '{sort}' never came up; a longer run is needed");
             std::process::exit(1);
         }
@@ -179,6 +196,8 @@ impl Comparison {
         let counts: Vec<String> = self.counts.iter().map(|(digits, times)| format!("{digits} in {times}")).collect();
         println!("compare: digits of the count of choices in random questions: {}", counts.join(", "));
         println!("compare: {} verdicts of the second solver agree with all small trees", self.against_all_small_trees);
+        let brothers: Vec<String> = self.brothers.iter().map(|(what, times)| format!("{what} {times}")).collect();
+        println!("compare: brothers in order: {}", brothers.join(", "));
         let shuffles: Vec<String> = self.shuffles.iter().map(|(what, times)| format!("{what} {times}")).collect();
         println!("compare: shuffled papers: {}", shuffles.join(", "));
         let Selections { trees, nones, tree_by_tree } = self.selections;

@@ -9,7 +9,7 @@ use second::{Refusal, LEAST_RECORDS_BUFFER};
 const ROOT_ALONE: Path = Path { from_root: true, steps: Vec::new() };
 
 /// Right texts that have every word of the form in every place.
-const RIGHT: [&str; 16] = [
+const RIGHT: [&str; 18] = [
     "/\n",
     "/\n/\n",
     "self::a\n",
@@ -22,6 +22,8 @@ const RIGHT: [&str; 16] = [
     "ancestor-or-self::*[self::*][/]\n",
     "descendant::*/ancestor-or-self::z\n",
     "self::*[self::a[self::b[/]]]\n",
+    "following-sibling::a[preceding-sibling::*]\n",
+    "/child::*/preceding-sibling::z[/following-sibling::b]\n",
     "child::*[parent::a/child::b][/child::c/child::d]/child::e\nchild::f\n",
     "/\n/\n/\n/\n/\n/\n/\n/\n",
     "self::a\nself::a\nself::a\nself::a\nself::a\nself::a\nself::a\nself::a\n",
@@ -82,13 +84,13 @@ impl Comparison {
     }
 
     /// Every line of up to two steps with at most one bracket. The definition is always asked where there is one step or no bracket, else
-    /// of every eighth.
+    /// of every twenty-fourth.
     fn all_short_lines(&mut self) {
         for (at, line) in with_one_bracket(&plain_lines()).into_iter().enumerate() {
             let is_plain = line.steps.len() < 2 || line.steps.iter().all(|step| step.brackets.is_empty());
             let lines = [line];
             self.text("every line of up to two steps with at most one bracket", &text_of(&lines));
-            if is_plain || at % 8 == 0 {
+            if is_plain || at % 24 == 0 {
                 self.ask_definition(&lines);
             }
         }

@@ -1,7 +1,9 @@
 //! Random questions, and all that is asked about each.
 
 use crate::{disagree, Comparison};
-use questions::{crowded_path, free, planted, random_assignment, random_constraint, random_tree, Mix};
+use questions::{
+    crowded_path, crowded_siblings, free, planted, random_assignment, random_constraint, random_tree, Mix,
+};
 use second::constraint::{self, number_of_variables, Constraint};
 use second::tree::{Assignment, Tree};
 use second::verdict::{hex, SolverVerdict};
@@ -28,7 +30,8 @@ impl Comparison {
         let tree = random_tree(&mut self.random, number_of_nodes);
         let assignment = random_assignment(&mut self.random, variables, &tree);
         let (sort, constraints) = match self.random.below(16) {
-            0 => ("crowded paths", crowded_path(&mut self.random)),
+            0 if self.random.one_in(2) => ("crowded paths", crowded_path(&mut self.random)),
+            0 => ("crowded siblings", crowded_siblings(&mut self.random)),
             1..=7 => ("planted questions", planted(&mut self.random, &tree, &assignment, records, &mix)),
             8..=11 => {
                 let mut constraints = planted(&mut self.random, &tree, &assignment, records.min(254), &mix);
@@ -181,7 +184,7 @@ impl Comparison {
         if let SolverVerdict::Tree { answer, .. } = &solved.verdict {
             answer_files.push(answer.clone());
         }
-        // The planted answer; a crowded path can have more variables than were placed.
+        // The planted answer; a crowded question can have more variables than were placed.
         if let Some(places) = assignment.0.get(..variables) {
             answer_files.push(answer::write(tree, &Assignment(places.to_vec())));
         }

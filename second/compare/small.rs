@@ -2,6 +2,7 @@
 
 use crate::rounds::Solved;
 use crate::Comparison;
+use questions::has_siblings;
 use second::constraint::{self, number_of_variables, Constraint, Variable};
 use second::verdict::SolverVerdict;
 use second::{answer, brute, LEAST_BUFFER};
@@ -45,12 +46,32 @@ impl Comparison {
         self.all_sets_of("sets of up to 4 of the plain records over 3 variables", &plain_records(3), 4);
         self.all_sets_of("sets of up to 5 of the joining records over 3 variables", &joining_records(3), 5);
         self.all_sets_of("sets of up to 4 of the joining records over 4 variables", &joining_records(4), 4);
+        self.all_sets_with_siblings("sets of up to 5 with siblings over 3 variables", &sibling_records(3), 5);
+        self.all_sets_with_siblings("sets of up to 4 with siblings over 4 variables", &sibling_records(4), 4);
+    }
+
+    fn all_sets_of(&mut self, sort: &'static str, records: &[Constraint], most: usize) {
+        self.all_chosen_sets_of(sort, records, most, |_| true);
+    }
+
+    /// Those without a before are among the others.
+    fn all_sets_with_siblings(&mut self, sort: &'static str, records: &[Constraint], most: usize) {
+        self.all_chosen_sets_of(sort, records, most, has_siblings);
     }
 
     /// Smaller sets first, so that the first disagreement is a small one.
-    fn all_sets_of(&mut self, sort: &'static str, records: &[Constraint], most: usize) {
+    fn all_chosen_sets_of(
+        &mut self,
+        sort: &'static str,
+        records: &[Constraint],
+        most: usize,
+        is_chosen: fn(&[Constraint]) -> bool,
+    ) {
         for size in 0..=most {
             for_each_choice(records, size, &mut Vec::new(), &mut |constraints| {
+                if !is_chosen(constraints) {
+                    return;
+                }
                 let file = constraint::write(constraints);
                 let verdict = self.solve(sort, &file, LEAST_BUFFER, u32::MAX);
                 self.check_meaning(constraints, &verdict, number_of_variables(constraints) + 1);
@@ -87,7 +108,7 @@ pub fn all_records(variables: u8) -> Vec<Constraint> {
     for x in (0..variables).map(Variable) {
         for y in (0..variables).map(Variable) {
             records.extend([Constraint::Child(x, y), Constraint::Below(x, y), Constraint::StrictlyBelow(x, y)]);
-            records.extend([Constraint::Same(x, y), Constraint::Differ(x, y)]);
+            records.extend([Constraint::Same(x, y), Constraint::Differ(x, y), Constraint::Before(x, y)]);
         }
         records.extend([Constraint::Root(x), Constraint::Leaf(x), Constraint::Label(x, 97), Constraint::Label(x, 98)]);
     }
@@ -98,16 +119,23 @@ pub fn all_records(variables: u8) -> Vec<Constraint> {
 fn plain_records(variables: u8) -> Vec<Constraint> {
     let is_plain = |&record: &Constraint| match record {
         Constraint::Child(x, y) | Constraint::Below(x, y) | Constraint::StrictlyBelow(x, y) => x != y,
+        Constraint::Before(x, y) => x != y,
         Constraint::Same(x, y) | Constraint::Differ(x, y) => x < y,
         _ => true,
     };
     all_records(variables).into_iter().filter(is_plain).collect()
 }
 
-/// The plain records of the kinds that make and decide joins; the other kinds are made of these, or labels.
+/// The plain records of the kinds that make and decide the joins of document 01; the other kinds are made of these, labels, or before.
 pub fn joining_records(variables: u8) -> Vec<Constraint> {
     let joins = |record: &Constraint| [1, 2, 5, 6, 7].contains(&record.kind());
     plain_records(variables).into_iter().filter(joins).collect()
+}
+
+/// Before, and the kinds that stand in the rules of before and in the third join.
+pub fn sibling_records(variables: u8) -> Vec<Constraint> {
+    let is_sibling = |record: &Constraint| [1, 2, 9].contains(&record.kind());
+    plain_records(variables).into_iter().filter(is_sibling).collect()
 }
 
 /// Visits every choice of `size` of the records, repeats included, order left out.

@@ -2,8 +2,9 @@
 //! refused files, and small answers to two records in both orders.
 
 use crate::rounds::Solved;
-use crate::small::{all_records, for_each_choice, joining_records};
+use crate::small::{all_records, for_each_choice, joining_records, sibling_records};
 use crate::Comparison;
+use questions::has_siblings;
 use questions::shuffle::{in_order, permutations, renumbered};
 use second::constraint::{self, number_of_variables, Constraint};
 use second::verdict::SolverVerdict;
@@ -15,23 +16,39 @@ impl Comparison {
         self.all_shuffles_of(
             ["orders of up to 3 records over 2 variables", "renumberings of up to 3 records over 2 variables"],
             &all_records(2),
+            |_| true,
         );
         self.all_shuffles_of(
             ["orders of up to 3 records over 3 variables", "renumberings of up to 3 records over 3 variables"],
             &all_records(3),
+            |_| true,
         );
         self.all_shuffles_of(
             ["orders of up to 3 joining records over 4", "renumberings of up to 3 joining records over 4"],
             &joining_records(4),
+            |_| true,
+        );
+        self.all_shuffles_of(
+            ["orders of up to 3 records with siblings over 4", "renumberings of up to 3 records with siblings over 4"],
+            &sibling_records(4),
+            has_siblings,
         );
         self.all_orders_of_bad_records();
         self.all_small_answers_in_both_orders();
     }
 
-    /// Every set of up to 3 of the records.
-    fn all_shuffles_of(&mut self, [orders, renumberings]: [&'static str; 2], records: &[Constraint]) {
+    /// Every set of up to 3 of the records that is chosen.
+    fn all_shuffles_of(
+        &mut self,
+        [orders, renumberings]: [&'static str; 2],
+        records: &[Constraint],
+        is_chosen: fn(&[Constraint]) -> bool,
+    ) {
         for size in 1..=3 {
             for_each_choice(records, size, &mut Vec::new(), &mut |constraints| {
+                if !is_chosen(constraints) {
+                    return;
+                }
                 let file = constraint::write(constraints);
                 let verdict = second::solve(&file, LEAST_BUFFER, u32::MAX);
                 let solved = Solved { file, allowance: u32::MAX, verdict };
@@ -75,7 +92,7 @@ impl Comparison {
 
     /// Up to 4 records, good ones and some for each of questions 3 to 6.
     fn all_orders_of_bad_records(&mut self) {
-        const RECORDS: [[u8; 4]; 8] = [
+        const RECORDS: [[u8; 4]; 10] = [
             [1, 0, 1, 0],
             [8, 0, 0, 97],
             [0, 16, 0, 0],
@@ -84,6 +101,8 @@ impl Comparison {
             [8, 0, 1, 0],
             [6, 0, 16, 0],
             [5, 0, 1, 97],
+            [9, 0, 16, 0],
+            [10, 0, 0, 0],
         ];
         for size in 1..=4 {
             for_each_choice(&RECORDS, size, &mut Vec::new(), &mut |records| {

@@ -10,8 +10,17 @@ pub const CHILD_0_1: [u8; 4] = [1, 0, 1, 0];
 /// Node 1 under node 0, with variable 0 on node 0 and variable 1 on node 1.
 pub const PARENT_AND_CHILD: [u8; 16] = [1, 0, 0, 0, 1, 1, 0, 0, 2, 0, 0, 0, 2, 1, 1, 0];
 /// Of each kind, in order, a record that this does not meet.
-const UNMET: [[u8; 4]; 8] =
-    [[1, 1, 0, 0], [2, 1, 0, 0], [3, 1, 0, 0], [4, 0, 1, 0], [5, 0, 0, 0], [6, 1, 0, 0], [7, 0, 0, 0], [8, 0, 0, 97]];
+const UNMET: [[u8; 4]; 9] = [
+    [1, 1, 0, 0],
+    [2, 1, 0, 0],
+    [3, 1, 0, 0],
+    [4, 0, 1, 0],
+    [5, 0, 0, 0],
+    [6, 1, 0, 0],
+    [7, 0, 0, 0],
+    [8, 0, 0, 97],
+    [9, 0, 1, 0],
+];
 /// Document 01's listing, M10.
 pub const LISTING: [u8; 16] = [6, 1, 0, 0, 1, 1, 2, 0, 2, 0, 2, 0, 5, 0, 1, 0];
 
@@ -45,7 +54,7 @@ impl Trial {
     pub fn every_position(&mut self) {
         for position in 0..256 {
             let mut file = CHILD_0_1.repeat(256);
-            file[4 * position..][..4].copy_from_slice(&UNMET[position % 8]);
+            file[4 * position..][..4].copy_from_slice(&UNMET[position % UNMET.len()]);
             self.mark_as_second(&format!("unmet at {position}"), &file, &PARENT_AND_CHILD);
         }
     }

@@ -52,6 +52,8 @@ impl Trial {
             b"self::a/self::b\n",
             b"/self::a/child::b/descendant::d\n/self::a/child::c/descendant::d\n",
             b"/self::a/child::b/descendant::d\n/self::a/descendant::c/descendant::d\n",
+            b"child::a/following-sibling::b\nchild::*/preceding-sibling::b\n",
+            b"/following-sibling::a\n",
             &right_text(1_024),
             &right_text(1_025),
             b"",

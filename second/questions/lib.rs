@@ -60,13 +60,13 @@ pub struct Mix {
 impl Mix {
     pub fn random(random: &mut Random) -> Mix {
         let mut kinds = Vec::new();
-        for kind in 1..=8 {
+        for kind in 1..=9 {
             for _ in 0..random.pick(&[0, 1, 1, 2, 5]) {
                 kinds.push(kind);
             }
         }
         if kinds.is_empty() {
-            kinds.extend(1..=8);
+            kinds.extend(1..=9);
         }
         Mix { kinds, lowest: random.pick(&[1, 2, 3, 16, 16]) }
     }
@@ -83,8 +83,13 @@ pub fn random_constraint(random: &mut Random, variables: usize, mix: &Mix) -> Co
         5 => Constraint::Differ(x, y),
         6 => Constraint::Root(x),
         7 => Constraint::Leaf(x),
-        _ => Constraint::Label(x, random.pick(&LABELS)),
+        8 => Constraint::Label(x, random.pick(&LABELS)),
+        _ => Constraint::Before(x, y),
     }
+}
+
+pub fn has_siblings(constraints: &[Constraint]) -> bool {
+    constraints.iter().any(|constraint| matches!(constraint, Constraint::Before(_, _)))
 }
 
 pub fn free(random: &mut Random, variables: usize, records: usize, mix: &Mix) -> Vec<Constraint> {
@@ -109,6 +114,10 @@ pub fn planted(
             Constraint::Label(x, _) if tree.label(assignment.node_of(x)) > 0 => {
                 Constraint::Label(x, tree.label(assignment.node_of(x)))
             }
+            Constraint::Before(x, y) => match on_later_siblings(tree, assignment, x).as_slice() {
+                [] => Constraint::Before(x, y),
+                later => Constraint::Before(x, random.pick(later)),
+            },
             other => other,
         };
         if meets(tree, assignment, constraint) {
@@ -116,6 +125,11 @@ pub fn planted(
         }
     }
     constraints
+}
+
+fn on_later_siblings(tree: &Tree, assignment: &Assignment, x: Variable) -> Vec<Variable> {
+    let variables = (0..assignment.0.len() as u8).map(Variable);
+    variables.filter(|&y| meets(tree, assignment, Constraint::Before(x, y))).collect()
 }
 
 /// A long search: a path from the root down to one variable, and others that must stand on that path, some of them apart. Pigeons in
@@ -132,6 +146,35 @@ pub fn crowded_path(random: &mut Random) -> Vec<Constraint> {
     constraints.extend(crowd.iter().map(|&x| Constraint::Below(x, path[steps])));
     for (at, &x) in crowd[..apart].iter().enumerate() {
         constraints.extend(crowd[..at].iter().map(|&y| Constraint::Differ(y, x)));
+    }
+    random.shuffle(&mut constraints);
+    constraints
+}
+
+/// A long search by the third join: siblings in a row, and others that must stand at or above one of them, some of them apart, some in the
+/// row themselves. Often two more are earlier than a third, the one above the other and apart from it: there is no tree, and every way is
+/// tried.
+pub fn crowded_siblings(random: &mut Random) -> Vec<Constraint> {
+    let siblings = 2 + random.below(3);
+    let others = 2 + random.below(5);
+    let apart = random.below(others + 1);
+    let mut names: Vec<Variable> = (0..(siblings + others + 3) as u8).map(Variable).collect();
+    random.shuffle(&mut names);
+    let (row, rest) = names.split_at(siblings);
+    let (crowd, last) = rest.split_at(others);
+    let mut constraints: Vec<Constraint> = row.windows(2).map(|pair| Constraint::Before(pair[0], pair[1])).collect();
+    for &a in crowd {
+        constraints.push(Constraint::Below(a, random.pick(&row[1..])));
+        if random.one_in(4) {
+            constraints.push(Constraint::Before(row[0], a));
+        }
+    }
+    for (at, &a) in crowd[..apart].iter().enumerate() {
+        constraints.extend(crowd[..at].iter().filter(|_| random.one_in(2)).map(|&b| Constraint::Differ(b, a)));
+    }
+    if random.one_in(2) {
+        constraints.extend([Constraint::Before(last[0], last[2]), Constraint::Before(last[1], last[2])]);
+        constraints.extend([Constraint::Below(last[0], last[1]), Constraint::Differ(last[0], last[1])]);
     }
     random.shuffle(&mut constraints);
     constraints

@@ -126,7 +126,7 @@ pub fn nested(random: &mut Random, depth: usize, mix: &PathMix) -> Path {
 
 /// What a hand might slip: bytes lacking, doubled, changed or moved, words of the language in the wrong place, lines too many or too few.
 pub fn damaged_text(random: &mut Random, text: &[u8]) -> Vec<u8> {
-    const WORDS: [&[u8]; 20] = [
+    const WORDS: [&[u8]; 22] = [
         b"/",
         b"//",
         b"[",
@@ -145,6 +145,8 @@ pub fn damaged_text(random: &mut Random, text: &[u8]) -> Vec<u8> {
         b"child::a",
         b"-or-self",
         b"descendant",
+        b"-sibling",
+        b"following",
         b"self::*",
         b"\0",
     ];

@@ -9,12 +9,12 @@ pub fn in_order(file: &[u8], order: &[usize]) -> Vec<u8> {
     order.iter().flat_map(|&position| records[position]).copied().collect()
 }
 
-/// Each variable gets the number that `numbers` has for it. Kinds 1 to 5 name x and y, kinds 6 to 8 name x alone.
+/// Each variable gets the number that `numbers` has for it. Kinds 1 to 5 and 9 name x and y, kinds 6 to 8 name x alone.
 pub fn renumbered(file: &[u8], numbers: &[usize]) -> Vec<u8> {
     let number = |variable: u8| numbers[variable as usize] as u8;
     let record_of = |record: &[u8]| {
         let (kind, x, y, label) = (record[0], record[1], record[2], record[3]);
-        let names_y = kind <= 5;
+        let names_y = !(6..=8).contains(&kind);
         [kind, number(x), if names_y { number(y) } else { y }, label]
     };
     file.chunks(4).flat_map(record_of).collect()

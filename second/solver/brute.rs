@@ -1,15 +1,27 @@
-//! The meaning itself, tried out: every tree up to a size and every assignment.
+//! The meaning itself, tried out: every tree up to a size and every assignment. What a record asks does not hang on how the nodes are
+//! numbered, beyond the order of siblings, so each ordered tree is tried once.
 
 use crate::constraint::{number_of_variables, Constraint};
 use crate::tree::{first_unmet, Assignment, Node, Tree};
-use std::collections::BTreeSet;
 
 /// Every tree shape of this many nodes, as the list of the parents of nodes 1, 2, ...
 pub fn shapes(nodes: usize) -> Vec<Vec<Node>> {
+    grown_shapes(nodes, |_| 0)
+}
+
+/// Every ordered tree once: numbered level by level, from first to last child. No parent is then smaller than the one before it, and a list
+/// of such parents numbers its tree so.
+pub fn ordered_shapes(nodes: usize) -> Vec<Vec<Node>> {
+    grown_shapes(nodes, |shape| shape.last().map_or(0, |parent| parent.0))
+}
+
+/// Node by node, each with every parent from `least_parent` on.
+fn grown_shapes(nodes: usize, least_parent: impl Fn(&[Node]) -> usize) -> Vec<Vec<Node>> {
     let mut shapes = vec![Vec::new()];
     for node in 1..nodes {
         let grown = |shape: &Vec<Node>| {
-            (0..node).map(|parent| [shape.as_slice(), &[Node(parent)]].concat()).collect::<Vec<_>>()
+            let parents = least_parent(shape)..node;
+            parents.map(|parent| [shape.as_slice(), &[Node(parent)]].concat()).collect::<Vec<_>>()
         };
         shapes = shapes.iter().flat_map(grown).collect();
     }
@@ -35,7 +47,7 @@ pub fn tree_of_shape(shape: &[Node], labels: Vec<u8>) -> Tree {
 pub fn some_tree_meets(constraints: &[Constraint], most_nodes: usize) -> bool {
     let variables = number_of_variables(constraints);
     (1..=most_nodes).any(|nodes| {
-        let mut trees: Vec<Tree> = shapes(nodes).iter().map(|shape| tree_of_shape(shape, Vec::new())).collect();
+        let mut trees: Vec<Tree> = ordered_shapes(nodes).iter().map(|shape| tree_of_shape(shape, Vec::new())).collect();
         assignments(variables, nodes).iter().any(|assignment| {
             let labels = asked_labels(constraints, assignment, nodes);
             trees.iter_mut().any(|tree| {
@@ -58,32 +70,15 @@ fn asked_labels(constraints: &[Constraint], assignment: &Assignment, nodes: usiz
     labels
 }
 
-/// Every tree of this many nodes with labels of these, once up to the numbering of its nodes.
+/// Every ordered tree of this many nodes with labels of these.
 pub fn trees(nodes: usize, labels: &[u8]) -> Vec<Tree> {
-    let mut known = BTreeSet::new();
-    let mut trees = Vec::new();
-    for shape in shapes(nodes) {
-        for labelling in words(labels, nodes) {
-            let tree = tree_of_shape(&shape, labelling);
-            if known.insert(code(&tree, Node(0))) {
-                trees.push(tree);
-            }
-        }
-    }
-    trees
+    let labellings = words(labels, nodes);
+    let labelled = |shape: Vec<Node>| labellings.iter().map(move |labels| tree_of_shape(&shape, labels.clone()));
+    ordered_shapes(nodes).into_iter().flat_map(labelled).collect()
 }
 
 fn words(letters: &[u8], length: usize) -> Vec<Vec<u8>> {
     (0..length).fold(vec![Vec::new()], |words, _| {
         words.iter().flat_map(|word| letters.iter().map(|&letter| [word.as_slice(), &[letter]].concat())).collect()
     })
-}
-
-/// The same for two trees exactly where one is the other numbered anew: label, number of children, and their codes in order.
-fn code(tree: &Tree, node: Node) -> Vec<u8> {
-    let children = (0..tree.parents.len()).map(Node).filter(|&child| tree.parent(child) == Some(node));
-    let mut codes: Vec<Vec<u8>> = children.map(|child| code(tree, child)).collect();
-    codes.sort();
-    let head = vec![tree.label(node), codes.len() as u8];
-    std::iter::once(head).chain(codes).flatten().collect()
 }

@@ -1,4 +1,5 @@
-//! Facts and the settled set: the least set that holds the given facts and is closed under the rules (source 000, rules 1 to 9).
+//! Facts and the settled set: the least set that holds the given facts and is closed under the rules (source 000, rules 1 to 9, and
+//! document 02, request (iii), for before).
 //! A round draws every conclusion of every rule from the facts held; rounds are repeated until one brings nothing new.
 
 use crate::constraint::{Constraint, Variable};
@@ -9,6 +10,7 @@ pub enum Fact {
     Child(Variable, Variable),
     Below(Variable, Variable),
     Differ(Variable, Variable),
+    Before(Variable, Variable),
     Root(Variable),
     Leaf(Variable),
     Label(Variable, u8),
@@ -31,7 +33,21 @@ pub fn facts_of(constraint: Constraint) -> Vec<Fact> {
         Constraint::Root(x) => vec![Root(x)],
         Constraint::Leaf(x) => vec![Leaf(x)],
         Constraint::Label(x, label) => vec![Label(x, label)],
+        Constraint::Before(x, y) => vec![Before(x, y)],
     }
+}
+
+/// Why no tree meets a set of facts.
+#[derive(Clone, Copy, PartialEq, Eq, PartialOrd, Ord, Debug)]
+pub enum Clash {
+    /// differ(x,x), rule 8.
+    DiffersFromItself,
+    /// Rule 9.
+    TwoLabels,
+    /// before(x,y) with below(x,y).
+    LaterSiblingBelow,
+    /// before(x,y) with below(y,x).
+    EarlierSiblingBelow,
 }
 
 /// A settled set without a clash.
@@ -54,44 +70,49 @@ impl Settled {
         self.below(x, y) && self.below(y, x)
     }
 
+    pub fn before(&self, x: Variable, y: Variable) -> bool {
+        self.holds(Before(x, y))
+    }
+
     pub fn label(&self, x: Variable) -> Option<u8> {
         labels_of(&self.facts, x).next()
     }
 
-    /// The settled set of these facts and some more, or nothing if it has a clash.
-    pub fn with(&self, more: &[Fact]) -> Option<Settled> {
+    /// The settled set of these facts and some more, or its clash.
+    pub fn with(&self, more: &[Fact]) -> Result<Settled, Clash> {
         let mut facts = self.facts.clone();
         facts.extend(more);
         settle(self.variables.clone(), facts)
     }
 }
 
-/// The settled set of the constraints over variables 0 to n−1, or nothing if it has a clash.
-pub fn settle_constraints(constraints: &[Constraint], variables: usize) -> Option<Settled> {
+/// The settled set of the constraints over variables 0 to n−1, or its clash.
+pub fn settle_constraints(constraints: &[Constraint], variables: usize) -> Result<Settled, Clash> {
     let variables = (0..variables as u8).map(Variable).collect();
     let facts = constraints.iter().flat_map(|&constraint| facts_of(constraint)).collect();
     settle(variables, facts)
 }
 
-fn settle(variables: Vec<Variable>, mut facts: BTreeSet<Fact>) -> Option<Settled> {
+fn settle(variables: Vec<Variable>, mut facts: BTreeSet<Fact>) -> Result<Settled, Clash> {
     loop {
-        if has_clash(&facts) {
-            return None;
+        if let Some(clash) = first_clash(&facts) {
+            return Err(clash);
         }
         let held = facts.len();
         facts.extend(conclusions(&variables, &facts));
         if facts.len() == held {
-            return Some(Settled { variables, facts });
+            return Ok(Settled { variables, facts });
         }
     }
 }
 
-/// Rules 8 and 9.
-fn has_clash(facts: &BTreeSet<Fact>) -> bool {
-    facts.iter().any(|&fact| match fact {
-        Differ(x, y) => x == y,
-        Label(x, label) => labels_of(facts, x).any(|other| other != label),
-        _ => false,
+fn first_clash(facts: &BTreeSet<Fact>) -> Option<Clash> {
+    facts.iter().find_map(|&fact| match fact {
+        Differ(x, y) if x == y => Some(Clash::DiffersFromItself),
+        Label(x, label) if labels_of(facts, x).any(|other| other != label) => Some(Clash::TwoLabels),
+        Before(x, y) if facts.contains(&Below(x, y)) => Some(Clash::LaterSiblingBelow),
+        Before(x, y) if facts.contains(&Below(y, x)) => Some(Clash::EarlierSiblingBelow),
+        _ => None,
     })
 }
 
@@ -102,7 +123,7 @@ fn labels_of(facts: &BTreeSet<Fact>, x: Variable) -> impl Iterator<Item = u8> + 
     })
 }
 
-/// What rules 1 to 7 give in one step, and the symmetry of differ.
+/// What rules 1 to 7 and those of before give in one step, and the symmetry of differ.
 fn conclusions(variables: &[Variable], facts: &BTreeSet<Fact>) -> Vec<Fact> {
     let mut drawn: Vec<Fact> = variables.iter().map(|&x| Below(x, x)).collect();
     for &fact in facts {
@@ -129,8 +150,26 @@ fn conclusions(variables: &[Variable], facts: &BTreeSet<Fact>) -> Vec<Fact> {
                 }
             }
             Differ(x, y) => drawn.push(Differ(y, x)),
+            Before(x, y) => drawn.extend(conclusions_of_siblings(variables, facts, x, y)),
             Root(x) => drawn.extend(variables.iter().map(|&y| Below(x, y))),
             Leaf(_) | Label(_, _) => {}
+        }
+    }
+    drawn
+}
+
+/// From before(x,y): before chains, gives differ, and passes a child fact to the other sibling.
+fn conclusions_of_siblings(variables: &[Variable], facts: &BTreeSet<Fact>, x: Variable, y: Variable) -> Vec<Fact> {
+    let mut drawn = vec![Differ(x, y)];
+    for &z in variables {
+        if facts.contains(&Before(y, z)) {
+            drawn.push(Before(x, z));
+        }
+        if facts.contains(&Child(z, x)) {
+            drawn.push(Child(z, y));
+        }
+        if facts.contains(&Child(z, y)) {
+            drawn.push(Child(z, x));
         }
     }
     drawn
@@ -151,6 +190,7 @@ fn with_one_place_changed(fact: Fact, variable: Variable, other: Variable) -> Ve
         Child(x, y) => change_pair(x, y, Child),
         Below(x, y) => change_pair(x, y, Below),
         Differ(x, y) => change_pair(x, y, Differ),
+        Before(x, y) => change_pair(x, y, Before),
         Root(x) if x == variable => changed.push(Root(other)),
         Leaf(x) if x == variable => changed.push(Leaf(other)),
         Label(x, label) if x == variable => changed.push(Label(other, label)),

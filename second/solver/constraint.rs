@@ -1,4 +1,4 @@
-//! Constraint files: the eight kinds, and questions 1 to 6.
+//! Constraint files: the nine kinds, and questions 1 to 6.
 
 use crate::Refusal;
 
@@ -15,12 +15,14 @@ pub enum Constraint {
     Root(Variable),
     Leaf(Variable),
     Label(Variable, u8),
+    Before(Variable, Variable),
 }
 
 use Constraint::*;
 
-/// The names of kinds 1 to 8, as the examples write them.
-pub const KIND_NAMES: [&str; 8] = ["child", "below", "strictly-below", "same", "differ", "root", "leaf", "label"];
+/// The names of kinds 1 to 9, as the examples write them.
+pub const KIND_NAMES: [&str; 9] =
+    ["child", "below", "strictly-below", "same", "differ", "root", "leaf", "label", "before"];
 
 impl Constraint {
     pub fn kind(self) -> u8 {
@@ -37,12 +39,13 @@ impl Constraint {
             Root(x) => [6, x.0, 0, 0],
             Leaf(x) => [7, x.0, 0, 0],
             Label(x, label) => [8, x.0, 0, label],
+            Before(x, y) => [9, x.0, y.0, 0],
         }
     }
 
     fn variables(self) -> Vec<Variable> {
         match self {
-            Child(x, y) | Below(x, y) | StrictlyBelow(x, y) | Same(x, y) | Differ(x, y) => vec![x, y],
+            Child(x, y) | Below(x, y) | StrictlyBelow(x, y) | Same(x, y) | Differ(x, y) | Before(x, y) => vec![x, y],
             Root(x) | Leaf(x) | Label(x, _) => vec![x],
         }
     }
@@ -59,10 +62,10 @@ pub fn read(file: &[u8]) -> Result<Vec<Constraint>, Refusal> {
 }
 
 fn read_record(kind: u8, x: u8, y: u8, label: u8) -> Result<Constraint, Refusal> {
-    if !(1..=8).contains(&kind) {
+    if !(1..=9).contains(&kind) {
         return Err(Refusal(3));
     }
-    let names_y = kind <= 5;
+    let names_y = kind <= 5 || kind == 9;
     let has_label = kind == 8;
     if x > 15 || (names_y && y > 15) {
         return Err(Refusal(4));
@@ -82,7 +85,8 @@ fn read_record(kind: u8, x: u8, y: u8, label: u8) -> Result<Constraint, Refusal>
         5 => Differ(x, y),
         6 => Root(x),
         7 => Leaf(x),
-        _ => Label(x, label),
+        8 => Label(x, label),
+        _ => Before(x, y),
     })
 }
 

@@ -14,7 +14,7 @@ pub mod translate;
 pub mod tree;
 pub mod verdict;
 
-use search::Outcome;
+use search::{Outcome, Trace};
 use verdict::{MarkerVerdict, PathsVerdict, SolverVerdict};
 
 /// The number of the question that a file or buffer fails.
@@ -27,22 +27,29 @@ pub const LEAST_BUFFER: usize = 132;
 pub const LEAST_RECORDS_BUFFER: usize = 1024;
 
 pub fn solve(constraint_file: &[u8], buffer_length: usize, allowance: u32) -> SolverVerdict {
+    solve_traced(constraint_file, buffer_length, allowance).0
+}
+
+/// The verdict, and how the search came to it; a refused file is not searched.
+pub fn solve_traced(constraint_file: &[u8], buffer_length: usize, allowance: u32) -> (SolverVerdict, Trace) {
+    let refused = |refusal| (SolverVerdict::Refused(refusal), Trace::default());
     let constraints = match constraint::read(constraint_file) {
         Ok(constraints) => constraints,
-        Err(refusal) => return SolverVerdict::Refused(refusal),
+        Err(refusal) => return refused(refusal),
     };
     if buffer_length < LEAST_BUFFER {
-        return SolverVerdict::Refused(Refusal(7));
+        return refused(Refusal(7));
     }
-    let (outcome, count) = search::search(&constraints, allowance);
-    match outcome {
+    let (outcome, count, trace) = search::search(&constraints, allowance);
+    let verdict = match outcome {
         Outcome::None => SolverVerdict::None { count },
         Outcome::Spent => SolverVerdict::Spent { count },
         Outcome::Solved(settled) => {
             let (tree, assignment) = readoff::read_off(&settled);
             SolverVerdict::Tree { count, answer: answer::write(&tree, &assignment) }
         }
-    }
+    };
+    (verdict, trace)
 }
 
 pub fn mark(constraint_file: &[u8], answer_file: &[u8]) -> MarkerVerdict {

@@ -1,5 +1,5 @@
-//! Questions set as paths (document 02, request (i)): the syntax of a text, its reader and its printer. The reader takes a text apart from
-//! outside to inside: lines, then steps at the `/` outside brackets, then the brackets of a step.
+//! Questions set as paths (document 02, requests (i) and (iii)): the syntax of a text, its reader and its printer. The reader takes a text
+//! apart from outside to inside: lines, then steps at the `/` outside brackets, then the brackets of a step.
 
 use std::fmt;
 
@@ -29,6 +29,8 @@ pub enum Axis {
     Ancestor,
     DescendantOrSelf,
     AncestorOrSelf,
+    FollowingSibling,
+    PrecedingSibling,
 }
 
 #[derive(Clone, Copy, PartialEq, Eq, Debug)]
@@ -37,7 +39,7 @@ pub enum Test {
     Any,
 }
 
-pub const AXES: [(Axis, &str); 7] = [
+pub const AXES: [(Axis, &str); 9] = [
     (Axis::Itself, "self"),
     (Axis::Child, "child"),
     (Axis::Parent, "parent"),
@@ -45,6 +47,8 @@ pub const AXES: [(Axis, &str); 7] = [
     (Axis::Ancestor, "ancestor"),
     (Axis::DescendantOrSelf, "descendant-or-self"),
     (Axis::AncestorOrSelf, "ancestor-or-self"),
+    (Axis::FollowingSibling, "following-sibling"),
+    (Axis::PrecedingSibling, "preceding-sibling"),
 ];
 
 impl Axis {

@@ -26,10 +26,25 @@ fn parent_group(settled: &Settled, group: Group) -> Option<Group> {
     above.iter().copied().find(|&nearest| above.iter().all(|&other| settled.below(other, nearest)))
 }
 
+/// The groups in the order of their nodes: by depth, which is the number of groups above, since these form a chain; at one depth the next is
+/// the lowest of those with no stated earlier sibling that still waits.
+fn in_order_of_nodes(settled: &Settled) -> Vec<Group> {
+    let with_depth = |group: Group| (groups_properly_above(settled, group).len(), group);
+    let mut waiting: Vec<(usize, Group)> = groups(settled).into_iter().map(with_depth).collect();
+    waiting.sort();
+    let mut ordered = Vec::new();
+    while let Some(&(least, _)) = waiting.first() {
+        let is_next = |&(depth, group): &(usize, Group)| {
+            depth == least && !waiting.iter().any(|&(_, earlier)| settled.before(earlier, group))
+        };
+        let next = waiting.iter().position(is_next).expect("before goes round in no ring");
+        ordered.push(waiting.remove(next).1);
+    }
+    ordered
+}
+
 pub fn read_off(settled: &Settled) -> (Tree, Assignment) {
-    let mut groups = groups(settled);
-    // By depth, then by lowest variable; the groups above one form a chain, so their number is its depth.
-    groups.sort_by_key(|&group| (groups_properly_above(settled, group).len(), group));
+    let groups = in_order_of_nodes(settled);
     let tops = groups.iter().filter(|&&group| parent_group(settled, group).is_none()).count();
     let blank_top = tops != 1;
 

@@ -1,7 +1,8 @@
-//! Joins, choices and the allowance (source 000, section 3.4, in document 01's fixed order).
+//! Joins, choices and the allowance (source 000, section 3.4, in document 01's fixed order; document 02, request (iii), for the third join).
 
-use crate::closure::{same, settle_constraints, Fact, Settled};
+use crate::closure::{same, settle_constraints, Clash, Fact, Settled};
 use crate::constraint::{number_of_variables, Constraint, Variable};
+use std::collections::BTreeSet;
 
 #[derive(Debug)]
 pub enum Outcome {
@@ -15,6 +16,7 @@ pub enum Outcome {
 pub enum Join {
     Parent { x: Variable, y: Variable, z: Variable },
     Chain { x: Variable, y: Variable },
+    Sibling { a: Variable, x: Variable, y: Variable },
 }
 
 impl Join {
@@ -23,11 +25,12 @@ impl Join {
         match self {
             Join::Parent { x, y, z } => [vec![Fact::Below(x, y)], same(x, z)],
             Join::Chain { x, y } => [vec![Fact::Below(x, y)], vec![Fact::Below(y, x)]],
+            Join::Sibling { a, x, y } => [vec![Fact::Below(a, x)], same(a, y)],
         }
     }
 }
 
-/// Parent joins before chain joins; within a kind the smallest z, then x, then y.
+/// Parent joins, then chain joins, each by the smallest z, then x, then y; then sibling joins, the third kind, by y, then a, then x.
 pub fn first_join(settled: &Settled) -> Option<Join> {
     first_triple(settled, |z, x, y| {
         settled.holds(Fact::Child(y, z)) && settled.below(x, z) && !settled.same(x, z) && !settled.below(x, y)
@@ -39,17 +42,25 @@ pub fn first_join(settled: &Settled) -> Option<Join> {
         })
         .map(|(_, x, y)| Join::Chain { x, y })
     })
+    .or_else(|| {
+        first_triple(settled, |y, a, x| {
+            let are_siblings = settled.before(x, y) || settled.before(y, x);
+            are_siblings && settled.below(a, y) && !settled.same(a, y) && !settled.below(a, x)
+        })
+        .map(|(y, a, x)| Join::Sibling { a, x, y })
+    })
 }
 
+/// The first by its first variable, then by its second, then by its third.
 fn first_triple(
     settled: &Settled,
     is_join: impl Fn(Variable, Variable, Variable) -> bool,
 ) -> Option<(Variable, Variable, Variable)> {
-    for &z in &settled.variables {
-        for &x in &settled.variables {
-            for &y in &settled.variables {
-                if is_join(z, x, y) {
-                    return Some((z, x, y));
+    for &first in &settled.variables {
+        for &second in &settled.variables {
+            for &third in &settled.variables {
+                if is_join(first, second, third) {
+                    return Some((first, second, third));
                 }
             }
         }
@@ -57,31 +68,56 @@ fn first_triple(
     None
 }
 
-/// The outcome and the count of choices.
-pub fn search(constraints: &[Constraint], allowance: u32) -> (Outcome, u32) {
-    let variables = number_of_variables(constraints);
-    let mut count = 0;
-    let outcome = explore(settle_constraints(constraints, variables), allowance, &mut count);
-    (outcome, count)
+/// What a search did, for those who ask whether all of it comes up.
+#[derive(Default, Debug)]
+pub struct Trace {
+    /// What ended its lines.
+    pub clashes: BTreeSet<Clash>,
+    /// The alternatives of the line that ended in a tree, the innermost first: the join, and 0 or 1.
+    pub line: Vec<(Join, usize)>,
 }
 
-/// Searches one line to its end; `settled` is nothing where the line has a clash.
-fn explore(settled: Option<Settled>, allowance: u32, count: &mut u32) -> Outcome {
-    let Some(settled) = settled else {
-        return Outcome::None;
-    };
-    let Some(join) = first_join(&settled) else {
-        return Outcome::Solved(settled);
-    };
-    for alternative in join.alternatives() {
-        if *count == allowance {
-            return Outcome::Spent;
+struct Search {
+    allowance: u32,
+    count: u32,
+    trace: Trace,
+}
+
+/// The outcome, the count of choices, and how it came about.
+pub fn search(constraints: &[Constraint], allowance: u32) -> (Outcome, u32, Trace) {
+    let variables = number_of_variables(constraints);
+    let mut search = Search { allowance, count: 0, trace: Trace::default() };
+    let outcome = search.explore(settle_constraints(constraints, variables));
+    (outcome, search.count, search.trace)
+}
+
+impl Search {
+    /// Searches one line to its end.
+    fn explore(&mut self, settled: Result<Settled, Clash>) -> Outcome {
+        let settled = match settled {
+            Ok(settled) => settled,
+            Err(clash) => {
+                self.trace.clashes.insert(clash);
+                return Outcome::None;
+            }
+        };
+        let Some(join) = first_join(&settled) else {
+            return Outcome::Solved(settled);
+        };
+        for (at, alternative) in join.alternatives().iter().enumerate() {
+            if self.count == self.allowance {
+                return Outcome::Spent;
+            }
+            self.count += 1;
+            match self.explore(settled.with(alternative)) {
+                Outcome::None => continue,
+                Outcome::Spent => return Outcome::Spent,
+                solved => {
+                    self.trace.line.push((join, at));
+                    return solved;
+                }
+            }
         }
-        *count += 1;
-        match explore(settled.with(&alternative), allowance, count) {
-            Outcome::None => continue,
-            found_or_spent => return found_or_spent,
-        }
+        Outcome::None
     }
-    Outcome::None
 }

@@ -1,5 +1,5 @@
-//! What a path selects on a tree: source 004, definitions 2.2 and 2.3, the cases by their numbers there. Cases 6 and 7 (siblings) and 12 to
-//! 14 (intersection, union, difference) are none of request (i)'s.
+//! What a path selects on a tree: source 004, definitions 2.2 and 2.3, the cases by their numbers there. Cases 12 to 14 (intersection, union,
+//! difference) are none of requests (i) and (iii).
 
 use crate::path::{Axis, Path, Step, Test};
 use crate::tree::{Node, Tree};
@@ -11,6 +11,8 @@ pub enum Expression {
     Down,
     UpStar,
     DownStar,
+    Left,
+    Right,
     Root,
     Tag(u8),
     Then(Box<Expression>, Box<Expression>),
@@ -39,6 +41,8 @@ fn step_expression(step: &Step) -> Expression {
         Axis::Ancestor => then(Up, UpStar),
         Axis::DescendantOrSelf => DownStar,
         Axis::AncestorOrSelf => UpStar,
+        Axis::FollowingSibling => Right,
+        Axis::PrecedingSibling => Left,
     };
     let tested = match step.test {
         Test::Letter(letter) => then(axis, Tag(letter)),
@@ -75,6 +79,10 @@ fn pairs(tree: &Tree, expression: &Expression) -> Pairs {
         UpStar => Pairs::of(tree, |n, m| tree.is_at_or_above(m, n)),
         // (5)
         DownStar => Pairs::of(tree, |n, m| tree.is_at_or_above(n, m)),
+        // (6)
+        Left => Pairs::of(tree, |n, m| m.0 < n.0 && have_one_parent(tree, n, m)),
+        // (7)
+        Right => Pairs::of(tree, |n, m| n.0 < m.0 && have_one_parent(tree, n, m)),
         // (8)
         Root => Pairs::of(tree, |_, m| tree.parent(m).is_none()),
         // (9)
@@ -93,6 +101,11 @@ fn pairs(tree: &Tree, expression: &Expression) -> Pairs {
             Pairs::of(tree, |n, m| path.holds(n, m) && predicate.0[m.0] != 0)
         }
     }
+}
+
+/// "There is an n'' such that" it is the parent of both. Of two siblings the one with the smaller number comes first.
+fn have_one_parent(tree: &Tree, n: Node, m: Node) -> bool {
+    (0..tree.parents.len()).map(Node).any(|parent| tree.parent(n) == Some(parent) && tree.parent(m) == Some(parent))
 }
 
 /// The nodes that the line selects from some node.

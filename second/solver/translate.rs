@@ -1,4 +1,4 @@
-//! The variables and records of a text of paths (document 02, request (i)), by a walk over its syntax in text order.
+//! The variables and records of a text of paths (document 02, requests (i) and (iii)), by a walk over its syntax in text order.
 
 use crate::constraint::{Constraint, Variable};
 use crate::path::{Axis, Path, Step, Test};
@@ -86,7 +86,7 @@ impl Walk {
     }
 }
 
-/// x is the node left and y the one reached, the other way round for parent and ancestor axes.
+/// x is the node left and y the one reached, the other way round for the parent, ancestor and preceding-sibling axes.
 fn axis_record(axis: Axis, left: Variable, reached: Variable) -> Constraint {
     match axis {
         Axis::Itself => Constraint::Same(left, reached),
@@ -96,5 +96,7 @@ fn axis_record(axis: Axis, left: Variable, reached: Variable) -> Constraint {
         Axis::Ancestor => Constraint::StrictlyBelow(reached, left),
         Axis::DescendantOrSelf => Constraint::Below(left, reached),
         Axis::AncestorOrSelf => Constraint::Below(reached, left),
+        Axis::FollowingSibling => Constraint::Before(left, reached),
+        Axis::PrecedingSibling => Constraint::Before(reached, left),
     }
 }

@@ -1,13 +1,15 @@
-//! Trees (source 004, definition 2.1, without document order), assignments, and when a constraint is met (source 000, section 2).
+//! Trees (source 004, definition 2.1, with the order of siblings in place of document order), assignments, and when a constraint is met
+//! (source 000, section 2).
 
 use crate::constraint::{Constraint, Variable};
 
-#[derive(Clone, Copy, PartialEq, Eq, Debug)]
+#[derive(Clone, Copy, PartialEq, Eq, PartialOrd, Ord, Debug)]
 pub struct Node(pub usize);
 
 #[derive(Clone, PartialEq, Eq, Debug)]
 pub struct Tree {
-    /// The parent of each node; only node 0 has none, and every other parent has a smaller number than its node.
+    /// The parent of each node; only node 0 has none, and every other parent has a smaller number than its node. The children of a node
+    /// stand in the order of their numbers.
     pub parents: Vec<Option<Node>>,
     pub labels: Vec<u8>,
 }
@@ -19,6 +21,10 @@ pub struct Assignment(pub Vec<Node>);
 impl Assignment {
     pub fn node_of(&self, variable: Variable) -> Node {
         self.0[variable.0 as usize]
+    }
+
+    pub fn lowest_variable_on(&self, node: Node) -> Option<Variable> {
+        self.0.iter().position(|&place| place == node).map(|variable| Variable(variable as u8))
     }
 }
 
@@ -46,6 +52,12 @@ impl Tree {
         }
         false
     }
+
+    /// Have the two nodes one parent, and is `earlier` the one with the smaller number? Node 0 has no parent, and so no sibling.
+    pub fn is_earlier_sibling(&self, earlier: Node, later: Node) -> bool {
+        let parent = self.parent(earlier);
+        parent.is_some() && parent == self.parent(later) && earlier.0 < later.0
+    }
 }
 
 pub fn meets(tree: &Tree, assignment: &Assignment, constraint: Constraint) -> bool {
@@ -59,6 +71,7 @@ pub fn meets(tree: &Tree, assignment: &Assignment, constraint: Constraint) -> bo
         Constraint::Root(x) => tree.parent(node(x)).is_none(),
         Constraint::Leaf(x) => !tree.has_child(node(x)),
         Constraint::Label(x, label) => tree.label(node(x)) == label,
+        Constraint::Before(x, y) => tree.is_earlier_sibling(node(x), node(y)),
     }
 }
 

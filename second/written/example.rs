@@ -2,7 +2,7 @@
 //!
 //!     # what the file is about
 //!     question NAME           starts a question; its constraint records or its paths follow
-//!     child 0 1               ... below, strictly-below, same, differ; root 0, leaf 0; label 0 a (or the label's number)
+//!     child 0 1               ... below, strictly-below, same, differ, before; root 0, leaf 0; label 0 a (or the label's number)
 //!     times 256 leaf 0        a record so many times
 //!     bytes 01 00 ff          bytes as they are
 //!     path child::a[/]        a line of paths with its byte 10, so the question is for the reader of paths
@@ -106,7 +106,7 @@ fn bytes_of(words: &[&str]) -> Option<Vec<u8>> {
         [name, rest @ ..] => {
             let kind = KIND_NAMES.iter().position(|kind| kind == name)? as u8 + 1;
             match (kind, rest) {
-                (1..=5, [x, y]) => Some(vec![kind, number(x)?, number(y)?, 0]),
+                (1..=5 | 9, [x, y]) => Some(vec![kind, number(x)?, number(y)?, 0]),
                 (6..=7, [x]) => Some(vec![kind, number(x)?, 0, 0]),
                 (8, [x, label]) => Some(vec![kind, number(x)?, 0, label_of(label)?]),
                 _ => None,
