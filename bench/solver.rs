@@ -60,7 +60,20 @@ fn raised<const K: usize>(rows: &[u16; K], which: u16, by: u16) -> [u16; K] {
     new
 }
 
+// Row x with the rows of its members, and of theirs.
+#[inline(always)]
+fn chained(mut rows: Rows, n: usize) -> Rows {
+    for y in 0..n {
+        let by = rows[y];
+        for x in 0..16 {
+            rows[x] |= if rows[x] & 1 << y != 0 { by } else { 0 };
+        }
+    }
+    rows
+}
+
 // Columns as rows: a 16 by 16 bit matrix in four words, its quarters exchanged, then their quarters, and so on.
+#[inline(always)]
 fn transposed(rows: &Rows) -> Rows {
     let mut w = [0u64; 4];
     for i in 0..16 {
@@ -97,6 +110,48 @@ struct Given {
     leaf: u16,
 }
 
+impl Given {
+    // Whether a group has differ(x, x) or two labels.
+    #[inline(always)]
+    fn clashes(&self, group: u16) -> bool {
+        let mut label = 0;
+        for x in Members(group) {
+            if self.differ[x] & group != 0 {
+                return true;
+            }
+            let own = self.label[x];
+            if own != 0 {
+                if label != 0 && label != own {
+                    return true;
+                }
+                label = own;
+            }
+        }
+        false
+    }
+
+    // Whether one of the groups clashes; `grouped` are the variables that are the same as another.
+    #[inline(always)]
+    fn clash(&self, below: &Rows, above: &Rows, grouped: u16) -> bool {
+        // a group of one clashes only with itself
+        for x in 0..16 {
+            if self.differ[x] & below[x] & above[x] != 0 {
+                return true;
+            }
+        }
+        let mut rest = grouped;
+        while rest != 0 {
+            let x = low(rest);
+            let group = below[x] & above[x];
+            if self.clashes(group) {
+                return true;
+            }
+            rest &= !group;
+        }
+        false
+    }
+}
+
 // Settled before facts. K is 16, or 0 in a set that has none.
 #[derive(Clone, Copy)]
 struct Siblings<const K: usize> {
@@ -129,13 +184,13 @@ impl<const K: usize> Siblings<K> {
         family
     }
 
-    // The lowest of a set of groups without one in the set that is before it. There is one, since before has no cycle.
+    // Of a set of groups the lowest one that has none in the set before it, as a set. There is one, since before has no cycle.
     #[inline(always)]
-    fn next(&self, set: u16) -> usize {
-        if set & self.linked == 0 {
-            return low(set);
+    fn next(&self, set: u16) -> u16 {
+        if K == 0 || set & self.linked == 0 {
+            return set & set.wrapping_neg();
         }
-        Members(set).find(|&x| self.after[x] & set == 0).unwrap_or(0)
+        Members(set).find(|&x| self.after[x] & set == 0).map_or(0, one)
     }
 
     // Whether below(u, v) for u in up and v in down puts one sibling below another.
@@ -188,7 +243,9 @@ impl<const K: usize> State<K> {
         self.above = raised(&self.above, down, up);
         self.parent_open |= down;
         self.chain_open |= down;
-        self.siblings.open |= down;
+        if K != 0 {
+            self.siblings.open |= down;
+        }
     }
 
     // Parent(z, x, y), Chain(x, y) or Sibling(y, a, x)
@@ -284,7 +341,7 @@ impl<const K: usize> Search<'_, K> {
     // A first alternative that makes x and y the same, x below y already.
     #[inline(always)]
     fn merged(&mut self, s: &State<K>, x: usize, y: usize) -> End {
-        if s.clashes(self.given, s.below[y] & s.above[x]) {
+        if self.given.clashes(s.below[y] & s.above[x]) {
             return End::None;
         }
         let mut first = *s;
@@ -342,25 +399,6 @@ impl<const K: usize> State<K> {
         true
     }
 
-    // Whether a group has differ(x, x) or two labels.
-    #[inline(always)]
-    fn clashes(&self, given: &Given, group: u16) -> bool {
-        let mut label = 0;
-        for x in Members(group) {
-            if given.differ[x] & group != 0 {
-                return true;
-            }
-            let own = given.label[x];
-            if own != 0 {
-                if label != 0 && label != own {
-                    return true;
-                }
-                label = own;
-            }
-        }
-        false
-    }
-
     // a and b made the same, where one is above the other or a is a leaf; then the parents of the group, and so on. False: a clash.
     fn merge(&mut self, given: &Given, a: usize, b: usize) -> bool {
         let mut down = self.below[a] | self.below[b];
@@ -371,12 +409,17 @@ impl<const K: usize> State<K> {
                 up |= union(&self.above, down);
             }
             let group = up & down;
-            if self.clashes(given, group) || !self.enter(up, down) {
+            if given.clashes(group) || !self.enter(up, down) {
                 return false;
             }
             let parents = union(&self.parent, group);
-            let family = if group & self.siblings.linked == 0 { Some(group) } else { self.arrange(group, parents) };
-            let Some(family) = family else { return false };
+            let mut family = group;
+            if K != 0 && group & self.siblings.linked != 0 {
+                match self.arrange(group, parents) {
+                    Some(siblings) => family = siblings,
+                    None => return false,
+                }
+            }
             if parents == 0 {
                 return true;
             }
@@ -412,32 +455,30 @@ impl<const K: usize> State<K> {
     }
 }
 
-// The records of an accepted file by kind: bit y of row x, and bit x of row y.
+// The records of an accepted file.
 struct Facts {
+    // by kind: bit y of row x, and bit x of row y
     rows: [Rows; 16],
     columns: [Rows; 16],
-    label: [u8; 16],
+    // of other kinds, and of label records
+    labels: [[u8; 16]; 2],
+    two_labels: bool,
 }
 
-// None: two labels on one variable.
-#[inline(always)]
-fn facts(file: &[u8]) -> Option<Facts> {
-    let mut rows = [[0u16; 16]; 16];
-    let mut columns = [[0u16; 16]; 16];
-    let mut labels = [[0u8; 16]; 2];
-    let mut two_labels = false;
-    for r in file.chunks_exact(4) {
-        let (kind, x, y) = (r[0] as usize & 15, r[1] as usize & 15, r[2] as usize & 15);
-        rows[kind][x] |= 1 << y;
-        columns[kind][y] |= 1 << x;
-        let label = &mut labels[(kind == 8) as usize][x];
-        two_labels |= *label != 0 && *label != r[3];
-        *label = r[3];
+impl Facts {
+    const NONE: Facts = Facts { rows: [[0; 16]; 16], columns: [[0; 16]; 16], labels: [[0; 16]; 2], two_labels: false };
+
+    #[inline(always)]
+    fn read(&mut self, file: &[u8]) {
+        for r in file.chunks_exact(4) {
+            let (kind, x, y) = (r[0] as usize & 15, r[1] as usize & 15, r[2] as usize & 15);
+            self.rows[kind][x] |= 1 << y;
+            self.columns[kind][y] |= 1 << x;
+            let label = &mut self.labels[(kind == 8) as usize][x];
+            self.two_labels |= *label != 0 && *label != r[3];
+            *label = r[3];
+        }
     }
-    if two_labels {
-        return None;
-    }
-    Some(Facts { rows, columns, label: labels[1] })
 }
 
 // The given before facts, shared within groups and chained: each row is added to tables that are.
@@ -488,10 +529,10 @@ fn passed<const K: usize>(
 #[inline]
 fn settled<const K: usize>(facts: &Facts, n: usize) -> Option<(Given, State<K>)> {
     let all = ((1u32 << n) - 1) as u16;
-    let Facts { rows, columns, label } = facts;
+    let Facts { rows, columns, labels, .. } = facts;
     let root = columns[6][0];
     let leaf = columns[7][0];
-    let mut given = Given { differ: [0; 16], label: *label, leaf };
+    let mut given = Given { differ: [0; 16], label: labels[1], leaf };
     let mut below = [0; 16];
     for x in 0..16 {
         given.differ[x] = rows[1][x] | rows[3][x] | rows[5][x];
@@ -504,12 +545,7 @@ fn settled<const K: usize>(facts: &Facts, n: usize) -> Option<(Given, State<K>)>
         has_parent |= ((given_parents[z] != 0) as u16) << z;
     }
     loop {
-        for y in 0..n {
-            let by = below[y];
-            for x in 0..16 {
-                below[x] |= if below[x] & 1 << y != 0 { by } else { 0 };
-            }
-        }
+        below = chained(below, n);
         let above = transposed(&below);
         let mut grouped = 0;
         for x in 0..16 {
@@ -543,32 +579,12 @@ fn settled<const K: usize>(facts: &Facts, n: usize) -> Option<(Given, State<K>)>
             }
         }
         if !changed {
+            if given.clash(&below, &above, grouped) || siblings.clash(&below, &above) {
+                return None;
+            }
             let state = State { below, above, parent, child, parent_open: all, chain_open: all, siblings };
-            return if state.holds(&given, grouped) { Some((given, state)) } else { None };
+            return Some((given, state));
         }
-    }
-}
-
-impl<const K: usize> State<K> {
-    // Whether the settled set has no clash; `grouped` are the variables that are the same as another.
-    #[inline(always)]
-    fn holds(&self, given: &Given, grouped: u16) -> bool {
-        // a group of one clashes only with itself
-        for x in 0..16 {
-            if given.differ[x] & self.below[x] & self.above[x] != 0 {
-                return false;
-            }
-        }
-        let mut rest = grouped;
-        while rest != 0 {
-            let x = low(rest);
-            let group = self.below[x] & self.above[x];
-            if self.clashes(given, group) {
-                return false;
-            }
-            rest &= !group;
-        }
-        !self.siblings.clash(&self.below, &self.above)
     }
 }
 
@@ -597,8 +613,9 @@ fn read_off<const K: usize>(s: &State<K>, label: &[u8; 16], n: usize, answer: &m
         }
         let mut rest = layer;
         while rest != 0 {
-            let x = s.siblings.next(rest);
-            rest &= !one(x);
+            let next = s.siblings.next(rest);
+            rest ^= next;
+            let x = low(next);
             // the one group of the layer above that is over x
             let over = s.above[x] & upper;
             let parent = if over == 0 { 0 } else { numbers[low(over)] };
@@ -642,9 +659,14 @@ pub fn solve(file: &[u8], answer: &mut [u8], allowance: u32) -> u64 {
     if answer.len() < 132 {
         return REFUSED | 7;
     }
-    match facts(file) {
-        None => NONE,
-        Some(facts) if facts.rows[9] == [0; 16] => search::<0>(&facts, n, answer, allowance),
-        Some(facts) => search::<16>(&facts, n, answer, allowance),
+    let mut facts = Facts::NONE;
+    facts.read(file);
+    if facts.two_labels {
+        return NONE;
+    }
+    if facts.rows[9] == [0; 16] {
+        search::<0>(&facts, n, answer, allowance)
+    } else {
+        search::<16>(&facts, n, answer, allowance)
     }
 }
