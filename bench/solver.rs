@@ -462,22 +462,24 @@ struct Facts {
     columns: [Rows; 16],
     // of other kinds, and of label records
     labels: [[u8; 16]; 2],
-    two_labels: bool,
 }
 
 impl Facts {
-    const NONE: Facts = Facts { rows: [[0; 16]; 16], columns: [[0; 16]; 16], labels: [[0; 16]; 2], two_labels: false };
+    const NONE: Facts = Facts { rows: [[0; 16]; 16], columns: [[0; 16]; 16], labels: [[0; 16]; 2] };
 
+    // Whether no variable has two labels.
     #[inline(always)]
-    fn read(&mut self, file: &[u8]) {
+    fn read(&mut self, file: &[u8]) -> bool {
+        let mut two_labels = false;
         for r in file.chunks_exact(4) {
             let (kind, x, y) = (r[0] as usize & 15, r[1] as usize & 15, r[2] as usize & 15);
             self.rows[kind][x] |= 1 << y;
             self.columns[kind][y] |= 1 << x;
             let label = &mut self.labels[(kind == 8) as usize][x];
-            self.two_labels |= *label != 0 && *label != r[3];
+            two_labels |= *label != 0 && *label != r[3];
             *label = r[3];
         }
+        !two_labels
     }
 }
 
@@ -636,6 +638,7 @@ fn read_off<const K: usize>(s: &State<K>, label: &[u8; 16], n: usize, answer: &m
 }
 
 // Solves a set whose before facts, if there are any, have K rows.
+#[inline(never)]
 fn search<const K: usize>(facts: &Facts, n: usize, answer: &mut [u8], allowance: u32) -> u64 {
     let Some((given, mut state)) = settled::<K>(facts, n) else {
         return NONE;
@@ -660,8 +663,7 @@ pub fn solve(file: &[u8], answer: &mut [u8], allowance: u32) -> u64 {
         return REFUSED | 7;
     }
     let mut facts = Facts::NONE;
-    facts.read(file);
-    if facts.two_labels {
+    if !facts.read(file) {
         return NONE;
     }
     if facts.rows[9] == [0; 16] {
