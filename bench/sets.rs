@@ -97,7 +97,8 @@ pub const MIXED_BEFORE: [u8; 20] = [1, 1, 1, 1, 2, 2, 2, 3, 3, 4, 5, 5, 6, 7, 8,
 const CROWDED_BEFORE: [u8; 12] = [1, 2, 2, 2, 2, 2, 2, 3, 5, 9, 9, 8];
 const MERGING_BEFORE: [u8; 14] = [1, 1, 1, 1, 2, 2, 4, 4, 7, 7, 5, 9, 9, 9];
 
-// A day of ordinary sets: n 4 to 12, 1 to 30 records, one set in ten with a record that need not be met.
+// A day of ordinary sets: n 4 to 12, 1 to 30 records, one set in ten with a record that need not be met. Where before is asked for,
+// each has one.
 pub fn day(seed: u64, sets: usize, often: &[u8]) -> Vec<Vec<u8>> {
     let mut rng = Rng(seed);
     let mut day = Vec::new();
@@ -105,7 +106,10 @@ pub fn day(seed: u64, sets: usize, often: &[u8]) -> Vec<Vec<u8>> {
         let n = 4 + rng.below(9);
         let records = 1 + rng.below(30);
         let nodes = 2 + rng.below(n + 2);
-        day.push(planted(&mut rng, n, nodes, records, 10, often));
+        let file = planted(&mut rng, n, nodes, records, 10, often);
+        if !often.contains(&9) || file.chunks_exact(4).any(|r| r[0] == 9) {
+            day.push(file);
+        }
     }
     day
 }
