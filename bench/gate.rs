@@ -8,7 +8,7 @@ const SINGLE: u32 = 0xff_ff_f0_f0;
 const LABEL: u32 = 0x00_ff_f0_f0;
 const UNKNOWN: u32 = 0xff_ff_ff_ff;
 const FORBIDDEN: [u32; 16] = [
-    UNKNOWN, PAIR, PAIR, PAIR, PAIR, PAIR, SINGLE, SINGLE, LABEL, UNKNOWN, UNKNOWN, UNKNOWN, UNKNOWN, UNKNOWN, UNKNOWN,
+    UNKNOWN, PAIR, PAIR, PAIR, PAIR, PAIR, SINGLE, SINGLE, LABEL, PAIR, UNKNOWN, UNKNOWN, UNKNOWN, UNKNOWN, UNKNOWN,
     UNKNOWN,
 ];
 // The least label: 1 for kind 8; kind 0 has none that will do.
@@ -42,16 +42,17 @@ pub fn variables(file: &[u8]) -> Result<usize, u8> {
 fn question(file: &[u8]) -> u8 {
     for r in file.chunks_exact(4) {
         let [kind, x, y, label] = [r[0], r[1], r[2], r[3]];
-        if kind < 1 || kind > 8 {
+        if kind < 1 || kind > 9 {
             return 3;
         }
-        if x > 15 || kind < 6 && y > 15 {
+        let pair = kind < 6 || kind == 9;
+        if x > 15 || pair && y > 15 {
             return 4;
         }
         if kind == 8 && label == 0 {
             return 5;
         }
-        if kind > 5 && y != 0 || kind < 8 && label != 0 {
+        if !pair && y != 0 || kind != 8 && label != 0 {
             return 6;
         }
     }

@@ -1,7 +1,7 @@
 // A text of paths to records in plain Rust: recursive descent; each function takes the bytes left and hands back those behind what it has
 // read. Records are gathered beside the lent buffer, so that a refusal changes none of its bytes.
 
-use crate::cudreth::{BELOW, CHILD, LABEL, ROOT, SAME, STRICTLY_BELOW};
+use crate::cudreth::{BEFORE, BELOW, CHILD, LABEL, ROOT, SAME, STRICTLY_BELOW};
 
 // The most records of a text with at most 16 variables is 45; of more variables none is written.
 const MOST: usize = 48;
@@ -156,7 +156,11 @@ fn step(rest: &[u8]) -> Option<(Move, &[u8])> {
     let (kind, up, rest) = match rest.first()? {
         b's' => (SAME, false, rest.strip_prefix(b"self::")?),
         b'c' => (CHILD, false, rest.strip_prefix(b"child::")?),
-        b'p' => (CHILD, true, rest.strip_prefix(b"parent::")?),
+        b'p' => match rest.strip_prefix(b"parent::") {
+            Some(rest) => (CHILD, true, rest),
+            None => (BEFORE, true, rest.strip_prefix(b"preceding-sibling::")?),
+        },
+        b'f' => (BEFORE, false, rest.strip_prefix(b"following-sibling::")?),
         b'd' => match rest.strip_prefix(b"descendant-or-self::") {
             Some(rest) => (BELOW, false, rest),
             None => (STRICTLY_BELOW, false, rest.strip_prefix(b"descendant::")?),

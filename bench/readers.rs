@@ -53,10 +53,20 @@ fn answer(end: u64) -> String {
 
 // ---- texts
 
-const AXES: [&str; 7] = ["self", "child", "parent", "descendant", "ancestor", "descendant-or-self", "ancestor-or-self"];
+const AXES: [&str; 9] = [
+    "self",
+    "child",
+    "parent",
+    "descendant",
+    "ancestor",
+    "descendant-or-self",
+    "ancestor-or-self",
+    "following-sibling",
+    "preceding-sibling",
+];
 
 fn step(rng: &mut Rng, text: &mut Vec<u8>) {
-    text.extend(AXES[rng.below(7)].bytes());
+    text.extend(AXES[rng.below(AXES.len())].bytes());
     text.extend(b"::");
     text.push(if rng.below(2) == 0 { b'*' } else { b'a' + rng.below(26) as u8 });
 }
@@ -110,7 +120,7 @@ fn damage(rng: &mut Rng, text: &mut Vec<u8>) {
         4 => text.truncate(at),
         5 => text.extend_from_within(at..to),
         6 => text.swap(at, to - 1),
-        _ => text.splice(at..at, AXES[rng.below(7)].bytes()).for_each(drop),
+        _ => text.splice(at..at, AXES[rng.below(AXES.len())].bytes()).for_each(drop),
     }
 }
 
@@ -136,12 +146,14 @@ fn filled(head: &str, open: &str, middle: &str, close: &str, tail: &str, bytes: 
 
 // ---- equal results
 
-const KNOWN: [(&str, &[u8]); 6] = [
+const KNOWN: [(&str, &[u8]); 8] = [
     ("/\n", b"\x06\x01\0\0\x04\x01\0\0"),
     ("self::a\n", b"\x04\x01\0\0\x08\0\0a"),
     ("/parent::*\n/\n", b"\x06\x01\0\0\x01\0\x01\0\x04\x01\0\0"),
     ("self::*[/]\n", b"\x04\x01\0\0\x06\x02\0\0"),
     ("descendant::*/ancestor-or-self::z\n", b"\x03\x01\x02\0\x02\0\x02\0\x08\0\0z"),
+    ("following-sibling::a\n", b"\x09\x01\0\0\x08\0\0a"),
+    ("child::*[preceding-sibling::b]\n", b"\x01\x01\0\0\x09\x02\0\0\x08\x02\0b"),
     ("child::a[child::b]/child::c\n", b"\x01\x01\x02\0\x08\x02\0a\x01\x02\x03\0\x08\x03\0b\x01\x02\0\0\x08\0\0c"),
 ];
 
@@ -196,9 +208,12 @@ fn timed(name: &str, texts: &[Vec<u8>]) -> (String, Times) {
 const MIDDLE: &[u8] = b"/child::a[self::b/parent::*]/descendant::c[/child::d][child::e]/self::*\
 /child::f[child::g/child::h]/ancestor-or-self::i[child::j]/child::k/child::l/self::m\n";
 
-// A line of each of these numbers of steps, with the longest names, and `brackets` times [/] at its end.
-fn eight(steps: [usize; 8], brackets: usize) -> Vec<u8> {
-    let step = |i: usize| ["/descendant-or-self::a", "/ancestor-or-self::b"][i % 2];
+const LONG: [&str; 2] = ["/descendant-or-self::a", "/ancestor-or-self::b"];
+const SIBLINGS: [&str; 2] = ["/following-sibling::a", "/preceding-sibling::b"];
+
+// A line of each of these numbers of steps, with long names, and `brackets` times [/] at its end.
+fn eight(names: [&str; 2], steps: [usize; 8], brackets: usize) -> Vec<u8> {
+    let step = |i: usize| names[i % 2];
     let line = |steps: usize| (0..steps).map(step).collect::<String>() + &"[/]".repeat(brackets) + "\n";
     steps.map(line).concat().into_bytes()
 }
@@ -221,9 +236,12 @@ pub fn time() {
         ("short line", vec![b"/child::a/descendant::b\n".to_vec()]),
         ("short line", vec![b"child::a[child::b]/child::c\n".to_vec()]),
         ("1,000 short lines", short),
-        ("8 long lines", vec![eight([3, 3, 3, 3, 3, 3, 2, 2], 0)]),
-        ("8 long lines with [/]", vec![eight([3, 3, 3, 3, 3, 3, 2, 2], 22)]),
-        ("8 long lines", vec![eight([6; 8], 0)]),
+        ("short line", vec![b"child::a/following-sibling::b\n".to_vec()]),
+        ("8 long lines", vec![eight(LONG, [3, 3, 3, 3, 3, 3, 2, 2], 0)]),
+        ("8 long lines with [/]", vec![eight(LONG, [3, 3, 3, 3, 3, 3, 2, 2], 22)]),
+        ("8 long lines", vec![eight(LONG, [6; 8], 0)]),
+        ("8 long lines of siblings", vec![eight(SIBLINGS, [3, 3, 3, 3, 3, 3, 2, 2], 0)]),
+        ("8 long lines of siblings", vec![eight(SIBLINGS, [6; 8], 0)]),
         ("nested brackets", vec![shaped(NESTED, LONGEST)]),
     ];
     for (name, texts) in &texts {

@@ -18,7 +18,7 @@ impl Rng {
 fn draw(rng: &mut Rng, kind: u8, n: usize, labels: usize) -> [u8; 4] {
     let (x, y) = (rng.var(n), rng.var(n));
     match kind {
-        1..=5 => [kind, x, y, 0],
+        1..=5 | 9 => [kind, x, y, 0],
         6 | 7 => [kind, x, 0, 0],
         _ => [8, x, 0, 1 + rng.below(labels) as u8],
     }
@@ -63,7 +63,8 @@ pub fn planted(rng: &mut Rng, n: usize, nodes: usize, records: usize, wrong: usi
                 5 => u != v,
                 6 => u == 0,
                 7 => !(1..nodes).any(|w| parent[w] == u),
-                _ => label[u] == r[3],
+                8 => label[u] == r[3],
+                _ => u != 0 && u < v && parent[u] == parent[v],
             };
             if met {
                 file.extend(r);
@@ -91,16 +92,24 @@ pub fn planted(rng: &mut Rng, n: usize, nodes: usize, records: usize, wrong: usi
 pub const MIXED: [u8; 16] = [1, 1, 1, 1, 2, 2, 2, 3, 3, 4, 5, 5, 6, 7, 8, 8];
 const CROWDED: [u8; 12] = [1, 2, 2, 2, 2, 2, 2, 3, 5, 5, 4, 8];
 const MERGING: [u8; 12] = [1, 1, 1, 1, 2, 2, 4, 4, 7, 7, 5, 8];
+// The same with before.
+pub const MIXED_BEFORE: [u8; 20] = [1, 1, 1, 1, 2, 2, 2, 3, 3, 4, 5, 5, 6, 7, 8, 8, 9, 9, 9, 9];
+const CROWDED_BEFORE: [u8; 12] = [1, 2, 2, 2, 2, 2, 2, 3, 5, 9, 9, 8];
+const MERGING_BEFORE: [u8; 14] = [1, 1, 1, 1, 2, 2, 4, 4, 7, 7, 5, 9, 9, 9];
 
-// A day of ordinary sets: n 4 to 12, 1 to 30 records, one set in ten with a record that need not be met.
-pub fn day(seed: u64, sets: usize) -> Vec<Vec<u8>> {
+// A day of ordinary sets: n 4 to 12, 1 to 30 records, one set in ten with a record that need not be met. Where before is asked for,
+// each has one.
+pub fn day(seed: u64, sets: usize, often: &[u8]) -> Vec<Vec<u8>> {
     let mut rng = Rng(seed);
     let mut day = Vec::new();
     while day.len() < sets {
         let n = 4 + rng.below(9);
         let records = 1 + rng.below(30);
         let nodes = 2 + rng.below(n + 2);
-        day.push(planted(&mut rng, n, nodes, records, 10, &MIXED));
+        let file = planted(&mut rng, n, nodes, records, 10, often);
+        if !often.contains(&9) || file.chunks_exact(4).any(|r| r[0] == 9) {
+            day.push(file);
+        }
     }
     day
 }
@@ -110,7 +119,8 @@ pub fn trial(rng: &mut Rng) -> Vec<u8> {
     let n = 1 + rng.below(16);
     let most = [4, 12, 30, 60][rng.below(4)];
     let records = rng.below(most + 1);
-    let often: &[u8] = [&MIXED[..], &CROWDED, &MERGING][rng.below(3)];
+    let lists = [&MIXED[..], &CROWDED, &MERGING, &MIXED_BEFORE, &CROWDED_BEFORE, &MERGING_BEFORE];
+    let often = lists[rng.below(6)];
     let mut file = match rng.below(3) {
         0 => free(rng, n, records, often),
         _ => {

@@ -1,12 +1,13 @@
-// The baseline: document 01's solver in fast plain Rust, unproved. Same verdicts, counts and bytes as `cudreth_solve`.
+// The baseline: the solver of docs/FORMAT.md in fast plain Rust, unproved. Same verdicts, counts and bytes as `cudreth_solve`.
 //
-// - Sets of variables are u16 masks. A state is three tables of sixteen rows: below, above (its columns) and parent.
+// - Sets of variables are u16 masks. A state is tables of sixteen rows: below, above (its columns), parent, and what is before and after.
 // - Variables that are the same need no rows of their own for child, differ, leaf and label: those facts stay as given, and are looked up
-//   for all of a group when it forms. Only parents are passed on, since joins start from them.
+//   for all of a group when it forms. Only parents are passed on, since joins start from them, and before, since it chains.
 // - Entering below(a, b) adds (all above a) x (all below b) to the two tables. Where a and b become the same, the new group is checked
 //   against differ and label before anything is written, and then its parents are merged in turn.
 // - Only rows whose ancestors grew can have got a join, so the rows known to have none are kept as masks.
 // - The first alternative works on a copy of the state, the second on the state itself.
+// - All is compiled twice, for sets with a before record and for those without: the latter carry no rows of siblings and ask nothing of them.
 use crate::gate;
 
 type Rows = [u16; 16];
@@ -45,21 +46,34 @@ impl Iterator for Members {
 }
 
 #[inline(always)]
-fn union(rows: &Rows, which: u16) -> u16 {
+fn union<const K: usize>(rows: &[u16; K], which: u16) -> u16 {
     Members(which).fold(0, |set, x| set | rows[x])
 }
 
 // `by` added to each row of `which`: two vectors of eight rows, no branch.
 #[inline(always)]
-fn raised(rows: &Rows, which: u16, by: u16) -> Rows {
+fn raised<const K: usize>(rows: &[u16; K], which: u16, by: u16) -> [u16; K] {
     let mut new = *rows;
-    for x in 0..16 {
+    for x in 0..K {
         new[x] |= if which & 1 << x != 0 { by } else { 0 };
     }
     new
 }
 
+// Row x with the rows of its members, and of theirs.
+#[inline(always)]
+fn chained(mut rows: Rows, n: usize) -> Rows {
+    for y in 0..n {
+        let by = rows[y];
+        for x in 0..16 {
+            rows[x] |= if rows[x] & 1 << y != 0 { by } else { 0 };
+        }
+    }
+    rows
+}
+
 // Columns as rows: a 16 by 16 bit matrix in four words, its quarters exchanged, then their quarters, and so on.
+#[inline(always)]
 fn transposed(rows: &Rows) -> Rows {
     let mut w = [0u64; 4];
     for i in 0..16 {
@@ -96,8 +110,112 @@ struct Given {
     leaf: u16,
 }
 
+impl Given {
+    // Whether a group has differ(x, x) or two labels.
+    #[inline(always)]
+    fn clashes(&self, group: u16) -> bool {
+        let mut label = 0;
+        for x in Members(group) {
+            if self.differ[x] & group != 0 {
+                return true;
+            }
+            let own = self.label[x];
+            if own != 0 {
+                if label != 0 && label != own {
+                    return true;
+                }
+                label = own;
+            }
+        }
+        false
+    }
+
+    // Whether one of the groups clashes; `grouped` are the variables that are the same as another.
+    #[inline(always)]
+    fn clash(&self, below: &Rows, above: &Rows, grouped: u16) -> bool {
+        // a group of one clashes only with itself
+        for x in 0..16 {
+            if self.differ[x] & below[x] & above[x] != 0 {
+                return true;
+            }
+        }
+        let mut rest = grouped;
+        while rest != 0 {
+            let x = low(rest);
+            let group = below[x] & above[x];
+            if self.clashes(group) {
+                return true;
+            }
+            rest &= !group;
+        }
+        false
+    }
+}
+
+// Settled before facts. K is 16, or 0 in a set that has none.
 #[derive(Clone, Copy)]
-struct State {
+struct Siblings<const K: usize> {
+    before: [u16; K],
+    after: [u16; K],
+    // variables that are before or after another, and those that may have a sibling join
+    linked: u16,
+    open: u16,
+}
+
+impl<const K: usize> Siblings<K> {
+    // before(u, v) for u in earlier and v in later
+    #[inline(always)]
+    fn raise(&mut self, earlier: u16, later: u16) {
+        self.before = raised(&self.before, earlier, later);
+        self.after = raised(&self.after, later, earlier);
+        self.linked |= earlier | later;
+        self.open |= earlier | later;
+    }
+
+    // The group with all that before leads to from it, either way and over any number of steps: they have one parent.
+    #[inline(always)]
+    fn family(&self, group: u16) -> u16 {
+        let mut family = group;
+        let mut new = group;
+        while new != 0 {
+            new = (union(&self.before, new) | union(&self.after, new)) & !family;
+            family |= new;
+        }
+        family
+    }
+
+    // Of a set of groups the lowest one that has none in the set before it, as a set. There is one, since before has no cycle.
+    #[inline(always)]
+    fn next(&self, set: u16) -> u16 {
+        if K == 0 || set & self.linked == 0 {
+            return set & set.wrapping_neg();
+        }
+        Members(set).find(|&x| self.after[x] & set == 0).map_or(0, one)
+    }
+
+    // Whether below(u, v) for u in up and v in down puts one sibling below another.
+    #[inline(always)]
+    fn crossed(&self, up: u16, down: u16) -> bool {
+        let mut beside = 0;
+        for x in 0..K {
+            beside |= if up & 1 << x != 0 { self.before[x] | self.after[x] } else { 0 };
+        }
+        beside & down != 0
+    }
+
+    // Whether one sibling is below another, or before itself.
+    #[inline(always)]
+    fn clash(&self, below: &Rows, above: &Rows) -> bool {
+        let mut any = 0;
+        for x in 0..K {
+            any |= self.before[x] & (below[x] | above[x]);
+        }
+        any != 0
+    }
+}
+
+#[derive(Clone, Copy)]
+struct State<const K: usize> {
     below: Rows,
     above: Rows,
     // parents of each variable; all of them are the same
@@ -107,15 +225,17 @@ struct State {
     // variables that may have a parent join, and a chain join
     parent_open: u16,
     chain_open: u16,
+    siblings: Siblings<K>,
 }
 
 enum Join {
     Nothing,
     Parent(usize, usize, usize),
     Chain(usize, usize),
+    Sibling(usize, usize, usize),
 }
 
-impl State {
+impl<const K: usize> State<K> {
     // below(u, v) for u in up and v in down
     #[inline(always)]
     fn raise(&mut self, up: u16, down: u16) {
@@ -123,9 +243,12 @@ impl State {
         self.above = raised(&self.above, down, up);
         self.parent_open |= down;
         self.chain_open |= down;
+        if K != 0 {
+            self.siblings.open |= down;
+        }
     }
 
-    // Parent(z, x, y) or Chain(x, y)
+    // Parent(z, x, y), Chain(x, y) or Sibling(y, a, x)
     #[inline(always)]
     fn first_join(&mut self) -> Join {
         let mut open = self.parent_open & self.child;
@@ -150,9 +273,33 @@ impl State {
                     return Join::Chain(x, low(apart));
                 }
             }
-            open &= open - 1;
+            // what is above these is above the variable just looked at
+            open &= !over;
         }
         self.chain_open = 0;
+        if K == 0 {
+            Join::Nothing
+        } else {
+            self.sibling_join()
+        }
+    }
+
+    #[inline(always)]
+    fn sibling_join(&mut self) -> Join {
+        let mut open = self.siblings.open & self.siblings.linked;
+        while open != 0 {
+            let y = low(open);
+            let siblings = self.siblings.before[y] | self.siblings.after[y];
+            let shared = Members(siblings).fold(!0, |set, x| set & self.above[x]);
+            let over = self.above[y] & !(self.below[y] | shared);
+            if over != 0 {
+                self.siblings.open = open;
+                let a = low(over);
+                return Join::Sibling(y, a, low(siblings & !self.below[a]));
+            }
+            open &= open - 1;
+        }
+        self.siblings.open = 0;
         Join::Nothing
     }
 }
@@ -163,14 +310,14 @@ enum End {
     Spent,
 }
 
-struct Search<'a> {
+struct Search<'a, const K: usize> {
     given: &'a Given,
     allowance: u32,
     count: u32,
-    found: State,
+    found: State<K>,
 }
 
-impl Search<'_> {
+impl<const K: usize> Search<'_, K> {
     // One more alternative, if the allowance has it.
     #[inline(always)]
     fn choose(&mut self) -> bool {
@@ -181,80 +328,76 @@ impl Search<'_> {
         true
     }
 
-    fn line(&mut self, s: &mut State) -> End {
+    // A first alternative that makes no two variables the same: below(u, v) for u in up and v in down.
+    #[inline(always)]
+    fn inner(&mut self, s: &State<K>, up: u16, down: u16) -> End {
+        if s.siblings.crossed(up, down) {
+            return End::None;
+        }
+        let mut first = *s;
+        first.raise(up, down);
+        self.line(&mut first)
+    }
+
+    // A first alternative that makes x and y the same, x below y already.
+    #[inline(always)]
+    fn merged(&mut self, s: &State<K>, x: usize, y: usize) -> End {
+        if self.given.clashes(s.below[y] & s.above[x]) {
+            return End::None;
+        }
+        let mut first = *s;
+        if first.merge(self.given, x, y) {
+            self.line(&mut first)
+        } else {
+            End::None
+        }
+    }
+
+    fn line(&mut self, s: &mut State<K>) -> End {
         loop {
-            match s.first_join() {
-                Join::Nothing => {
-                    self.found = *s;
-                    return End::Tree;
+            let join = s.first_join();
+            if let Join::Nothing = join {
+                self.found = *s;
+                return End::Tree;
+            }
+            if !self.choose() {
+                return End::Spent;
+            }
+            let end = match join {
+                Join::Parent(_, x, y) if s.above[x] & one(y) != 0 => self.merged(s, x, y),
+                Join::Parent(_, x, y) | Join::Chain(x, y) | Join::Sibling(_, x, y) => {
+                    self.inner(s, s.above[x], s.below[y])
                 }
-                Join::Chain(x, y) => {
-                    if !self.choose() {
-                        return End::Spent;
-                    }
-                    let mut first = *s;
-                    first.raise(s.above[x], s.below[y]);
-                    match self.line(&mut first) {
-                        End::None => {}
-                        end => return end,
-                    }
-                    if !self.choose() {
-                        return End::Spent;
-                    }
-                    s.raise(s.above[y], s.below[x]);
-                }
-                Join::Parent(z, x, y) => {
-                    if !self.choose() {
-                        return End::Spent;
-                    }
-                    let end = if s.above[x] & one(y) == 0 {
-                        let mut first = *s;
-                        first.raise(s.above[x], s.below[y]);
-                        self.line(&mut first)
-                    } else if s.clashes(self.given, s.below[y] & s.above[x]) {
-                        End::None
-                    } else {
-                        let mut first = *s;
-                        if first.merge(self.given, x, y) {
-                            self.line(&mut first)
-                        } else {
-                            End::None
-                        }
-                    };
-                    match end {
-                        End::None => {}
-                        end => return end,
-                    }
-                    if !self.choose() {
-                        return End::Spent;
-                    }
-                    if !s.merge(self.given, z, x) {
-                        return End::None;
-                    }
-                }
+                Join::Nothing => End::None,
+            };
+            match end {
+                End::None => {}
+                end => return end,
+            }
+            if !self.choose() {
+                return End::Spent;
+            }
+            let holds = match join {
+                Join::Chain(x, y) => s.enter(s.above[y], s.below[x]),
+                Join::Parent(z, x, _) | Join::Sibling(z, x, _) => s.merge(self.given, z, x),
+                Join::Nothing => false,
+            };
+            if !holds {
+                return End::None;
             }
         }
     }
 }
 
-impl State {
-    // Whether a group has differ(x, x) or two labels.
+impl<const K: usize> State<K> {
+    // below(u, v) for u in up and v in down, where it makes no two variables the same. False: a clash.
     #[inline(always)]
-    fn clashes(&self, given: &Given, group: u16) -> bool {
-        let mut label = 0;
-        for x in Members(group) {
-            if given.differ[x] & group != 0 {
-                return true;
-            }
-            let own = given.label[x];
-            if own != 0 {
-                if label != 0 && label != own {
-                    return true;
-                }
-                label = own;
-            }
+    fn enter(&mut self, up: u16, down: u16) -> bool {
+        if self.siblings.crossed(up, down) {
+            return false;
         }
-        false
+        self.raise(up, down);
+        true
     }
 
     // a and b made the same, where one is above the other or a is a leaf; then the parents of the group, and so on. False: a clash.
@@ -267,16 +410,22 @@ impl State {
                 up |= union(&self.above, down);
             }
             let group = up & down;
-            if self.clashes(given, group) {
+            if given.clashes(group) || !self.enter(up, down) {
                 return false;
             }
-            self.raise(up, down);
             let parents = union(&self.parent, group);
+            let mut family = group;
+            if K != 0 && group & self.siblings.linked != 0 {
+                match self.arrange(group, parents) {
+                    Some(siblings) => family = siblings,
+                    None => return false,
+                }
+            }
             if parents == 0 {
                 return true;
             }
-            self.child |= group;
-            self.parent = raised(&self.parent, group, parents);
+            self.child |= family;
+            self.parent = raised(&self.parent, family, parents);
             let p = low(parents);
             if parents & !(self.below[p] & self.above[p]) == 0 {
                 return true;
@@ -285,28 +434,105 @@ impl State {
             up = union(&self.above, parents);
         }
     }
+
+    // What is before or after one of a new group made so of all of it, and its parents put above all its siblings, which are returned
+    // with it. None: a clash.
+    //
+    // No other differ fact has to be kept for it: were a parent the same as one of the siblings, that one would be above another.
+    fn arrange(&mut self, group: u16, parents: u16) -> Option<u16> {
+        let earlier = union(&self.siblings.after, group);
+        let later = union(&self.siblings.before, group);
+        self.siblings.raise(earlier, group | later);
+        self.siblings.raise(group, later);
+        let mut family = group;
+        if parents != 0 {
+            family = self.siblings.family(group);
+            self.raise(union(&self.above, parents), union(&self.below, family));
+        }
+        if self.siblings.clash(&self.below, &self.above) {
+            return None;
+        }
+        Some(family)
+    }
 }
 
-// The settled set of an accepted file, or a clash.
-#[inline]
-fn settled(file: &[u8], n: usize) -> Option<(Given, State)> {
-    let all = ((1u32 << n) - 1) as u16;
+// The records of an accepted file.
+struct Facts {
     // by kind: bit y of row x, and bit x of row y
-    let mut rows = [[0u16; 16]; 16];
-    let mut columns = [[0u16; 16]; 16];
-    let mut labels = [[0u8; 16]; 2];
-    let mut two_labels = false;
-    for r in file.chunks_exact(4) {
-        let (kind, x, y) = (r[0] as usize & 15, r[1] as usize & 15, r[2] as usize & 15);
-        rows[kind][x] |= 1 << y;
-        columns[kind][y] |= 1 << x;
-        let label = &mut labels[(kind == 8) as usize][x];
-        two_labels |= *label != 0 && *label != r[3];
-        *label = r[3];
+    rows: [Rows; 16],
+    columns: [Rows; 16],
+    // of other kinds, and of label records
+    labels: [[u8; 16]; 2],
+}
+
+impl Facts {
+    const NONE: Facts = Facts { rows: [[0; 16]; 16], columns: [[0; 16]; 16], labels: [[0; 16]; 2] };
+
+    // Whether no variable has two labels.
+    #[inline(always)]
+    fn read(&mut self, file: &[u8]) -> bool {
+        let mut two_labels = false;
+        for r in file.chunks_exact(4) {
+            let (kind, x, y) = (r[0] as usize & 15, r[1] as usize & 15, r[2] as usize & 15);
+            self.rows[kind][x] |= 1 << y;
+            self.columns[kind][y] |= 1 << x;
+            let label = &mut self.labels[(kind == 8) as usize][x];
+            two_labels |= *label != 0 && *label != r[3];
+            *label = r[3];
+        }
+        !two_labels
     }
-    if two_labels {
-        return None;
+}
+
+// The given before facts, shared within groups and chained: each row is added to tables that are.
+#[inline(always)]
+fn ordered<const K: usize>(given: &Rows, below: &Rows, above: &Rows, all: u16) -> Siblings<K> {
+    let mut siblings = Siblings { before: [0; K], after: [0; K], linked: 0, open: all };
+    for x in 0..K {
+        if given[x] != 0 {
+            let group = below[x] & above[x];
+            let later = Members(given[x]).fold(0, |set, y| set | below[y] & above[y]);
+            let earlier = group | union(&siblings.after, group);
+            siblings.raise(earlier, later | union(&siblings.before, later));
+        }
     }
+    siblings
+}
+
+// Parents passed on within families, and those above all of their family. Whether below grew.
+#[inline(always)]
+fn passed<const K: usize>(
+    siblings: &Siblings<K>,
+    given_parents: &Rows,
+    parent: &mut Rows,
+    child: &mut u16,
+    below: &mut Rows,
+) -> bool {
+    let mut changed = false;
+    let mut rest = siblings.linked;
+    while rest != 0 {
+        let family = siblings.family(one(low(rest)));
+        let parents = union(given_parents, family);
+        if parents != 0 {
+            *child |= family;
+            for x in Members(family) {
+                parent[x] = parents;
+            }
+            // the other parents become the same as this one
+            let p = low(parents);
+            changed |= family & !below[p] != 0;
+            below[p] |= family;
+        }
+        rest &= !family;
+    }
+    changed
+}
+
+// The settled set of the facts, or a clash.
+#[inline]
+fn settled<const K: usize>(facts: &Facts, n: usize) -> Option<(Given, State<K>)> {
+    let all = ((1u32 << n) - 1) as u16;
+    let Facts { rows, columns, labels, .. } = facts;
     let root = columns[6][0];
     let leaf = columns[7][0];
     let mut given = Given { differ: [0; 16], label: labels[1], leaf };
@@ -322,18 +548,14 @@ fn settled(file: &[u8], n: usize) -> Option<(Given, State)> {
         has_parent |= ((given_parents[z] != 0) as u16) << z;
     }
     loop {
-        for y in 0..n {
-            let by = below[y];
-            for x in 0..16 {
-                below[x] |= if below[x] & 1 << y != 0 { by } else { 0 };
-            }
-        }
+        below = chained(below, n);
         let above = transposed(&below);
         let mut grouped = 0;
         for x in 0..16 {
             grouped |= below[x] & above[x] & !(1 << x);
         }
         let mut changed = false;
+        let siblings = ordered(&rows[9], &below, &above, all);
         for l in Members(leaf) {
             for y in Members(below[l] & !above[l]) {
                 below[y] |= one(l);
@@ -349,6 +571,7 @@ fn settled(file: &[u8], n: usize) -> Option<(Given, State)> {
                 parent[x] = union(&given_parents, group);
             }
         }
+        changed |= passed(&siblings, &given_parents, &mut parent, &mut child, &mut below);
         for z in Members(child) {
             let p = low(parent[z]);
             if parent[z] & !(below[p] & above[p]) != 0 {
@@ -359,29 +582,17 @@ fn settled(file: &[u8], n: usize) -> Option<(Given, State)> {
             }
         }
         if !changed {
-            // a group of one clashes only with itself
-            for x in 0..16 {
-                if given.differ[x] & below[x] & above[x] != 0 {
-                    return None;
-                }
+            if given.clash(&below, &above, grouped) || siblings.clash(&below, &above) {
+                return None;
             }
-            let state = State { below, above, parent, child, parent_open: all, chain_open: all };
-            let mut rest = grouped;
-            while rest != 0 {
-                let x = low(rest);
-                let group = below[x] & above[x];
-                if state.clashes(&given, group) {
-                    return None;
-                }
-                rest &= !group;
-            }
+            let state = State { below, above, parent, child, parent_open: all, chain_open: all, siblings };
             return Some((given, state));
         }
     }
 }
 
 // The answer file at the front of the buffer, and its length.
-fn read_off(s: &State, label: &[u8; 16], n: usize, answer: &mut [u8]) -> usize {
+fn read_off<const K: usize>(s: &State<K>, label: &[u8; 16], n: usize, answer: &mut [u8]) -> usize {
     let mut lows = 0u16;
     for x in 0..n {
         lows |= ((s.below[x] & s.above[x] & (one(x) - 1) == 0) as u16) << x;
@@ -403,7 +614,11 @@ fn read_off(s: &State, label: &[u8; 16], n: usize, answer: &mut [u8]) -> usize {
         if layer == 0 {
             break;
         }
-        for x in Members(layer) {
+        let mut rest = layer;
+        while rest != 0 {
+            let next = s.siblings.next(rest);
+            rest ^= next;
+            let x = low(next);
             // the one group of the layer above that is over x
             let over = s.above[x] & upper;
             let parent = if over == 0 { 0 } else { numbers[low(over)] };
@@ -423,15 +638,10 @@ fn read_off(s: &State, label: &[u8; 16], n: usize, answer: &mut [u8]) -> usize {
     len * 4
 }
 
-pub fn solve(file: &[u8], answer: &mut [u8], allowance: u32) -> u64 {
-    let n = match gate::variables(file) {
-        Ok(n) => n,
-        Err(question) => return REFUSED | question as u64,
-    };
-    if answer.len() < 132 {
-        return REFUSED | 7;
-    }
-    let Some((given, mut state)) = settled(file, n) else {
+// Solves a set whose before facts, if there are any, have K rows.
+#[inline(never)]
+fn search<const K: usize>(facts: &Facts, n: usize, answer: &mut [u8], allowance: u32) -> u64 {
+    let Some((given, mut state)) = settled::<K>(facts, n) else {
         return NONE;
     };
     let mut search = Search { given: &given, allowance, count: 0, found: state };
@@ -442,5 +652,24 @@ pub fn solve(file: &[u8], answer: &mut [u8], allowance: u32) -> u64 {
         }
         End::None => NONE | search.count as u64,
         End::Spent => SPENT | search.count as u64,
+    }
+}
+
+pub fn solve(file: &[u8], answer: &mut [u8], allowance: u32) -> u64 {
+    let n = match gate::variables(file) {
+        Ok(n) => n,
+        Err(question) => return REFUSED | question as u64,
+    };
+    if answer.len() < 132 {
+        return REFUSED | 7;
+    }
+    let mut facts = Facts::NONE;
+    if !facts.read(file) {
+        return NONE;
+    }
+    if facts.rows[9] == [0; 16] {
+        search::<0>(&facts, n, answer, allowance)
+    } else {
+        search::<16>(&facts, n, answer, allowance)
     }
 }

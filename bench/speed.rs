@@ -157,34 +157,44 @@ fn inputs(dir: &str) -> Vec<Input> {
     counts.lines().map(line).collect()
 }
 
-fn agree(inputs: &[Input], day: &[Vec<u8>], trials: usize) {
+fn has_before(file: &[u8]) -> bool {
+    file.chunks_exact(4).any(|r| r[0] == cudreth::BEFORE)
+}
+
+fn agree(inputs: &[Input], days: [&[Vec<u8>]; 2], trials: usize) {
     let mut verdicts = [0usize; 4];
     let mut choices = 0;
-    let mut seen = |end: u64| {
+    let mut before = 0;
+    let mut seen = |file: &[u8], end: u64| {
         verdicts[(end >> 48) as usize] += 1;
         choices += count(end);
+        before += has_before(file) as usize;
     };
     for input in inputs {
         let end = both(&input.file, 132, u32::MAX, 7);
         assert!(format!("{} {}", verdict(end), count(end)) == input.expected, "{}: {end:x}", input.name);
-        seen(end);
+        seen(&input.file, end);
         for allowance in [0, count(end).saturating_sub(1) as u32, count(end) as u32] {
-            seen(both(&input.file, 140, allowance, 7));
+            seen(&input.file, both(&input.file, 140, allowance, 7));
         }
-        seen(both(&input.file, 131, u32::MAX, 7));
+        seen(&input.file, both(&input.file, 131, u32::MAX, 7));
     }
-    for file in day {
-        seen(both(file, 132, u32::MAX, 7));
+    for file in days.into_iter().flatten() {
+        seen(file, both(file, 132, u32::MAX, 7));
     }
     let mut rng = sets::Rng(0x9e37_79b9_7f4a_7c15);
     for _ in 0..trials {
         let file = sets::trial(&mut rng);
         let buffer = if rng.below(30) == 0 { rng.below(132) } else { 132 + rng.below(3) };
         let allowance = [0, 1, 2, 5, 100, 5000][rng.below(6)];
-        seen(both(&file, buffer, allowance, rng.below(256) as u8));
+        seen(&file, both(&file, buffer, allowance, rng.below(256) as u8));
     }
     let [tree, none, spent, refused] = verdicts;
-    println!("solvers: equal results and bytes on {} inputs ({tree} tree, {none} none, {spent} spent, {refused} refused; {choices} choices)", verdicts.iter().sum::<usize>());
+    println!(
+        "solvers: equal results and bytes on {} inputs, {before} of them with before ({tree} tree, {none} none, {spent} spent, \
+        {refused} refused; {choices} choices)",
+        verdicts.iter().sum::<usize>()
+    );
     println!(
         "markers: equal results on {trials} pairs of files, of {} sorts of verdict",
         sheets::agree(MARKERS, trials)
@@ -217,9 +227,12 @@ fn time_files(inputs: &[Input]) {
         .iter()
         .map(|input| (input, count(both(&input.file, 132, u32::MAX, 0))))
         .partition(|(_, choices)| *choices > 1000);
-    head("(a) benchmark files, ns for each choice");
-    for (input, choices) in many {
-        bounded(&shape(input, choices), solving(&input.file, u32::MAX, choices as f64), 3.0);
+    let (ordered, many): (Vec<_>, Vec<_>) = many.into_iter().partition(|(input, _)| has_before(&input.file));
+    for (title, files) in [("(a) benchmark files", many), ("    benchmark files with before", ordered)] {
+        head(&format!("{title}, ns for each choice"));
+        for (input, choices) in files {
+            bounded(&shape(input, choices), solving(&input.file, u32::MAX, choices as f64), 3.0);
+        }
     }
     head("    files of few choices, ns for each set");
     for (input, choices) in few {
@@ -227,8 +240,8 @@ fn time_files(inputs: &[Input]) {
     }
 }
 
-fn time_day(day: &[Vec<u8>]) {
-    head("(b) a day of 40,000 ordinary sets, ns");
+fn time_day(title: &str, day: &[Vec<u8>]) {
+    head(title);
     let mut answers = [[0u8; 132]; 2];
     let [a, b] = &mut answers;
     let whole = |solve: Solver, answer: &mut [u8]| {
@@ -242,7 +255,11 @@ fn time_day(day: &[Vec<u8>]) {
     let records: usize = day.iter().map(|file| file.len() / 4).sum();
     let each = |sum: f64| sum / day.len() as f64;
     let [records, choices] = [each(records as f64), each(choices as f64)];
-    println!("    {trees} trees, {} none; {records:.1} records and {choices:.2} choices a set", day.len() - trees);
+    let before = day.iter().filter(|file| has_before(file)).count();
+    println!(
+        "    {trees} trees, {} none; {records:.1} records and {choices:.2} choices a set; {before} sets with before",
+        day.len() - trees
+    );
 }
 
 fn time_marker() {
@@ -305,11 +322,13 @@ fn time_growth() {
 fn main() {
     let dir = std::env::args().nth(1).expect("the directory of the inputs");
     let inputs = inputs(&dir);
-    let day = sets::day(20_261_115, 40_000);
-    agree(&inputs, &day, 100_000);
+    let day = sets::day(20_261_115, 40_000, &sets::MIXED);
+    let ordered = sets::day(20_261_116, 40_000, &sets::MIXED_BEFORE);
+    agree(&inputs, [&day, &ordered], 200_000);
     readers::agree(100_000);
     time_files(&inputs);
-    time_day(&day);
+    time_day("(b) a day of 40,000 ordinary sets, ns", &day);
+    time_day("    a day of 40,000 ordinary sets with before, ns", &ordered);
     time_marker();
     time_gate(&inputs);
     time_growth();

@@ -48,26 +48,32 @@ fn met(answer: &[u8], draw: &mut dyn FnMut(usize) -> [u8; 4]) -> Vec<u8> {
     bytes
 }
 
+// The last other child of a node's parent, or the node itself.
+fn sibling(parents: &[u8], v: u8) -> u8 {
+    let others = (1..64).filter(|&w| w != v && v != 0 && parents[w as usize] == parents[v as usize]);
+    others.last().unwrap_or(v)
+}
+
 pub fn cases() -> Vec<Case> {
     let mut rng = Rng(88172645463325252);
     let chain: Vec<u8> = (0..64).map(|v: u8| v.saturating_sub(1)).collect();
     let star = vec![0u8; 64];
     let random: Vec<u8> = (0..64u64).map(|v| if v == 0 { 0 } else { rng.below(v) as u8 }).collect();
     let labels: Vec<u8> = (0..64).map(|_| 1 + rng.below(4) as u8).collect();
-    // each kind is met by some variables: some pairs are parent and child, and some share a node
+    // each kind is met by some variables: some pairs are parent and child, some share a node, and some are siblings
     let mut spread: Vec<u8> = Vec::new();
     for x in 0..16usize {
         let v = match x % 4 {
             0 => rng.below(64) as u8,
             1 => random[spread[x - 1] as usize],
             2 => spread[x / 2],
-            _ => rng.below(64) as u8,
+            _ => sibling(&random, spread[x - 3]),
         };
         spread.push(v);
     }
     spread[0] = 0;
     let mixed_answer = answer(&random, &labels, &spread);
-    let kinds: Vec<u8> = (0..256).map(|_| 1 + rng.below(8) as u8).collect();
+    let kinds: Vec<u8> = (0..256).map(|_| 1 + rng.below(9) as u8).collect();
     let mixed = met(&mixed_answer, &mut |position| {
         let (x, y) = (rng.below(16) as u8, rng.below(16) as u8);
         match kinds[position] {
@@ -86,9 +92,11 @@ pub fn cases() -> Vec<Case> {
     let ends: Vec<u8> = (0..16).map(|x| if x < 8 { 0 } else { 63 }).collect();
     let ends_answer = answer(&chain, &labels, &ends);
     let longest = met(&ends_answer, &mut |_| [2, rng.below(8) as u8, 8 + rng.below(8) as u8, 0]);
+    let before = met(&star_answer, &mut |_| [9, rng.below(16) as u8, rng.below(16) as u8, 0]);
     vec![
         Case { name: "mixed kinds", constraints: mixed, answer: mixed_answer },
-        Case { name: "leaf on a star", constraints: leaf, answer: star_answer },
+        Case { name: "leaf on a star", constraints: leaf, answer: star_answer.clone() },
+        Case { name: "before on a star", constraints: before, answer: star_answer },
         Case { name: "below on a chain", constraints: below, answer: chain_answer },
         Case { name: "below, top to bottom", constraints: longest, answer: ends_answer },
     ]
@@ -102,13 +110,13 @@ pub fn agree(markers: [fn(&[u8], &[u8]) -> u64; 3], rounds: usize) -> usize {
         let mut constraints = Vec::new();
         let mut n = 0;
         for _ in 0..rng.below(5) {
-            let (kind, x, y) = (1 + rng.below(8) as u8, rng.below(4) as u8, rng.below(4) as u8);
+            let (kind, x, y) = (1 + rng.below(9) as u8, rng.below(4) as u8, rng.below(4) as u8);
             constraints.extend(match kind {
                 6 | 7 => [kind, x, 0, 0],
                 8 => [8, x, 0, 1 + rng.below(2) as u8],
                 _ => [kind, x, y, 0],
             });
-            n = n.max(x + 1).max(if kind < 6 { y + 1 } else { 0 });
+            n = n.max(x + 1).max(if matches!(kind, 6..=8) { 0 } else { y + 1 });
         }
         let most = if rng.below(50) == 0 { 70 } else { 6 };
         let nodes = 1 + rng.below(most);

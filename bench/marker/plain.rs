@@ -18,7 +18,7 @@ fn variables(file: &[u8]) -> Result<usize, u64> {
     for r in file.chunks_exact(4) {
         let (kind, x, y, label) = (r[0], r[1], r[2], r[3]);
         match kind {
-            1..=5 => {
+            1..=5 | 9 => {
                 if x > 15 || y > 15 {
                     return Err(4);
                 }
@@ -141,7 +141,9 @@ fn first_unmet(constraints: &[u8], sheet: &Sheet, above: impl Fn(u8, u8) -> bool
             5 => x != y,
             6 => x == 0,
             7 => sheet.inner >> x & 1 == 0,
-            _ => sheet.label[x as usize] == r[3],
+            8 => sheet.label[x as usize] == r[3],
+            // node 0 has no sibling, though its parent byte is that of its children
+            _ => x != 0 && x < y && sheet.parent[x as usize] == sheet.parent[y as usize],
         };
         if !met {
             return unmet(r[0], position);
