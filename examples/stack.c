@@ -1,7 +1,8 @@
 /*
- * Measures stack. cudreth_solve: in a thread with the header's CUDRETH_STACK bytes, once without a choice and once with 105 alternatives
- * open at the end (15 variables above a sixteenth: one chain join for each pair). From the two it tells what the most that can be open,
- * n * (n - 1) = 240, would need, and fails if CUDRETH_STACK is not enough. cudreth_paths: on the texts of 1,024 bytes that nest deepest or
+ * Measures stack. cudreth_solve: in a thread with the header's CUDRETH_STACK bytes, once without a choice, once with 105 alternatives
+ * open at the end (15 variables above a sixteenth: one chain join for each pair) and once with 113, of joins of all three kinds. From
+ * each of the two it tells what the most that can be open, n * (n - 1) = 240, would need, and fails if CUDRETH_STACK is not enough.
+ * cudreth_paths: on the texts of 1,024 bytes that nest deepest or
  * go on longest, and fails if one needs more than CUDRETH_PATHS_STACK.
  */
 #define _POSIX_C_SOURCE 200809L
@@ -19,7 +20,7 @@
 static uint8_t stack[STACK] __attribute__((aligned(4096)));
 static uint64_t result;
 
-static uint8_t question[4 * 15];
+static uint8_t question[4 * 16];
 static size_t question_length;
 
 static uint8_t text[CUDRETH_TEXT_BYTES];
@@ -56,20 +57,47 @@ static size_t used(void *(*run)(void *), size_t length, uint64_t expected)
     return length - unused;
 }
 
+/* Variables 0 to above - 1 are above one variable, and there are some records more; a tree with so many alternatives open. */
+static const struct deep {
+    const char *joins;
+    uint8_t above, one;
+    size_t more;
+    uint8_t records[4][4];
+    size_t open;
+} deep[] = {
+    {"chain joins", 15, 15, 0, {{0}}, 105},
+    {"joins of all kinds", 12, 13, 4,
+     {{CUDRETH_BEFORE, 13, 15, 0}, {CUDRETH_BEFORE, 15, 14, 0}, {CUDRETH_BELOW, 12, 15, 0}, {CUDRETH_CHILD, 0, 12, 0}}, 113},
+};
+
+static void ask(const uint8_t *record)
+{
+    memcpy(question + question_length, record, CUDRETH_RECORD_BYTES);
+    question_length += CUDRETH_RECORD_BYTES;
+}
+
 static int solving(void)
 {
-    for (int x = 0; x < 15; x++) {
-        const uint8_t record[] = {CUDRETH_BELOW, (uint8_t)x, 15, 0};
-        memcpy(question + 4 * x, record, sizeof record);
-    }
     /* the verdict is CUDRETH_TREE, the count low */
-    question_length = 0;
-    size_t without = used(solve, CUDRETH_STACK, 0);
-    question_length = sizeof question;
-    size_t with = used(solve, CUDRETH_STACK, 105);
-    size_t most = without + (with - without) * MOST_OPEN / 105;
-    printf("stack: %zu bytes with the thread's own and no choice, %zu with 105 alternatives open, so %zu with %d\n",
-           without, with, most, MOST_OPEN);
+    size_t without = used(solve, CUDRETH_STACK, 0), most = 0;
+
+    printf("stack: %zu bytes with the thread's own and no choice", without);
+    for (size_t i = 0; i < sizeof deep / sizeof *deep; i++) {
+        const struct deep *d = &deep[i];
+
+        question_length = 0;
+        for (uint8_t x = 0; x < d->above; x++) {
+            const uint8_t record[] = {CUDRETH_BELOW, x, d->one, 0};
+            ask(record);
+        }
+        for (size_t j = 0; j < d->more; j++)
+            ask(d->records[j]);
+        size_t with = used(solve, CUDRETH_STACK, d->open);
+        size_t all = without + (with - without) * MOST_OPEN / d->open;
+        printf(", %zu with %zu alternatives of %s open, so %zu with %d", with, d->open, d->joins, all, MOST_OPEN);
+        most = all > most ? all : most;
+    }
+    printf("\n");
     return most <= CUDRETH_STACK;
 }
 
