@@ -273,7 +273,8 @@ impl<const K: usize> State<K> {
                     return Join::Chain(x, low(apart));
                 }
             }
-            open &= open - 1;
+            // what is above these is above the variable just looked at
+            open &= !over;
         }
         self.chain_open = 0;
         if K == 0 {
