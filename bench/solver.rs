@@ -339,7 +339,7 @@ impl<const K: usize> Search<'_, K> {
         self.line(&mut first)
     }
 
-    // A first alternative that makes x and y the same, x below y already.
+    // A first alternative that makes x and y the same, where y is above x already.
     #[inline(always)]
     fn merged(&mut self, s: &State<K>, x: usize, y: usize) -> End {
         if self.given.clashes(s.below[y] & s.above[x]) {
@@ -484,7 +484,7 @@ impl Facts {
     }
 }
 
-// The given before facts, shared within groups and chained: each row is added to tables that are.
+// The given before facts, shared within groups and chained: the tables stay so with each row that is added.
 #[inline(always)]
 fn ordered<const K: usize>(given: &Rows, below: &Rows, above: &Rows, all: u16) -> Siblings<K> {
     let mut siblings = Siblings { before: [0; K], after: [0; K], linked: 0, open: all };
@@ -532,7 +532,7 @@ fn passed<const K: usize>(
 #[inline]
 fn settled<const K: usize>(facts: &Facts, n: usize) -> Option<(Given, State<K>)> {
     let all = ((1u32 << n) - 1) as u16;
-    let Facts { rows, columns, labels, .. } = facts;
+    let Facts { rows, columns, labels } = facts;
     let root = columns[6][0];
     let leaf = columns[7][0];
     let mut given = Given { differ: [0; 16], label: labels[1], leaf };
@@ -638,7 +638,7 @@ fn read_off<const K: usize>(s: &State<K>, label: &[u8; 16], n: usize, answer: &m
     len * 4
 }
 
-// Solves a set whose before facts, if there are any, have K rows.
+// Solves a set whose before facts, if there are any, have K rows. A call, so that a set without them has no part in the other's frame.
 #[inline(never)]
 fn search<const K: usize>(facts: &Facts, n: usize, answer: &mut [u8], allowance: u32) -> u64 {
     let Some((given, mut state)) = settled::<K>(facts, n) else {
