@@ -23,7 +23,7 @@ use Rattle.tables.specs.Rows.{Gathers, Lowest, meets, without}
 use Rattle.tables.specs.declared.Facts.{Facts}
 use Rattle.tables.proofs.Bits.{in-both, both-in, or-l, or-r, or-case, all-is, all-has, without-in, without-out, flip-has, flip-not, meets-in, meets-out}
 use Rattle.tables.proofs.Loops.{below-cases}
-use Rattle.joins.specs.Found.{joinOf, Incomparable, StageOf}
+use Rattle.joins.specs.Found.{joinOf, Neither, StageOf}
 use Rattle.joins.specs.declared.Found.the-variants.{Nothing}
 use Rattle.joins.proofs.Find.{firstOf-is-none, firstOf-is-some}
 
@@ -41,10 +41,10 @@ unfolding joinOf
 none-first j n f z l before S r = sym (firstOf-is-none n (isJoin (has f) j) (join j) (λ k x y hk. before S r k x y (le-trans hk l)))
 
 -- the members of a row that are variables
-vars-in : (a vars n i : ℕ) → vars ≡ 2 ^ n - 1 → i < n → Yes (bit a i) → Yes (bit (bitAnd a vars) i)
+pub vars-in : (a vars n i : ℕ) → vars ≡ 2 ^ n - 1 → i < n → Yes (bit a i) → Yes (bit (bitAnd a vars) i)
 vars-in a vars n i e h u = both-in a vars i u (subst (λ (k : ℕ). Yes (bit k i)) (sym e) (all-has n i h))
 
-vars-out : (a vars n i : ℕ) → vars ≡ 2 ^ n - 1 → Yes (bit (bitAnd a vars) i) → Yes (bit a i) × (i < n)
+pub vars-out : (a vars n i : ℕ) → vars ≡ 2 ^ n - 1 → Yes (bit (bitAnd a vars) i) → Yes (bit a i) × (i < n)
 vars-out a vars n i e u = let q = in-both a vars i u in (q .0, all-is n i (subst (λ (k : ℕ). Yes (bit k i)) e (q .1)))
 
 module _ (n : ℕ) (small : n ≤ 16) (S : List Fact) (f : Facts) (r : Ready n S f) where
@@ -52,7 +52,7 @@ module _ (n : ℕ) (small : n ≤ 16) (S : List Fact) (f : Facts) (r : Ready n S
   h = has f
 
   -- the mirrors say what the tables say
-  above-is : (x z : Var) → x < n → z < n → bit (row (f .above) z) x ≡ h (below x z)
+  pub above-is : (x z : Var) → x < n → z < n → bit (row (f .above) z) x ≡ h (below x z)
   unfolding has
   above-is x z hx hz = r .mirrored .ancestors x z (le-trans hx small) (le-trans hz small)
 
@@ -60,7 +60,7 @@ module _ (n : ℕ) (small : n ≤ 16) (S : List Fact) (f : Facts) (r : Ready n S
   unfolding has
   parent-is y z hy hz = r .mirrored .parents y z (le-trans hy small) (le-trans hz small)
 
-  below-is : (x y : Var) → bit (row (f .below) x) y ≡ h (below x y)
+  pub below-is : (x y : Var) → bit (row (f .below) x) y ≡ h (below x y)
   unfolding has
   below-is x y = refl
 
@@ -171,7 +171,7 @@ module _ (n : ℕ) (small : n ≤ 16) (f : Facts) (vars : ℕ) (ev : vars ≡ 2 
 
 -- ---- the chain joins at z
 
-module _ (n : ℕ) (small : n ≤ 16) (f : Facts) (vars : ℕ) (ev : vars ≡ 2 ^ n - 1) (incomparable : List ℕ) (ea : Incomparable (f .below) (f .above) incomparable) (z : Var) (hz : z < n)
+module _ (n : ℕ) (small : n ≤ 16) (f : Facts) (vars : ℕ) (ev : vars ≡ 2 ^ n - 1) (incomparable : List ℕ) (ea : Neither (f .below) (f .above) incomparable) (z : Var) (hz : z < n)
     (g : ℕ) (gp : Gathers (λ k. meets (row incomparable k) (bitAnd (row (f .above) z) vars)) g)
     (x : ℕ) (lx : Lowest (bitAnd (bitAnd (row (f .above) z) vars) g) x) where
   abbrev u : ℕ

@@ -1,3 +1,4 @@
 mod Find
 mod First
+mod Siblings
 mod Stages

@@ -5,26 +5,27 @@ use mathlib.Core.Option.{Option, none, some}
 use Prim.Native.Nat.{ℕ, _<_}
 use lib.Bits.{bitOr, bitXor}
 use Rattle.meaning.specs.Constraint.{Fact}
-use Rattle.meaning.specs.FixedSearch.{JoinKind, parent-join, chain-join, Join, join}
+use Rattle.meaning.specs.FixedSearch.{JoinKind, parent-join, chain-join, sibling-join, Join, join}
 use Rattle.theory.specs.Search.{isJoin, firstOf, firstJoin}
 use Rattle.tables.specs.Tables.{row, has, Ready}
 use Rattle.tables.specs.declared.Facts.{Facts}
 use Rattle.joins.specs.declared.Found.{Found}
 use Rattle.joins.specs.declared.Found.the-variants.{Nothing, One}
 use Rattle.joins.specs.declared.JoinKind as coded
-use Rattle.joins.specs.declared.JoinKind.the-variants.{Parent, Chain}
+use Rattle.joins.specs.declared.JoinKind.the-variants.{Parent, Chain, Sibling}
 
 abbrev pub kindOf : coded.JoinKind → JoinKind
 kindOf Parent = parent-join
 kindOf Chain = chain-join
+kindOf Sibling = sibling-join
 
 unfoldable pub joinOf : Found → Option Join
 joinOf Nothing = none
 joinOf (One k z x y) = some (join (kindOf k) (z .0) (x .0) (y .0))
 
 -- the rows of what is in neither of two tables
-abbrev pub Incomparable : List ℕ → List ℕ → List ℕ → Type 0
-Incomparable s t r = (x : ℕ) → x < 16 → row r x ≡ bitXor (bitOr (row s x) (row t x)) 65535
+abbrev pub Neither : List ℕ → List ℕ → List ℕ → Type 0
+Neither s t r = (x : ℕ) → x < 16 → row r x ≡ bitXor (bitOr (row s x) (row t x)) 65535
 
 -- the first join of a kind, or nothing where there is none; so its variables are below n
 abbrev pub StageOf : JoinKind → ℕ → Facts → Found → Type 0
@@ -37,13 +38,19 @@ FoundOf n f r = (S : List Fact) → Ready n S f → joinOf r ≡ firstJoin n (ha
 -- ---- the same of the rows alone, whatever else the tables hold
 
 abbrev pub withBelow : List ℕ → List ℕ → Facts → Facts
-withBelow b a f = record { child = f .child; parent = f .parent; below = b; above = a; differ = f .differ; root = f .root; label = f .label; leaf = f .leaf }
+withBelow b a f = record { child = f .child; parent = f .parent; below = b; above = a; differ = f .differ; before = f .before; after = f .after; root = f .root; label = f .label; leaf = f .leaf }
 
 abbrev pub withParent : List ℕ → Facts → Facts
-withParent p f = record { child = f .child; parent = p; below = f .below; above = f .above; differ = f .differ; root = f .root; label = f .label; leaf = f .leaf }
+withParent p f = record { child = f .child; parent = p; below = f .below; above = f .above; differ = f .differ; before = f .before; after = f .after; root = f .root; label = f .label; leaf = f .leaf }
+
+abbrev pub withBefore : List ℕ → List ℕ → Facts → Facts
+withBefore b a f = record { child = f .child; parent = f .parent; below = f .below; above = f .above; differ = f .differ; before = b; after = a; root = f .root; label = f .label; leaf = f .leaf }
 
 abbrev pub ParentIn : ℕ → List ℕ → List ℕ → List ℕ → Found → Type 0
 ParentIn n parent below above r = (f : Facts) → StageOf parent-join n (withParent parent (withBelow below above f)) r
 
 abbrev pub ChainIn : ℕ → List ℕ → List ℕ → Found → Type 0
 ChainIn n below above r = (f : Facts) → StageOf chain-join n (withBelow below above f) r
+
+abbrev pub SiblingIn : ℕ → List ℕ → List ℕ → List ℕ → List ℕ → Found → Type 0
+SiblingIn n before after below above r = (f : Facts) → StageOf sibling-join n (withBefore before after (withBelow below above f)) r

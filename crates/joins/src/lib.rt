@@ -1,31 +1,33 @@
-// The first join of a settled set, in the fixed order: parent joins, then chain joins; the smallest z, then x, then y.
+// The first join of a settled set, in the fixed order of kinds: parent joins, chain joins, joins of siblings. Within a kind the smallest
+// first variable, then the second, then the third.
 ghost use mathlib.Core.List.{List};
 ghost use Prim.Native.Nat.{_≤_};
 ghost use Rattle.meaning.specs.Constraint.{Fact};
 ghost use Rattle.tables.specs.Tables.{Ready};
-ghost use Rattle.joins.specs.Found.{Incomparable, ParentIn, ChainIn, FoundOf};
+ghost use Rattle.joins.specs.Found.{Neither, ParentIn, ChainIn, SiblingIn, FoundOf};
 use ids::Var;
 use tables::Facts;
 
 pub enum JoinKind {
     Parent,
     Chain,
+    Sibling,
 }
 
-// A join by its kind and its variables, in the order z, x, y.
+// A join by its kind and its variables, in the order in which they are compared: z, x, y; of siblings y, a, x.
 pub enum Found {
     Nothing,
     One(JoinKind, Var, Var, Var),
 }
 
-// The variables that are neither above nor below each.
-fn incomparable_rows(below: [u16; 16], above: [u16; 16]) -> [u16; 16]
-    ensures { λ r. ⌜ Incomparable below above r ⌝ }
+// What is in neither of two tables, row by row: of below and above, the variables that are incomparable with each.
+fn neither(t: [u16; 16], u: [u16; 16]) -> [u16; 16]
+    ensures { λ r. ⌜ Neither t u r ⌝ }
 {
-    let mut a = below;
+    let mut a = t;
     for x in 0usize..16 {
         let v = a[x];
-        let w = above[x];
+        let w = u[x];
         a[x] = (v | w) ^ 65535;
     }
     a
@@ -59,7 +61,7 @@ fn chain_join(below: [u16; 16], above: [u16; 16], n: usize) -> Found
     ensures { λ r. ⌜ ChainIn n below above r ⌝ }
 {
     let vars = tables::all(n);
-    let apart = incomparable_rows(below, above);
+    let apart = neither(below, above);
     for z in 0..n {
         let v = above[z];
         let u = v & vars;
@@ -68,6 +70,35 @@ fn chain_join(below: [u16; 16], above: [u16; 16], n: usize) -> Found
             let a = apart[x];
             let y = tables::lowest(u & a);
             return Found::One(JoinKind::Chain, Var(z as u8), Var(x as u8), Var(y as u8));
+        }
+    }
+    Found::Nothing
+}
+
+// The first join of siblings: a is properly above y, and x is a sibling of y that is not below a.
+fn sibling_join(
+    before: [u16; 16],
+    after: [u16; 16],
+    below: [u16; 16],
+    above: [u16; 16],
+    n: usize,
+) -> Found
+    requires { ⌜ n ≤ 16 ⌝ }
+    ensures { λ r. ⌜ SiblingIn n before after below above r ⌝ }
+{
+    let vars = tables::all(n);
+    let missing = neither(below, below);
+    for y in 0..n {
+        let p = before[y];
+        let q = after[y];
+        let s = (p | q) & vars;
+        let u = above[y];
+        let b = below[y];
+        let a = tables::lowest(tables::except(u & vars, b) & tables::meeting(missing, s));
+        if a < 16 {
+            let m = missing[a];
+            let x = tables::lowest(s & m);
+            return Found::One(JoinKind::Sibling, Var(y as u8), Var(a as u8), Var(x as u8));
         }
     }
     Found::Nothing
@@ -83,9 +114,15 @@ pub fn first_join(f: Facts, n: usize) -> Found
     let parent = f.parent;
     let below = f.below;
     let above = f.above;
-    let found = parent_join(parent, below, above, n);
-    let Found::Nothing = found else {
-        return found;
+    let first = parent_join(parent, below, above, n);
+    let Found::Nothing = first else {
+        return first;
     };
-    chain_join(below, above, n)
+    let second = chain_join(below, above, n);
+    let Found::Nothing = second else {
+        return second;
+    };
+    let before = f.before;
+    let after = f.after;
+    sibling_join(before, after, below, above, n)
 }

@@ -5,7 +5,7 @@ use mathlib.Core.List.{List, [], _∷_, Memᴰ·append-left, List·Memᴰ·head,
 use mathlib.Core.Option.{some}
 use Prim.Native.Nat.{ℕ}
 use Rattle.meaning.specs.Constraint.{Fact}
-use Rattle.meaning.specs.Settled.{Settled, given, Clash, differs, labels}
+use Rattle.meaning.specs.Settled.{Settled, given, Clash, differs, labels, above-sibling, under-sibling}
 use Rattle.meaning.specs.FixedSearch.{Join, join, IsJoin, first-alternative, second-alternative}
 use Rattle.meaning.specs.Closed.{Within}
 use Rattle.meaning.proofs.Least.{settled-least, settled-rules, settled-mono, settled-within, clash-mono}
@@ -32,6 +32,8 @@ module _ (n : ℕ) (T : List Fact) (φ : Fact) (s : Settled n T φ) where
   clash-same : Clash n (φ ∷ T) → Clash n T
   clash-same (differs d) = differs (more-same d)
   clash-same (labels a b e) = labels (more-same a) (more-same b) e
+  clash-same (above-sibling b d) = above-sibling (more-same b) (more-same d)
+  clash-same (under-sibling b d) = under-sibling (more-same b) (more-same d)
 
   ready-more : {g : Facts} → Ready n T g → Ready n (φ ∷ T) g
   ready-more r = record {

@@ -48,8 +48,8 @@ StepOf n f (Split p q) = PairInside n p × PairInside n q × ((S : List Fact) �
 
 -- ---- a line
 
-abbrev pub tablesOf : (child parent below above differ label : List ℕ) (root leaf : ℕ) → Facts
-tablesOf c p b a d l r f = record { child = c; parent = p; below = b; above = a; differ = d; root = r; label = l; leaf = f }
+abbrev pub tablesOf : (child parent below above differ before after label : List ℕ) (root leaf : ℕ) → Facts
+tablesOf c p b a d e s l r f = record { child = c; parent = p; below = b; above = a; differ = d; before = e; after = s; root = r; label = l; leaf = f }
 
 -- tables that were settled for S: they decide its settled set, or S has a clash
 pub record Line (n : ℕ) (S : List Fact) (s : Settled) : Type 0 where
@@ -59,11 +59,11 @@ pub record Line (n : ℕ) (S : List Fact) (s : Settled) : Type 0 where
 
 -- an end without a tree: blank rows
 abbrev pub withoutTree : End → ℕ → Searched
-withoutTree e c = record { end = e; count = c; below = replicate 16 0; above = replicate 16 0; label = replicate 16 0 }
+withoutTree e c = record { end = e; count = c; below = replicate 16 0; above = replicate 16 0; after = replicate 16 0; label = replicate 16 0 }
 
 -- the rows that r shows are those of tables that decide the settled set of R
 abbrev pub TreeRows : ℕ → List Fact → Searched → Type 0
-TreeRows n R r = (g : Facts) × Ready n R (showing (r .below) (r .above) (r .label) g)
+TreeRows n R r = (g : Facts) × Ready n R (showing (r .below) (r .above) (r .after) (r .label) g)
 
 -- r reports a search that ends in o after entering c alternatives in all
 pub record Reports (A n : ℕ) (o : Outcome) (c : ℕ) (r : Searched) : Type 0 where

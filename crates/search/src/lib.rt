@@ -25,6 +25,7 @@ pub struct Searched {
     pub count: u32,
     pub below: [u16; 16],
     pub above: [u16; 16],
+    pub after: [u16; 16],
     pub label: [u8; 16],
 }
 
@@ -41,7 +42,8 @@ enum Step {
     Split(Below, Below),
 }
 
-// The second alternative of a parent join is same(x, z), where below(x, z) holds already.
+// The first alternative of each kind is below(x, y). The second of a parent join is same(x, z), where below(x, z) holds already; so it is of
+// siblings, whose y, a, x are z, x, y here.
 fn next_step(f: Facts, n: usize) -> Step
     requires { ⌜ n ≤ 16 ⌝ }
     requires { ⌜ ((S : List Fact) × Ready n S f) ⌝ }
@@ -50,16 +52,14 @@ fn next_step(f: Facts, n: usize) -> Step
     let found = joins::first_join(f, n);
     match found {
         Found::Nothing => Step::Solved,
-        Found::One(kind, z, x, y) => match kind {
-            JoinKind::Parent => Step::Split(
-                Below { upper: x, lower: y },
-                Below { upper: z, lower: x },
-            ),
-            JoinKind::Chain => Step::Split(
-                Below { upper: x, lower: y },
-                Below { upper: y, lower: x },
-            ),
-        },
+        Found::One(kind, z, x, y) => {
+            let first = Below { upper: x, lower: y };
+            match kind {
+                JoinKind::Parent => Step::Split(first, Below { upper: z, lower: x }),
+                JoinKind::Chain => Step::Split(first, Below { upper: y, lower: x }),
+                JoinKind::Sibling => Step::Split(first, Below { upper: z, lower: x }),
+            }
+        }
     }
 }
 
@@ -71,6 +71,7 @@ fn without_tree(end: End, count: u32) -> Searched
         count,
         below: [0; 16],
         above: [0; 16],
+        after: [0; 16],
         label: [0; 16],
     }
 }
@@ -83,6 +84,8 @@ fn line(
     below: [u16; 16],
     above: [u16; 16],
     differ: [u16; 16],
+    before: [u16; 16],
+    after: [u16; 16],
     label: [u8; 16],
     root: u16,
     leaf: u16,
@@ -91,8 +94,8 @@ fn line(
     count: u32,
 ) -> Searched
     requires { ⌜ (n ≤ 16) × (count ≤ allowance) ⌝ }
-    requires { ⌜ ((S : List Fact) × Ready n S (tablesOf child parent below above differ label root leaf)) ⌝ }
-    ensures { λ r. ⌜ LineOf allowance n (tablesOf child parent below above differ label root leaf) count r ⌝ }
+    requires { ⌜ ((S : List Fact) × Ready n S (tablesOf child parent below above differ before after label root leaf)) ⌝ }
+    ensures { λ r. ⌜ LineOf allowance n (tablesOf child parent below above differ before after label root leaf) count r ⌝ }
 {
     let f = Facts {
         child,
@@ -100,6 +103,8 @@ fn line(
         below,
         above,
         differ,
+        before,
+        after,
         root,
         label,
         leaf,
@@ -111,6 +116,7 @@ fn line(
             count,
             below,
             above,
+            after,
             label,
         };
     };
@@ -146,6 +152,8 @@ pub fn search(s: Settled, n: usize, allowance: u32, count: u32) -> Searched
     let below = facts.below;
     let above = facts.above;
     let differ = facts.differ;
+    let before = facts.before;
+    let after = facts.after;
     let label = facts.label;
     line(
         child,
@@ -153,6 +161,8 @@ pub fn search(s: Settled, n: usize, allowance: u32, count: u32) -> Searched
         below,
         above,
         differ,
+        before,
+        after,
         label,
         facts.root,
         facts.leaf,

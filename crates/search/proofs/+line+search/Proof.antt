@@ -27,7 +27,7 @@ use Rattle.search.proofs.+line+search.{statement}
 use Rattle.search.proofs.+line+search.Tie.{close}
 
 abbrev μ-line : Measures 0 line-kinds.ps ℕ
-μ-line κs a = let b = a .1 .1 .1 .1 .1 .1 .1 .1 .1 in (b .0 - b .1 .0) + (b .0 - b .1 .0)
+μ-line κs a = let b = a .1 .1 .1 .1 .1 .1 .1 .1 .1 .1 .1 in (b .0 - b .1 .0) + (b .0 - b .1 .0)
 
 abbrev μ-search : Measures 0 search-kinds.ps ℕ
 μ-search κs a = let b = a .1 .1 in (b .0 - b .1 .0) + (b .0 - b .1 .0) + 1
@@ -65,7 +65,7 @@ search-claims t = (without-tree-reads.Asked, without-tree-reads.Learnt, line-bel
 abbrev tables : (t : ℕ) → line-lts.Start (claims t) (line-at t) line.Post → Facts
 tables t start =
     let a = start .args in
-    tablesOf (a .child) (a .parent) (a .below) (a .above) (a .differ) (a .label) (a .root) (a .leaf)
+    tablesOf (a .child) (a .parent) (a .below) (a .above) (a .differ) (a .before) (a .after) (a .label) (a .root) (a .leaf)
 
 not-none : (e : End) → (tagOf the-type e ≡ 0) ⊎ (tagOf the-type e ≡ 2) → e ≢ None
 not-none e k d = let x : tagOf the-type e ≡ 1 = ap (tagOf the-type) d in ⊎-elim (λ y. omega arith) (λ y. omega arith) k
@@ -219,12 +219,12 @@ search-returns t c =
 
 search-line-requires : (t : ℕ) → search-lts.Need-line-requires (search-claims t) (search-at t) search′.Post
 search-line-requires t c κs =
-    let free = c .before .before .before .before .before .before .before in
+    let free = c .before .before .before .before .before .before .before .before .before in
     let start = free .before in
     (omega (arith, start .pre .0), (start .pre .1 .0, (_, start .pre .1 .1 .1 .ready (free .if1 .left))))
 
 search-returns-2 : (t : ℕ) → search-lts.Need-returns-2 (search-claims t) (search-at t) search′.Post
-search-returns-2 t c = let free = c .before .before .before .before .before .before .before .before in λ S l. c .line .ensures S (l .ready (free .if1 .left))
+search-returns-2 t c = let free = c .before .before .before .before .before .before .before .before .before .before in λ S l. c .line .ensures S (l .ready (free .if1 .left))
 
 pub +line+search-spec : {M : Type 1} → statement M
 +line+search-spec = close μ-line μ-search (λ t. line-lts.spec (claims t)

@@ -1,4 +1,5 @@
--- `search::next_step` meets its contract. Of a parent join the second alternative adds below(x, z), which is settled already.
+-- `search::next_step` meets its contract. Of a parent join the second alternative adds below(x, z), which is settled already, and so is
+-- below(a, y) of a join of siblings.
 use borrow.Author.Needs.{needs}
 use Rattle.search.proofs.Entering.{enters-one, enters-two, joined, step-solved, step-split}
 use Rattle.search.proofs.next_step.Statement.{statement}
@@ -19,6 +20,9 @@ enum-told-2 c = search needs
 enum-told-3 : tie.Need-enum-told-3
 enum-told-3 c = search needs
 
+enum-told-4 : tie.Need-enum-told-4
+enum-told-4 c = search needs
+
 returns : tie.Need-returns
 returns c = step-solved _ _ _ (c .before .before .first-join .ensures) (c .enum-told .given .1)
 
@@ -34,6 +38,12 @@ returns-3 c =
     step-split _ _ _ (j .first-join .ensures) _ (j .before .pre .1 .1) _ (joined (e .found .given .1) (c .enum-told3 .given .1)) _ _
     (λ S q. (enters-one _ S _, enters-one _ S _))
 
+returns-4 : tie.Need-returns-4
+returns-4 c =
+    let e = c .before .before .before in let j = e .before .before in
+    step-split _ _ _ (j .first-join .ensures) _ (j .before .pre .1 .1) _ (joined (e .found .given .1) (c .enum-told4 .given .1)) _ _
+    (λ S q. (enters-one _ S _, enters-two _ S _ _ (q .above)))
+
 pub next-step-spec : {M : Type 1} → statement M
 next-step-spec =
     tie.close
@@ -43,6 +53,8 @@ next-step-spec =
     enum-known-found
     enum-told-2
     enum-told-3
+    enum-told-4
     returns
     returns-2
-    returns-3)
+    returns-3
+    returns-4)

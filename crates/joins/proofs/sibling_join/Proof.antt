@@ -1,0 +1,155 @@
+-- `joins::sibling_join` meets its contract: the loop has passed no y with a join of siblings.
+use mathlib.Core.Path.{subst}
+use Prim.Native.Nat.{ℕ, _≤_, _-_}
+use native.Mathlib.Nat.{not-suc-le-zero}
+use lib.Bits.{bitAnd}
+use lib.ListN.{getD}
+use mir.Val.{Fits}
+use mir.Syntax.{w16}
+use borrow.Author.Needs.{needs}
+use Rattle.meaning.specs.FixedSearch.{sibling-join}
+use Rattle.tables.specs.Rows.{Lowest}
+use Rattle.tables.specs.declared.Facts.{Facts}
+use Rattle.joins.specs.Found.{joinOf, withBelow, withBefore}
+use Rattle.joins.proofs.First.{NoneBefore, none-more, none-first}
+use Rattle.joins.proofs.Siblings.{none-siblings, sibling-first}
+use Rattle.joins.proofs.sibling_join.Statement.{statement}
+use Rattle.joins.proofs.sibling_join.Tie as tie
+
+abbrev Inv-loop : tie.InvT-loop
+Inv-loop n before after below above vars missing y₀ y =
+    (y ≤ n) × ((f : Facts) → NoneBefore sibling-join n (withBefore before after (withBelow below above f)) y)
+
+abbrev μ-loop : tie.MeasureT-loop
+μ-loop n before after below above vars missing y₀ y = n - y
+
+all-requires : tie.Need-all-requires Inv-loop μ-loop
+all-requires c κs = search needs
+
+neither-requires : tie.Need-neither-requires Inv-loop μ-loop
+neither-requires c κs = search needs
+
+loop-holds : tie.Need-loop-holds Inv-loop μ-loop
+loop-holds c = (search needs, λ f S r k x y l. absurd (not-suc-le-zero l))
+
+mul-p : tie.Need-mul-p Inv-loop μ-loop
+mul-p c = search needs
+
+array-read-p : tie.Need-array-read-p Inv-loop μ-loop
+array-read-p c = search needs
+
+mul-q : tie.Need-mul-q Inv-loop μ-loop
+mul-q c = search needs
+
+array-read-q : tie.Need-array-read-q Inv-loop μ-loop
+array-read-q c = search needs
+
+mul-u : tie.Need-mul-u Inv-loop μ-loop
+mul-u c = search needs
+
+array-read-u : tie.Need-array-read-u Inv-loop μ-loop
+array-read-u c = search needs
+
+mul-b : tie.Need-mul-b Inv-loop μ-loop
+mul-b c = search needs
+
+array-read-b : tie.Need-array-read-b Inv-loop μ-loop
+array-read-b c = search needs
+
+except-requires : tie.Need-except-requires Inv-loop μ-loop
+except-requires c κs = search needs
+
+meeting-requires : tie.Need-meeting-requires Inv-loop μ-loop
+meeting-requires c κs = search needs
+
+lowest-requires : tie.Need-lowest-requires Inv-loop μ-loop
+lowest-requires c κs = search needs
+
+mul-m : tie.Need-mul-m Inv-loop μ-loop
+mul-m c = search needs
+
+array-read-m : tie.Need-array-read-m Inv-loop μ-loop
+array-read-m c = search needs
+
+lowest-requires-2 : tie.Need-lowest-requires-2 Inv-loop μ-loop
+lowest-requires-2 c κs = search needs
+
+cast-t44 : tie.Need-cast-t44 Inv-loop μ-loop
+cast-t44 c = search needs
+
+cast-t46 : tie.Need-cast-t46 Inv-loop μ-loop
+cast-t46 c = search needs
+
+cast-t48 : tie.Need-cast-t48 Inv-loop μ-loop
+cast-t48 c = search needs
+
+returns : tie.Need-returns Inv-loop μ-loop
+unfolding joinOf
+returns c =
+    let t = c .before in
+    let l = t .before in
+    let i = l .before .before .before in
+    let m = i .before .before in
+    let s = m .before .before in
+    let a-is = subst (λ (k : ℕ). Lowest (bitAnd k (l .before .meeting .result)) (l .lowest .result)) (l .before .before .except .ensures) (l .lowest .ensures) in
+    let h : Fits w16 (getD (m .neither .result) (l .lowest .result) 0) = search needs in
+    λ f.
+    sibling-first _ (s .pre) (withBefore (s .args .t1) (s .args .t2) (withBelow (s .args .t3) (s .args .t4) f)) _ (m .before .all .ensures) (m .neither .result) (m .neither .ensures) _ (i .loop-test .taken)
+    _ (l .before .meeting .ensures) _ a-is (t .if1 .taken) (h .fits) _ (c .lowest2 .ensures) (i .before .loop .inv .1 f)
+
+add-y : tie.Need-add-y Inv-loop μ-loop
+add-y c = search needs
+
+loop-less : tie.Need-loop-less Inv-loop μ-loop
+loop-less c = search needs
+
+loop-again : tie.Need-loop-again Inv-loop μ-loop
+loop-again c =
+    let l = c .before in
+    let i = l .before .before .before in
+    let m = i .before .before in
+    let s = m .before .before in
+    let a-is = subst (λ (k : ℕ). Lowest (bitAnd k (l .before .meeting .result)) (l .lowest .result)) (l .before .before .except .ensures) (l .lowest .ensures) in (
+      search needs,
+      λ f.
+          let g = withBefore (s .args .t1) (s .args .t2) (withBelow (s .args .t3) (s .args .t4) f) in
+          none-more sibling-join _ g _ (i .before .loop .inv .1 f)
+          (none-siblings _ (s .pre) g _ (m .before .all .ensures) (m .neither .result) (m .neither .ensures) _ (i .loop-test .taken) _ (l .before .meeting .ensures) _ a-is (c .if1 .left)),
+    )
+
+returns-2 : tie.Need-returns-2 Inv-loop μ-loop
+returns-2 c = λ f.
+    let s = c .before .before .before .before in
+    none-first sibling-join _ (withBefore (s .args .t1) (s .args .t2) (withBelow (s .args .t3) (s .args .t4) f)) _ (c .loop-test .left) (c .before .loop .inv .1 f)
+
+pub sibling-join-spec : {M : Type 1} → statement M
+sibling-join-spec =
+    tie.close
+    (tie.spec
+    Inv-loop
+    μ-loop
+    all-requires
+    neither-requires
+    loop-holds
+    mul-p
+    array-read-p
+    mul-q
+    array-read-q
+    mul-u
+    array-read-u
+    mul-b
+    array-read-b
+    except-requires
+    meeting-requires
+    lowest-requires
+    mul-m
+    array-read-m
+    lowest-requires-2
+    cast-t44
+    cast-t46
+    cast-t48
+    returns
+    add-y
+    loop-less
+    loop-again
+    returns-2)
