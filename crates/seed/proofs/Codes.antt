@@ -4,7 +4,7 @@ use mathlib.Core.Logic.{_⊎_, inl, inr, ⊎-elim}
 use mathlib.Core.List.{List, _∷_, List·Memᴰ, List·Memᴰ·head, List·Memᴰ·tail}
 use Prim.Native.Nat.{ℕ, _<_}
 use native.Mathlib.Omega.{arith}
-use Rattle.meaning.specs.Constraint.{Constraint, is-child, is-below, is-strictly-below, is-same, is-differ, is-root, is-leaf, is-label, named, Fact, child, below, differ, root, leaf, label, facts, factsOf}
+use Rattle.meaning.specs.Constraint.{Constraint, is-child, is-below, is-strictly-below, is-same, is-differ, is-root, is-leaf, is-label, is-before, named, Fact, child, below, differ, before, root, leaf, label, facts, factsOf}
 use Rattle.meaning.specs.Marking.{kind}
 use Rattle.meaning.specs.Finite.{pick}
 use Rattle.meaning.proofs.Constraints.{fact-in, fact-from}
@@ -20,6 +20,7 @@ left (is-differ x y) = x
 left (is-root x) = x
 left (is-leaf x) = x
 left (is-label x l) = x
+left (is-before x y) = x
 
 -- 0 where it names one variable
 abbrev pub right : Constraint → ℕ
@@ -31,6 +32,7 @@ right (is-differ x y) = y
 right (is-root x) = 0
 right (is-leaf x) = 0
 right (is-label x l) = 0
+right (is-before x y) = y
 
 abbrev pub name : Constraint → ℕ
 name (is-child x y) = 0
@@ -41,6 +43,7 @@ name (is-differ x y) = 0
 name (is-root x) = 0
 name (is-leaf x) = 0
 name (is-label x l) = l
+name (is-before x y) = 0
 
 spelt : (c : Constraint) → c ≡ constraintAs (kindOf (kind c)) (left c) (right c) (name c)
 unfolding kind constraintAs kindOf pick
@@ -52,6 +55,7 @@ spelt (is-differ x y) = refl
 spelt (is-root x) = refl
 spelt (is-leaf x) = refl
 spelt (is-label x l) = refl
+spelt (is-before x y) = refl
 
 pub spelt-as : (c : Constraint) {k x y : ℕ} → kind c ≡ k → left c ≡ x → right c ≡ y → c ≡ constraintAs (kindOf k) x y (name c)
 spelt-as c a b d = rw (sym a, sym b, sym d) (spelt c)
@@ -66,6 +70,7 @@ variables-named (is-differ x y) = (omega arith, omega arith)
 variables-named (is-root x) = (omega arith, omega arith)
 variables-named (is-leaf x) = (omega arith, omega arith)
 variables-named (is-label x l) = (omega arith, omega arith)
+variables-named (is-before x y) = (omega arith, omega arith)
 
 -- ---- a fact's constraints
 
@@ -74,6 +79,7 @@ module _ (cs : List Constraint) where
   Source (child x y) = List·Memᴰ (is-child x y) cs
   Source (below x y) = List·Memᴰ (is-below x y) cs ⊎ (List·Memᴰ (is-strictly-below x y) cs ⊎ (List·Memᴰ (is-same x y) cs ⊎ List·Memᴰ (is-same y x) cs))
   Source (differ x y) = List·Memᴰ (is-strictly-below x y) cs ⊎ List·Memᴰ (is-differ x y) cs
+  Source (before x y) = List·Memᴰ (is-before x y) cs
   Source (root x) = List·Memᴰ (is-root x) cs
   Source (leaf x) = List·Memᴰ (is-leaf x) cs
   Source (label x l) = List·Memᴰ (is-label x l) cs
@@ -87,6 +93,7 @@ module _ (cs : List Constraint) where
   one-source (is-root x) k φ m = in-one Source k m
   one-source (is-leaf x) k φ m = in-one Source k m
   one-source (is-label x l) k φ m = in-one Source k m
+  one-source (is-before x y) k φ m = in-one Source k m
 
   pub source : (φ : Fact) → List·Memᴰ φ (factsOf cs) → Source φ
   source φ m = let w = fact-from cs φ m in one-source (w .0) (w .1) φ (w .2)
@@ -101,6 +108,7 @@ module _ (cs : List Constraint) where
   sourced (child x y) m = first refl m
   sourced (below x y) m = ⊎-elim (first refl) (⊎-elim (first refl) (⊎-elim (first refl) (second refl))) m
   sourced (differ x y) m = ⊎-elim (second refl) (first refl) m
+  sourced (before x y) m = first refl m
   sourced (root x) m = first refl m
   sourced (leaf x) m = first refl m
   sourced (label x l) m = first refl m

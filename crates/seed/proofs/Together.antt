@@ -10,8 +10,8 @@ use lib.Bits.{bitOr}
 use lib.ListN.{drop}
 use Rattle.rowbits.specs.Bit.{bit}
 use Rattle.meaning.specs.Tree.{Var}
-use Rattle.meaning.specs.Constraint.{Constraint, is-child, is-below, is-strictly-below, is-same, is-differ, is-root, is-leaf, is-label, vars, Fact, child, below, differ, root, leaf, label, factsOf}
-use Rattle.meaning.specs.Settled.{Settled, given, child-differ, differ-back}
+use Rattle.meaning.specs.Constraint.{Constraint, is-child, is-below, is-strictly-below, is-same, is-differ, is-root, is-leaf, is-label, is-before, vars, Fact, child, below, differ, before, root, leaf, label, factsOf}
+use Rattle.meaning.specs.Settled.{Settled, given, child-differ, before-differ, differ-back}
 use Rattle.meaning.specs.Marking.{kind}
 use Rattle.meaning.specs.Finite.{Yes, pick}
 use Rattle.meaning.proofs.Tests.{yes-eq}
@@ -21,7 +21,7 @@ use Rattle.tables.specs.Tables.{row, has, Seeded}
 use Rattle.tables.specs.declared.Facts.{Facts}
 use Rattle.tables.proofs.Bits.{or-case, or-l, or-r, none-in}
 use Rattle.tables.proofs.Labels.{label-is, label-has}
-use Rattle.seed.specs.Seeds.{kindRow, bothWays, RowsOf, TogetherOf, Sown, GivesTwoLabels}
+use Rattle.seed.specs.Seeds.{kindRow, bothWays, RowsOf, TogetherOf, SaidDiffer, Sown, GivesTwoLabels}
 use Rattle.seed.proofs.Codes.{left, right, name, spelt-as, Source, source, sourced}
 use Rattle.seed.proofs.Gathering.{Gathered}
 use Rattle.seed.proofs.Seeding.{Seeding}
@@ -88,7 +88,7 @@ module _ (cs : List Constraint) (i : ℕ) (over : drop i cs ≡ []) (small : (c 
     Both d x y = Of d x y ⊎ Back d x y
 
     abbrev Unlike : ℕ → ℕ → Type 0
-    Unlike x y = Both is-child x y ⊎ (Both is-strictly-below x y ⊎ Both is-differ x y)
+    Unlike x y = (Both is-child x y ⊎ Both is-before x y) ⊎ (Both is-strictly-below x y ⊎ Both is-differ x y)
 
     by-row : (k : ℕ) → Tells (kindRow rows k) (Given left right k)
     by-row k = part left right (λ c m. small c m .0) rows (s .by-row) k
@@ -129,6 +129,14 @@ module _ (cs : List Constraint) (i : ℕ) (over : drop i cs ≡ []) (small : (c 
       unfolding kind constraintAs kindOf pick
       parent-are = told (w .parent-rows) (columns-are 1 is-child (λ x y l. (refl, refl, refl, refl)))
 
+      before-are : Bits (f .before) (Of is-before)
+      unfolding kind constraintAs kindOf pick
+      before-are = told (w .before-rows) (rows-are 9 is-before (λ x y l. (refl, refl, refl, refl)))
+
+      after-are : Bits (f .after) (Back is-before)
+      unfolding kind constraintAs kindOf pick
+      after-are = told (w .after-rows) (columns-are 9 is-before (λ x y l. (refl, refl, refl, refl)))
+
       below-are : Bits (f .below) (λ x y. Source cs (below x y))
       unfolding kind constraintAs kindOf pick
       below-are =
@@ -140,7 +148,7 @@ module _ (cs : List Constraint) (i : ℕ) (over : drop i cs ≡ []) (small : (c 
       unfolding kind constraintAs kindOf pick
       differ-are =
           told (w .differ-rows)
-          (unite (both-are 1 is-child (λ x y l. (refl, refl, refl, refl)))
+          (unite (unite (both-are 1 is-child (λ x y l. (refl, refl, refl, refl))) (both-are 9 is-before (λ x y l. (refl, refl, refl, refl))))
           (unite (both-are 3 is-strictly-below (λ x y l. (refl, refl, refl, refl))) (both-are 5 is-differ (λ x y l. (refl, refl, refl, refl)))))
 
       root-is : (x : ℕ) → Yes (bit (f .root) x) ↔ List·Memᴰ (is-root x) cs
@@ -159,15 +167,19 @@ module _ (cs : List Constraint) (i : ℕ) (over : drop i cs ≡ []) (small : (c 
 
       apart-to : (x y : ℕ) → Unlike x y → Sown (factsOf cs) (differ x y)
       apart-to x y =
-          ⊎-elim (⊎-elim (λ m. inl (inr (sourced cs (child x y) m))) (λ m. inr (inr (sourced cs (child y x) m))))
+          ⊎-elim
+          (⊎-elim (⊎-elim (λ m. inl (inr (inl (sourced cs (child x y) m)))) (λ m. inr (inr (inl (sourced cs (child y x) m)))))
+          (⊎-elim (λ m. inl (inr (inr (sourced cs (before x y) m)))) (λ m. inr (inr (inr (sourced cs (before y x) m))))))
           (⊎-elim (⊎-elim (λ m. inl (inl (sourced cs (differ x y) (inl m)))) (λ m. inr (inl (sourced cs (differ y x) (inl m)))))
           (⊎-elim (λ m. inl (inl (sourced cs (differ x y) (inr m)))) (λ m. inr (inl (sourced cs (differ y x) (inr m))))))
 
       apart-from : (x y : ℕ) → Sown (factsOf cs) (differ x y) → Unlike x y
       apart-from x y =
           ⊎-elim
-          (⊎-elim (λ m. inr (⊎-elim (λ b. inl (inl b)) (λ b. inr (inl b)) (source cs (differ x y) m))) (λ m. inl (inl (source cs (child x y) m))))
-          (⊎-elim (λ m. inr (⊎-elim (λ b. inl (inr b)) (λ b. inr (inr b)) (source cs (differ y x) m))) (λ m. inl (inr (source cs (child y x) m))))
+          (⊎-elim (λ m. inr (⊎-elim (λ b. inl (inl b)) (λ b. inr (inl b)) (source cs (differ x y) m)))
+          (⊎-elim (λ m. inl (inl (inl (source cs (child x y) m)))) (λ m. inl (inr (inl (source cs (before x y) m))))))
+          (⊎-elim (λ m. inr (⊎-elim (λ b. inl (inr b)) (λ b. inr (inr b)) (source cs (differ y x) m)))
+          (⊎-elim (λ m. inl (inl (inr (source cs (child y x) m)))) (λ m. inl (inr (inr (source cs (before y x) m))))))
 
       -- what gives a fact
       by-source : {b : Bool} (φ : Fact) → Yes b ↔ Source cs φ → Yes b ↔ List·Memᴰ φ (factsOf cs)
@@ -178,6 +190,7 @@ module _ (cs : List Constraint) (i : ℕ) (over : drop i cs ≡ []) (small : (c 
       exact (child x y) = by-source (child x y) (child-are x y)
       exact (below x y) = by-source (below x y) (below-are x y)
       exact (differ x y) = (λ u. apart-to x y (differ-are x y .0 u), λ m. differ-are x y .1 (apart-from x y m))
+      exact (before x y) = by-source (before x y) (before-are x y)
       exact (root x) = by-source (root x) (root-is x)
       exact (leaf x) = by-source (leaf x) (leaf-is x)
       exact (label x l) = by-source (label x l) (label-are x l)
@@ -192,6 +205,7 @@ module _ (cs : List Constraint) (i : ℕ) (over : drop i cs ≡ []) (small : (c 
       holds (child x y) m = m
       holds (below x y) m = m
       holds (differ x y) m = inl (inl m)
+      holds (before x y) m = m
       holds (root x) m = m
       holds (leaf x) m = m
       holds (label x l) m = m
@@ -199,7 +213,11 @@ module _ (cs : List Constraint) (i : ℕ) (over : drop i cs ≡ []) (small : (c 
       settled : {n : ℕ} (φ : Fact) → Sown (factsOf cs) φ → Settled n (factsOf cs) φ
       settled (child x y) m = given m
       settled (below x y) m = given m
-      settled (differ x y) m = ⊎-elim (⊎-elim given (λ k. child-differ (given k))) (⊎-elim (λ k. differ-back (given k)) (λ k. differ-back (child-differ (given k)))) m
+      settled {n} (differ x y) m = ⊎-elim (said x y) (λ k. differ-back (said y x k)) m
+        where
+          said : (u v : ℕ) → SaidDiffer (factsOf cs) u v → Settled n (factsOf cs) (differ u v)
+          said u v = ⊎-elim given (⊎-elim (λ k. child-differ (given k)) (λ k. before-differ (given k)))
+      settled (before x y) m = given m
       settled (root x) m = given m
       settled (leaf x) m = given m
       settled (label x l) m = given m
@@ -210,7 +228,9 @@ module _ (cs : List Constraint) (i : ℕ) (over : drop i cs ≡ []) (small : (c 
         inside = facts-inside n cs l;
         held = λ φ m. exact φ .1 (holds φ m);
         sound = λ φ u. settled φ (exact φ .0 u);
-        child-differ = λ x y u. exact (differ x y) .1 (inl (inr (exact (child x y) .0 u)));
+        child-differ = λ x y u. exact (differ x y) .1 (inl (inr (inl (exact (child x y) .0 u))));
+        before-differ = λ x y u. exact (differ x y) .1 (inl (inr (inr (exact (before x y) .0 u))));
         turned = λ x y u. exact (differ y x) .1 (⊎-elim inr inl (exact (differ x y) .0 u));
         parents = λ x y hx hy. yes-eq _ _ (λ u. child-are x y .1 (parent-are y x .0 u)) (λ u. parent-are y x .1 (child-are x y .0 u));
+        siblings = λ x y hx hy. yes-eq _ _ (λ u. before-are x y .1 (after-are y x .0 u)) (λ u. after-are y x .1 (before-are x y .0 u));
       }

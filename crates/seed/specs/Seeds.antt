@@ -9,7 +9,7 @@ use lib.Dec.{eqb}
 use lib.Bits.{bitOr}
 use lib.ListN.{replicate}
 use Rattle.meaning.specs.Tree.{Var, Label}
-use Rattle.meaning.specs.Constraint.{Fact, child, below, differ, root, leaf, label, vars, factsOf}
+use Rattle.meaning.specs.Constraint.{Fact, child, below, differ, before, root, leaf, label, vars, factsOf}
 use Rattle.meaning.specs.Finite.{Yes, _and_, neg, pick}
 use Rattle.constraints.specs.Judgement.{constraintsIn}
 use Rattle.tables.specs.Tables.{row, has, Seeded}
@@ -30,6 +30,8 @@ noFacts = record {
   below = replicate 16 0;
   above = replicate 16 0;
   differ = replicate 16 0;
+  before = replicate 16 0;
+  after = replicate 16 0;
   root = 0;
   label = replicate 16 0;
   leaf = 0;
@@ -48,27 +50,30 @@ pub record RowsOf (rows : ℕ → ℕ) (r : List ℕ) : Type 0 where
 abbrev pub bothWays : List ℕ → List ℕ → ℕ → ℕ → ℕ
 bothWays rows columns kind x = bitOr (kindRow rows kind x) (kindRow columns kind x)
 
--- the tables, from the rows and columns by kind: strictly below is below and differ, same is below both ways, and child and differ are
--- differ both ways
+-- the tables, from the rows and columns by kind: strictly below is below and differ, same is below both ways, and child, before and differ
+-- are differ both ways
 pub record TogetherOf (rows columns names : List ℕ) (r : Facts) : Type 0 where
   pub child-rows : RowsOf (kindRow rows 1) (r .child)
   pub parent-rows : RowsOf (kindRow columns 1) (r .parent)
   pub below-rows : RowsOf (λ x. bitOr (kindRow rows 2 x) (bitOr (kindRow rows 3 x) (bothWays rows columns 4 x))) (r .below)
   pub above-rows : r .above ≡ replicate 16 0
-  pub differ-rows : RowsOf (λ x. bitOr (bothWays rows columns 1 x) (bitOr (bothWays rows columns 3 x) (bothWays rows columns 5 x))) (r .differ)
+  pub differ-rows : RowsOf (λ x. bitOr (bitOr (bothWays rows columns 1 x) (bothWays rows columns 9 x)) (bitOr (bothWays rows columns 3 x) (bothWays rows columns 5 x))) (r .differ)
+  pub before-rows : RowsOf (kindRow rows 9) (r .before)
+  pub after-rows : RowsOf (kindRow columns 9) (r .after)
   pub root-row : r .root ≡ kindRow columns 6 0
   pub leaf-row : r .leaf ≡ kindRow columns 7 0
   pub names-kept : r .label ≡ names
 
--- S says that x and y differ, one way round, by differ or by child
+-- S says that x and y differ, one way round, by differ, by child or by before
 abbrev pub SaidDiffer : List Fact → ℕ → ℕ → Type 0
-SaidDiffer S x y = List·Memᴰ (differ x y) S ⊎ List·Memᴰ (child x y) S
+SaidDiffer S x y = List·Memᴰ (differ x y) S ⊎ (List·Memᴰ (child x y) S ⊎ List·Memᴰ (before x y) S)
 
--- what the seeds of S hold: the facts of S, and differ both ways and for child
+-- what the seeds of S hold: the facts of S, and differ both ways, for child and for before
 abbrev pub Sown : List Fact → Fact → Type 0
 Sown S (child x y) = List·Memᴰ (child x y) S
 Sown S (below x y) = List·Memᴰ (below x y) S
 Sown S (differ x y) = SaidDiffer S x y ⊎ SaidDiffer S y x
+Sown S (before x y) = List·Memᴰ (before x y) S
 Sown S (root x) = List·Memᴰ (root x) S
 Sown S (leaf x) = List·Memᴰ (leaf x) S
 Sown S (label x l) = List·Memᴰ (label x l) S
@@ -85,7 +90,7 @@ pub record GivesTwoLabels (S : List Fact) : Type 0 where
 pub record SeedsOf (file : List ℕ) (r : Seeds) : Type 0 where
   pub clashes : Yes (r .clash) ↔ GivesTwoLabels (factsOf (constraintsIn file))
   pub cleared : r .clash ≡ true → r .facts ≡ noFacts
-  -- else the tables hold what is sown and no other fact; that `parent` is the columns of `child` is in seeded
+  -- else the tables hold what is sown and no other fact; that `parent` is the columns of `child`, and `after` of `before`, is in seeded
   pub exact : r .clash ≡ false → (φ : Fact) → Yes (has (r .facts) φ) ↔ Sown (factsOf (constraintsIn file)) φ
   pub unmirrored : r .clash ≡ false → r .facts .above ≡ replicate 16 0
   pub seeded : r .clash ≡ false → (n : ℕ) → vars (constraintsIn file) ≤ n → Seeded n (factsOf (constraintsIn file)) (r .facts)

@@ -46,6 +46,8 @@ fn blank() -> Facts
         below: [0; 16],
         above: [0; 16],
         differ: [0; 16],
+        before: [0; 16],
+        after: [0; 16],
         root: 0,
         label: [0; 16],
         leaf: 0,
@@ -65,8 +67,8 @@ fn table(rows: [u16; 256], kind: usize) -> [u16; 16]
     a
 }
 
-// The tables, from the rows and columns by kind: 1 child, 2 below, 3 strictly below, 4 same, 5 differ; 6 root and 7 leaf, which have 0
-// for y.
+// The tables, from the rows and columns by kind: 1 child, 2 below, 3 strictly below, 4 same, 5 differ, 9 before; 6 root and 7 leaf, which
+// have 0 for y.
 fn put_together(rows: [u16; 256], columns: [u16; 256], label: [u8; 16]) -> Facts
     ensures { λ r. ⌜ TogetherOf rows columns label r ⌝ }
 {
@@ -74,6 +76,8 @@ fn put_together(rows: [u16; 256], columns: [u16; 256], label: [u8; 16]) -> Facts
     let leaf = columns[112];
     let child = table(rows, 1);
     let parent = table(columns, 1);
+    let before = table(rows, 9);
+    let after = table(columns, 9);
     let below = tables::either(
         table(rows, 2),
         tables::either(
@@ -82,7 +86,7 @@ fn put_together(rows: [u16; 256], columns: [u16; 256], label: [u8; 16]) -> Facts
         ),
     );
     let differ = tables::either(
-        tables::either(child, parent),
+        tables::either(tables::either(child, parent), tables::either(before, after)),
         tables::either(
             tables::either(table(rows, 3), table(columns, 3)),
             tables::either(table(rows, 5), table(columns, 5)),
@@ -94,6 +98,8 @@ fn put_together(rows: [u16; 256], columns: [u16; 256], label: [u8; 16]) -> Facts
         below,
         above: [0; 16],
         differ,
+        before,
+        after,
         root,
         label,
         leaf,

@@ -1,4 +1,4 @@
--- What the rules for itself, child, root and chain make of the rows of below.
+-- Rows chained, and what the rules for itself, child and root make of the rows of below before that.
 use mathlib.Core.Path.{_≡_, refl, sym, _∙_, subst}
 use mathlib.Core.Logic.{_≢_, _⊎_, inl, inr, ⊎-elim}
 use mathlib.Core.List.{List}
@@ -15,12 +15,12 @@ use Rattle.tables.specs.Tables.{row}
 use Rattle.tables.specs.Rows.{Up, gained, without, Gathers, meets}
 use Rattle.tables.proofs.Loops.{below-cases, Rowing}
 use Rattle.tables.proofs.Bits.{or-l, or-r, or-case, up-or, up-self, up-trans, all-is, all-has, gained-up, gained-has, gained-case, one-is, one-has, without-in, in-row, meets-in, meets-out}
-use Rattle.settle.specs.Rows.{Lifted, Chained, WholeGroups, firstRow}
+use Rattle.settle.specs.Rows.{Lifted, ChainOf, Chained, WholeGroups, firstRow}
 
 pub lifted : (t : List ℕ) (y x : ℕ) (r : List ℕ) → 16 ≤ x → x ≤ 16 → Rowing (λ k v. gained (bit v y) v (row t y)) 16 t x r → Lifted t y r
 lifted t y x r h h2 w = record { within = λ k l. w .done k (le-trans l h); beyond = λ k l. w .rest k (le-trans h2 l) }
 
--- ---- the rows of below
+-- ---- a row of below by the rules that look at no other row
 
 first-up : (b c r x n : ℕ) → Up b (firstRow b c r x n)
 unfolding firstRow
@@ -39,14 +39,17 @@ first-case b c r x n i t =
     (λ u. ⊎-elim (λ v. ⊎-elim inl (λ w. inr (inl w)) (or-case b c i v)) (λ v. inr (inr (inl (one-is x i v)))) (or-case _ _ i u))
     (λ u. inr (inr (inr (u .0, all-is n i (u .1))))) (gained-case _ _ _ i t)
 
+-- ---- rows chained
+
 -- Warshall's invariant: through the variables before y the rows are chained
 pub record Lifting (n : ℕ) (t : List ℕ) (y : ℕ) (a : List ℕ) : Type 0 where
   pub up : (x : ℕ) → Up (row t x) (row a x)
-  pub sound : (S : List Fact) → ((x z : ℕ) → Yes (bit (row t x) z) → Settled n S (below x z)) → (x z : ℕ) → Yes (bit (row a x) z) → Settled n S (below x z)
+  pub sound : (S : List Fact) (fact : ℕ → ℕ → Fact) → ((x k z : ℕ) → Settled n S (fact x k) → Settled n S (fact k z) → Settled n S (fact x z))
+      → ((x z : ℕ) → Yes (bit (row t x) z) → Settled n S (fact x z)) → (x z : ℕ) → Yes (bit (row a x) z) → Settled n S (fact x z)
   pub chained : (x k z : ℕ) → x < 16 → k < 16 → k < y → Yes (bit (row a x) k) → Yes (bit (row a k) z) → Yes (bit (row a x) z)
 
 pub lifting-none : (n : ℕ) (t : List ℕ) → Lifting n t 0 t
-lifting-none n t = record { up = λ x. up-self _; sound = λ S h. h; chained = λ x k z l i m. absurd (not-suc-le-zero m) }
+lifting-none n t = record { up = λ x. up-self _; sound = λ S fact c h. h; chained = λ x k z l i m. absurd (not-suc-le-zero m) }
 
 module _ (n : ℕ) (t : List ℕ) (y : ℕ) (a b : List ℕ) (hy : y < 16) (w : Lifted a y b) (g : Lifting n t y a) where
   one-up : (x : ℕ) → Up (row a x) (row b x)
@@ -59,11 +62,12 @@ module _ (n : ℕ) (t : List ℕ) (y : ℕ) (a b : List ℕ) (hy : y < 16) (w : 
   one-case : (x z : ℕ) → x < 16 → Yes (bit (row b x) z) → Yes (bit (row a x) z) ⊎ (Yes (bit (row a x) y) × Yes (bit (row a y) z))
   one-case x z h u = gained-case _ _ _ z (subst (λ (k : ℕ). Yes (bit k z)) (w .within x h) u)
 
-  one-sound : (S : List Fact) → ((x z : ℕ) → Yes (bit (row a x) z) → Settled n S (below x z)) → (x z : ℕ) → Yes (bit (row b x) z) → Settled n S (below x z)
-  one-sound S s x z u = go (decLt x 16)
+  one-sound : (S : List Fact) (fact : ℕ → ℕ → Fact) → ((x k z : ℕ) → Settled n S (fact x k) → Settled n S (fact k z) → Settled n S (fact x z))
+      → ((x z : ℕ) → Yes (bit (row a x) z) → Settled n S (fact x z)) → (x z : ℕ) → Yes (bit (row b x) z) → Settled n S (fact x z)
+  one-sound S fact c s x z u = go (decLt x 16)
     where
-      go : Dec (x < 16) → Settled n S (below x z)
-      go (yes h) = ⊎-elim (s x z) (λ v. chain (s x y (v .0)) (s y z (v .1))) (one-case x z h u)
+      go : Dec (x < 16) → Settled n S (fact x z)
+      go (yes h) = ⊎-elim (s x z) (λ v. c x y z (s x y (v .0)) (s y z (v .1))) (one-case x z h u)
       go (no h) = s x z (subst (λ (k : ℕ). Yes (bit k z)) (w .beyond x (omega arith)) u)
 
   through : (x z : ℕ) → x < 16 → Yes (bit (row a x) y) → Yes (bit (row a y) z) → Yes (bit (row b x) z)
@@ -86,12 +90,17 @@ module _ (n : ℕ) (t : List ℕ) (y : ℕ) (a b : List ℕ) (hy : y < 16) (w : 
   pub lifting-more : Lifting n t (y + 1) b
   lifting-more = record {
     up = λ x. up-trans (g .up x) (one-up x);
-    sound = λ S s. one-sound S (g .sound S s);
+    sound = λ S fact c s. one-sound S fact c (g .sound S fact c s);
     chained = λ x k z h hk l. one-chained x k z h hk (below-cases l);
   }
 
-module _ (n : ℕ) (small : n ≤ 16) (t children : List ℕ) (roots x y : ℕ) (a r : List ℕ) (hx : n ≤ x) (hx2 : x ≤ n) (hy : n ≤ y)
-    (f : Rowing (λ k v. firstRow v (row children k) roots k n) n t x a) (g : Lifting n a y r) where
+pub chain-of : (n : ℕ) → n ≤ 16 → (t : List ℕ) (y : ℕ) (r : List ℕ) → n ≤ y → Lifting n t y r → ChainOf n t r
+chain-of n small t y r hy g = record { up = g .up; sound = g .sound; chained = λ x k z h l. g .chained x k z h (omega arith) (omega arith) }
+
+-- ---- the rows of below
+
+module _ (n : ℕ) (small : n ≤ 16) (t children : List ℕ) (roots x : ℕ) (a r : List ℕ) (hx : n ≤ x) (hx2 : x ≤ n)
+    (f : Rowing (λ k v. firstRow v (row children k) roots k n) n t x a) (g : ChainOf n a r) where
   firsts-up : (k : ℕ) → Up (row t k) (row a k)
   firsts-up k = go (decLt k n)
     where
@@ -119,11 +128,11 @@ module _ (n : ℕ) (small : n ≤ 16) (t children : List ℕ) (roots x y : ℕ) 
   pub chained-rows : Chained n t children roots r
   chained-rows = record {
     up = λ k. up-trans (firsts-up k) (g .up k);
-    sound = λ S s c d. g .sound S (firsts-sound S s c d);
+    sound = λ S s c d. g .sound S below (λ x y z. chain) (firsts-sound S s c d);
     itself = λ k h. into k k h (inr (inl refl));
     parent = λ k i h u. into k i h (inl u);
     rooted = λ k i h u l. into k i h (inr (inr (u, l)));
-    chained = λ k i z h l. g .chained k i z (omega arith) (omega arith) (omega arith);
+    chained = λ k i z h. g .chained k i z (omega arith);
   }
 
 -- ---- groups

@@ -11,7 +11,7 @@ use native.Mathlib.Decide.{decLt, ℕ-discrete}
 use native.Mathlib.Omega.{arith}
 use lib.ListN.{length, List·getD-eq-default}
 use lib.Bits.{bitOr}
-use Rattle.meaning.specs.Constraint.{Fact, child, below, differ, root, leaf, label}
+use Rattle.meaning.specs.Constraint.{Fact, child, below, differ, before, root, leaf, label}
 use Rattle.meaning.specs.Settled.{Settled, Clash, differs, labels, leaf-below, one-parent}
 use Rattle.meaning.specs.Finite.{Yes, sum, pick}
 use Rattle.meaning.proofs.Finite.{sum-le, sum-lt}
@@ -28,6 +28,7 @@ use Rattle.tables.proofs.Groups as groups
 use Rattle.tables.proofs.Groups.{Twin, One, Two, Order, flip, alone, own, each, turn, embed-in, shared-sharing, shared-least, sharing-same}
 use Rattle.settle.specs.Rows.{GroupsOf, WholeGroups, JoinedOf}
 use Rattle.settle.specs.Shares.{shareAt, Source, ShareOf, GroupClash, two-labels, apart, SharedOf}
+use Rattle.settle.proofs.Weights.{bits-le}
 use Rattle.settle.specs.Steps.{weight, SteppedOf, PassRules}
 use Rattle.settle.specs.declared.Groups.{Groups}
 use Rattle.settle.specs.declared.Share.{Share}
@@ -48,6 +49,7 @@ pub record Start (n : ℕ) (f : Facts) (k : Groups) : Type 0 where
   pub groups : GroupsOf n (f .below) (f .child) (f .root) k
   pub parent-long : length (f .parent) ≡ 16
   pub parent-small : (i : ℕ) → row (f .parent) i < 65536
+  pub child-small : (i : ℕ) → row (f .child) i < 65536
 
 module _ {n : ℕ} {f : Facts} {k : Groups} (o : Start n f k) (S : List Fact) (seed : Seeded n S f) where
   abbrev B : List ℕ
@@ -106,10 +108,13 @@ module _ {n : ℕ} {f : Facts} {k : Groups} (o : Start n f k) (S : List Fact) (s
       go (yes i) = or-r (k .several) (2 ^ x) z (subst (λ (m : ℕ). Yes (bit (2 ^ x) m)) (sym (e i)) (one-has x))
       go (no i) = or-l (k .several) (2 ^ x) z (o .groups .grouped .has j z (in-16 (twin-in u)) (in-16 (twin-in (flip u))) (λ q. i (sym q)) (group u))
 
-  -- ---- the given facts, and what the groups share of them
+  -- ---- the given facts, and what the groups share of them; before is not shared
 
-  least : (φ : Fact) → groups.Shared (In B) P φ → Settled n S φ
-  least = shared-least n P (Settled n S) (In B) (settled-rules n S .sharing) (seed .sound) B-s
+  abbrev R : ℕ → ℕ → Type 0
+  R x y = P (before x y)
+
+  least : (φ : Fact) → groups.Shared (In B) R P φ → Settled n S φ
+  least = shared-least n P (Settled n S) (In B) R (settled-rules n S .sharing) (seed .sound) B-s (λ x y. seed .sound (before x y))
 
   parent-child : (x y : ℕ) → In (f .parent) x y → P (child y x)
   unfolding has
@@ -160,7 +165,7 @@ module _ {n : ℕ} {f : Facts} {k : Groups} (o : Start n f k) (S : List Fact) (s
     t = s .shares
 
     abbrev g : Facts
-    g = record { child = t .child; parent = t .parent; below = j .below; above = k .above; differ = t .differ; root = roots; label = t .label; leaf = leaves }
+    g = record { child = t .child; parent = t .parent; below = j .below; above = k .above; differ = t .differ; before = f .before; after = f .after; root = roots; label = t .label; leaf = leaves }
 
     done : (x : ℕ) → x < n → ShareOf E (shares f) (k .several) x (shareAt t x)
     done x h = w .done well x h
@@ -227,20 +232,22 @@ module _ {n : ℕ} {f : Facts} {k : Groups} (o : Start n f k) (S : List Fact) (s
         go (no h) = absurd (h (within (label x m) (label-has f x m (sym (ap (λ (i : Share). i .label) (rest x h)) ∙ q .0) (q .1))))
 
     -- but for what joining added to below, the tables have what the groups share
-    from : (Q : Fact → Type 0) → ((φ : Fact) → groups.Shared (In B) P φ → Q φ) → ((x y : ℕ) → In (j .below) x y → Q (below x y)) → (φ : Fact) → Yes (has g φ) → Q φ
+    from : (Q : Fact → Type 0) → ((φ : Fact) → groups.Shared (In B) R P φ → Q φ) → ((x y : ℕ) → In (j .below) x y → Q (below x y)) → (φ : Fact) → Yes (has g φ) → Q φ
     unfolding has
     from Q q b (child x y) u = q (child x y) (child-spread .from x y u)
     from Q q b (below x y) u = b x y u
     from Q q b (differ x y) u = q (differ x y) (differ-spread .from x y u)
+    from Q q b (before x y) u = q (before x y) u
     from Q q b (root x) u = q (root x) (whole-from r (λ i. within (root i)) x u)
     from Q q b (leaf x) u = q (leaf x) (whole-from l (λ i. within (leaf i)) x u)
     from Q q b (label x m) u = q (label x m) (label-from x m u)
 
-    to : (φ : Fact) → groups.Shared (In B) P φ → Yes (has g φ)
+    to : (φ : Fact) → groups.Shared (In B) R P φ → Yes (has g φ)
     unfolding has
     to (child x y) v = child-spread .to x y v
     to (below x y) v = a .up x .kept y v
     to (differ x y) v = differ-spread .to x y v
+    to (before x y) v = v
     to (root x) v = whole-to r x v
     to (leaf x) v = whole-to l x v
     to (label x m) v =
@@ -259,15 +266,21 @@ module _ {n : ℕ} {f : Facts} {k : Groups} (o : Start n f k) (S : List Fact) (s
         (λ q. one-parent (child-s x (q .0) (q .1)) (child-s y (q .0) (to-child y (q .0) (q .2)))) (v .1))
         (a .from x y u)
 
+    keeps : (φ : Fact) → P φ → Yes (has g φ)
+    unfolding has
+    keeps φ u = to φ (embed-in n P (In B) R (λ x y. o .groups .chained .up x .kept y) (o .groups .chained .itself) (λ x y v. v) within φ u)
+
     pub seeded : Seeded n S g
     unfolding has
     seeded = record {
       inside = seed .inside;
-      held = λ φ m. to φ (embed-in n P (In B) (λ x y. o .groups .chained .up x .kept y) (o .groups .chained .itself) within φ (seed .held φ m));
+      held = λ φ m. keeps φ (seed .held φ m);
       sound = from (Settled n S) least joined-s;
       child-differ = λ x y u. differ-spread .to x y (each (seed .child-differ) (child-spread .from x y u));
+      before-differ = λ x y u. keeps (differ x y) (seed .before-differ x y u);
       turned = λ x y u. differ-spread .to y x (turn (seed .turned) (differ-spread .from x y u));
       parents = λ x y hx hy. yes-eq _ _ (to-child x y) (to-parent x y);
+      siblings = seed .siblings;
     }
 
     -- ---- closed, where below did not grow
@@ -299,9 +312,9 @@ module _ {n : ℕ} {f : Facts} {k : Groups} (o : Start n f k) (S : List Fact) (s
       pub closed : PassRules n g
       unfolding has
       closed = record {
-        sharing = sharing-same n (groups.Shared (In B) P) (λ φ. Yes (has g φ)) to (from (groups.Shared (In B) P) (λ φ s. s) out) (shared-sharing n P (In B) order);
+        sharing = sharing-same n (groups.Shared (In B) R P) (λ φ. Yes (has g φ)) to (from (groups.Shared (In B) R P) (λ φ s. s) out) (shared-sharing n P (In B) order R);
         one-parent = λ x y z u v. a .to x y (twin-in (child-spread .from x z u .left-twin)) (inr (z, u, to-parent y z v));
-        free = record { apart = no-differ };
+        apart = no-differ;
         ancestors = λ x y hx hy. transposed-columns (o .groups .columns) x y hx hy ∙ ap (λ (i : ℕ). bit i y) (sym (a .still still x));
       }
 
@@ -312,7 +325,7 @@ module _ {n : ℕ} {f : Facts} {k : Groups} (o : Start n f k) {s : Shared} (w : 
       → WholeGroups (k .same) (f .root) roots → WholeGroups (k .same) (f .leaf) leaves → SteppedOf (PassRules n) n f (record {
         clash = false;
         more = j .more;
-        facts = record { child = s .shares .child; parent = s .shares .parent; below = j .below; above = k .above; differ = s .shares .differ; root = roots; label = s .shares .label; leaf = leaves };
+        facts = record { child = s .shares .child; parent = s .shares .parent; below = j .below; above = k .above; differ = s .shares .differ; before = f .before; after = f .after; root = roots; label = s .shares .label; leaf = leaves };
       })
   unfolding weight pick
   ended-well {j} well a r l = record {
@@ -325,11 +338,28 @@ module _ {n : ℕ} {f : Facts} {k : Groups} (o : Start n f k) {s : Shared} (w : 
       up : (x : ℕ) → row (f .below) x ≤ row (j .below) x
       up x = le-trans (o .groups .chained .up x .most) (a .up x .most)
 
-      grown : (b : Bool) → j .more ≡ b → sum 16 (row (f .below)) + pick b 1 0 ≤ sum 16 (row (j .below))
-      grown false e = let q = sum-le 16 (row (f .below)) (row (j .below)) (λ x h. up x) in omega arith
+      child-up : (x : ℕ) → row (f .child) x ≤ row (s .shares .child) x
+      child-up x = bits-le 16 _ _ (o .child-small x) (λ y u. kept y u (decLt x n))
+        where
+          -- x is in its own group
+          kept : (y : ℕ) → Yes (bit (row (f .child) x) y) → Dec (x < n) → Yes (bit (row (s .shares .child) x) y)
+          kept y u (yes h) =
+              let b = o .groups .chained .itself x h in
+              let l = le-trans h (o .few) in
+              let e = both-in (row (k .below) x) (row (k .above) x) x b (o .groups .columns .columns x l .to x l b) in
+              w .done well x h .taken x (subst (λ (i : ℕ). Yes (bit i x)) (sym (o .groups .common .rows x)) e) .child y u
+          kept y u (no h) = subst (λ (i : ℕ). Yes (bit i y)) (sym (ap (λ (i : Share). i .child) (w .rest well x (omega arith)))) u
+
+      child-sum : sum 16 (row (f .child)) ≤ sum 16 (row (s .shares .child))
+      child-sum = sum-le 16 (row (f .child)) (row (s .shares .child)) (λ x h. child-up x)
+
+      grown : (b : Bool) → j .more ≡ b → sum 16 (row (f .below)) + sum 16 (row (f .child)) + sum 16 (row (f .before)) + pick b 1 0
+          ≤ sum 16 (row (j .below)) + sum 16 (row (s .shares .child)) + sum 16 (row (f .before))
+      grown false e = let q = sum-le 16 (row (f .below)) (row (j .below)) (λ x h. up x) in let p = child-sum in omega arith
       grown true e =
           let m = a .moved e in
           let q = sum-lt 16 (row (f .below)) (row (j .below)) (λ x h. up x) (m .0) (le-trans (m .1) (o .few)) (let b = o .groups .chained .up (m .0) .most in let c = m .2 in omega arith) in
+          let p = child-sum in
           omega arith
 
   pub ended-clash : (g : Facts) (more : Bool) → s .clash ≡ true → SteppedOf (PassRules n) n f (record { clash = true; more = more; facts = g })

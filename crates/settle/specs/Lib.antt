@@ -1,4 +1,5 @@
 pub mod Rows
 pub mod Shares
+pub mod Siblings
 pub mod Steps
 pub mod Settling

@@ -32,6 +32,13 @@ pub record Lifted (t : List ℕ) (y : ℕ) (r : List ℕ) : Type 0 where
   pub within : (x : ℕ) → x < 16 → row r x ≡ gained (bit (row t x) y) (row t x) (row t y)
   pub beyond : (x : ℕ) → 16 ≤ x → row r x ≡ row t x
 
+-- the rows chained, and nothing that is not settled, whatever fact they are rows of
+pub record ChainOf (n : ℕ) (t r : List ℕ) : Type 0 where
+  pub up : (x : ℕ) → Up (row t x) (row r x)
+  pub sound : (S : List Fact) (fact : ℕ → ℕ → Fact) → ((x y z : ℕ) → Settled n S (fact x y) → Settled n S (fact y z) → Settled n S (fact x z))
+      → ((x y : ℕ) → Yes (bit (row t x) y) → Settled n S (fact x y)) → (x y : ℕ) → Yes (bit (row r x) y) → Settled n S (fact x y)
+  pub chained : (x y z : ℕ) → x < 16 → y < n → Yes (bit (row r x) y) → Yes (bit (row r y) z) → Yes (bit (row r x) z)
+
 -- the rows of below closed under the rules for itself, child, root and chain, and nothing that is not settled
 pub record Chained (n : ℕ) (t children : List ℕ) (roots : ℕ) (r : List ℕ) : Type 0 where
   pub up : (x : ℕ) → Up (row t x) (row r x)

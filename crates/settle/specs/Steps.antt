@@ -4,18 +4,18 @@ use mathlib.Core.Bool.{true, false}
 use mathlib.Core.List.{List}
 use Prim.Native.Nat.{ℕ, _+_, _≤_}
 use Rattle.meaning.specs.Tree.{Var}
-use Rattle.meaning.specs.Constraint.{Fact, child, below}
+use Rattle.meaning.specs.Constraint.{Fact, child, below, differ}
 use Rattle.meaning.specs.Settled.{Clash}
-use Rattle.meaning.specs.Closed.{Sharing}
+use Rattle.meaning.specs.Closed.{Sharing, Siblings}
 use Rattle.meaning.specs.Finite.{Yes, sum, pick}
 use Rattle.tables.specs.Tables.{row, has, Columns, Seeded}
-use Rattle.tables.specs.Free.{Free}
+use Rattle.tables.specs.Free.{Clear}
 use Rattle.tables.specs.declared.Facts.{Facts}
 use Rattle.settle.specs.declared.Stepped.{Stepped}
 
 -- the rows that steps add to, summed as numbers
 unfoldable pub weight : Facts → ℕ
-weight f = sum 16 (row (f .below))
+weight f = sum 16 (row (f .below)) + sum 16 (row (f .child)) + sum 16 (row (f .before))
 
 -- What a step makes of f, for every S that f is to settle from: a clash of S, or again tables to settle S from. With no more to add they have G,
 -- the step's group of rules; else they have grown.
@@ -25,9 +25,19 @@ pub record SteppedOf (G : Facts → Type 0) (n : ℕ) (f : Facts) (r : Stepped) 
   pub closed : r .clash ≡ false → r .more ≡ false → (S : List Fact) → Seeded n S f → G (r .facts)
   pub grown : r .clash ≡ false → weight f + pick (r .more) 1 0 ≤ weight (r .facts)
 
--- the group of a pass: the rules of sharing and that of one parent; there is no clash, and `above` is right
+-- a step after the pass, with no more to add, gives back what came in, so that what the pass closed stays closed
+pub record Unmoved (G : Facts → Type 0) (f g : Facts) : Type 0 where
+  pub same : g ≡ f
+  pub holds : G f
+
+-- the group of a pass: the rules of sharing and that of one parent; nothing differs from itself, and `above` is right
 pub record PassRules (n : ℕ) (f : Facts) : Type 0 where
   pub sharing : Sharing n (λ φ. Yes (has f φ))
   pub one-parent : (x y z : Var) → Yes (has f (child x z)) → Yes (has f (child y z)) → Yes (has f (below x y))
-  pub free : Free (λ φ. Yes (has f φ))
+  pub apart : (x : Var) → ¬ Yes (has f (differ x x))
   pub ancestors : Columns (f .below) (f .above)
+
+-- the group of the step of siblings: their rules; none is above the other
+pub record SiblingRules (n : ℕ) (f : Facts) : Type 0 where
+  pub siblings : Siblings n (λ φ. Yes (has f φ))
+  pub clear : Clear (λ φ. Yes (has f φ))

@@ -1,4 +1,4 @@
-// Settling: the tables of rows, closed under the rules of docs/FORMAT.md by passes over x, y and z.
+// Settling: the tables of rows, closed under the rules of docs/FORMAT.md by passes over x, y and z, and by a step for siblings.
 ghost use mathlib.Core.Path.{_≡_};
 ghost use mathlib.Core.List.{List};
 ghost use Rattle.meaning.specs.Constraint.{Fact};
@@ -6,9 +6,10 @@ ghost use Rattle.tables.specs.Tables.{Seeded};
 ghost use Prim.Native.Nat.{_<_, _≤_};
 ghost use Rattle.meaning.specs.Finite.{pick};
 ghost use lib.Dec.{eqb};
-ghost use Rattle.settle.specs.Rows.{firstRow, Clashing, Grouped, Chained, GroupsOf, WholeGroups, JoinedOf};
+ghost use Rattle.settle.specs.Rows.{firstRow, Clashing, Grouped, ChainOf, Chained, GroupsOf, WholeGroups, JoinedOf};
 ghost use Rattle.settle.specs.Shares.{WithRows, WithGroup, SharedOf};
-ghost use Rattle.settle.specs.Steps.{SteppedOf, PassRules};
+ghost use Rattle.settle.specs.Siblings.{Reached, Unlike, Ordered, PassedOn};
+ghost use Rattle.settle.specs.Steps.{SteppedOf, PassRules, SiblingRules, Unmoved};
 ghost use Rattle.settle.specs.Settling.{SettledOf};
 use tables::Facts;
 use tables::Settled;
@@ -39,8 +40,24 @@ fn either_label(l: u8, m: u8) -> u8
     l
 }
 
+// The rows chained: y by y, each row that has y gains row y.
+fn chain_rows(t: [u16; 16], n: usize) -> [u16; 16]
+    requires { ⌜ n ≤ 16 ⌝ }
+    ensures { λ r. ⌜ ChainOf n t r ⌝ }
+{
+    let mut a = t;
+    for y in 0..n {
+        let by = a[y];
+        for x in 0usize..16 {
+            let v = a[x];
+            a[x] = tables::gain(rowbits::has(v, y), v, by);
+        }
+    }
+    a
+}
+
 // The rows of below by the rules for itself, child, root and chain.
-fn chain_rows(below: [u16; 16], child: [u16; 16], root: u16, n: usize) -> [u16; 16]
+fn below_rows(below: [u16; 16], child: [u16; 16], root: u16, n: usize) -> [u16; 16]
     requires { ⌜ n ≤ 16 ⌝ }
     ensures { λ r. ⌜ Chained n below child root r ⌝ }
 {
@@ -50,14 +67,7 @@ fn chain_rows(below: [u16; 16], child: [u16; 16], root: u16, n: usize) -> [u16; 
         let c = child[x];
         a[x] = first_row(v, c, root, x, n);
     }
-    for y in 0..n {
-        let by = a[y];
-        for x in 0usize..16 {
-            let v = a[x];
-            a[x] = tables::gain(rowbits::has(v, y), v, by);
-        }
-    }
-    a
+    chain_rows(a, n)
 }
 
 // The variables that are in the row of another one.
@@ -84,7 +94,7 @@ fn find_groups(start: [u16; 16], child: [u16; 16], root: u16, n: usize) -> Group
     requires { ⌜ n ≤ 16 ⌝ }
     ensures { λ r. ⌜ GroupsOf n start child root r ⌝ }
 {
-    let below = chain_rows(start, child, root, n);
+    let below = below_rows(start, child, root, n);
     let above = tables::transpose(below);
     let same = tables::common(below, above);
     Groups {
@@ -232,8 +242,8 @@ struct Stepped {
     facts: Facts,
 }
 
-// One pass, the step for the rules of sharing and of one parent. The rows of below are chained first, so that the groups are known. Where
-// nothing else becomes the same those rules hold.
+// One pass, the step for the rules of sharing and of one parent, which leaves before as it is. The rows of below are chained first, so that the
+// groups are known. Where nothing else becomes the same those rules hold.
 fn pass(f: Facts, n: usize) -> Stepped
     requires { ⌜ n ≤ 16 ⌝ }
     ensures { λ r. ⌜ SteppedOf (PassRules n) n f r ⌝ }
@@ -243,6 +253,8 @@ fn pass(f: Facts, n: usize) -> Stepped
     let parents = f.parent;
     let differs = f.differ;
     let labels = f.label;
+    let before = f.before;
+    let after = f.after;
     let groups = find_groups(start, childs, f.root, n);
     let given = Shares {
         child: childs,
@@ -278,6 +290,8 @@ fn pass(f: Facts, n: usize) -> Stepped
             below,
             above,
             differ,
+            before,
+            after,
             root,
             label,
             leaf,
@@ -285,7 +299,104 @@ fn pass(f: Facts, n: usize) -> Stepped
     }
 }
 
-// The tables settled: rounds of the steps until none has more. With a clash the tables are those that came in.
+// Each row of t with what the rows of b hold that the same row of a names.
+fn reach(t: [u16; 16], a: [u16; 16], b: [u16; 16]) -> [u16; 16]
+    ensures { λ r. ⌜ Reached t a b r ⌝ }
+{
+    let mut r = t;
+    for x in 0usize..16 {
+        let v = r[x];
+        let w = a[x];
+        r[x] = v | tables::union_rows(b, w);
+    }
+    r
+}
+
+// Whether two tables are not the same.
+fn unlike(t: [u16; 16], u: [u16; 16]) -> bool
+    ensures { λ r. ⌜ Unlike t u r ⌝ }
+{
+    let mut any: u16 = 0;
+    for x in 0usize..16 {
+        let v = t[x];
+        let w = u[x];
+        any = any | (v ^ w);
+    }
+    any != 0
+}
+
+// The rows of before, shared within groups in both places and then chained, which keeps them shared.
+fn order_rows(before: [u16; 16], same: [u16; 16], n: usize) -> [u16; 16]
+    requires { ⌜ n ≤ 16 ⌝ }
+    ensures { λ r. ⌜ Ordered n before same r ⌝ }
+{
+    let lasts = reach(before, before, same);
+    let firsts = reach(lasts, same, lasts);
+    chain_rows(firsts, n)
+}
+
+// The rows of child, passed to later siblings and to earlier ones.
+fn child_rows(child: [u16; 16], before: [u16; 16], after: [u16; 16]) -> [u16; 16]
+    ensures { λ r. ⌜ PassedOn child before after r ⌝ }
+{
+    let later = reach(child, child, before);
+    reach(later, later, after)
+}
+
+// The step for the rules of siblings. Where it adds no fact the tables come back as they went in. The columns of below are made anew: a pass
+// with more leaves those of the rows before it joined any.
+fn siblings(f: Facts, n: usize) -> Stepped
+    requires { ⌜ n ≤ 16 ⌝ }
+    ensures { λ r. ⌜ SteppedOf (Unmoved (SiblingRules n) f) n f r ⌝ }
+{
+    let below = f.below;
+    let befores = f.before;
+    let childs = f.child;
+    let differs = f.differ;
+    let label = f.label;
+    let above = tables::transpose(below);
+    if tables::crossed(befores, below, above) {
+        return Stepped {
+            clash: true,
+            more: false,
+            facts: f,
+        };
+    }
+    let same = tables::common(below, above);
+    let before = order_rows(befores, same, n);
+    let after = tables::transpose(before);
+    let child = child_rows(childs, before, after);
+    if !(unlike(befores, before) | unlike(childs, child)) {
+        return Stepped {
+            clash: false,
+            more: false,
+            facts: f,
+        };
+    }
+    let parent = tables::transpose(child);
+    let lines = tables::either(child, parent);
+    let orders = tables::either(before, after);
+    let differ = tables::either(differs, tables::either(lines, orders));
+    Stepped {
+        clash: false,
+        more: true,
+        facts: Facts {
+            child,
+            parent,
+            below,
+            above,
+            differ,
+            before,
+            after,
+            root: f.root,
+            label,
+            leaf: f.leaf,
+        },
+    }
+}
+
+// The tables settled: rounds of the steps until none has more. With a clash the tables are those that came in. The step for siblings would give
+// tables without a before fact back; they are not copied for it.
 pub fn settle(f: Facts, n: usize) -> Settled
     requires { ⌜ n ≤ 16 ⌝ }
     requires { ⌜ ((S : List Fact) × Seeded n S f) ⌝ }
@@ -301,6 +412,24 @@ pub fn settle(f: Facts, n: usize) -> Settled
             };
         }
         g = p.facts;
+        let before = g.before;
+        if unlike(before, [0; 16]) {
+            let s = siblings(g, n);
+            if s.clash {
+                return Settled {
+                    clash: true,
+                    facts: f,
+                };
+            }
+            g = s.facts;
+            if p.more | s.more {
+                continue;
+            }
+            return Settled {
+                clash: false,
+                facts: g,
+            };
+        }
         if !p.more {
             return Settled {
                 clash: false,

@@ -7,13 +7,14 @@ use Rattle.settle.proofs.Final.{Start, ended-well, ended-clash}
 use Rattle.settle.proofs.pass.Statement.{statement}
 use Rattle.settle.proofs.pass.Tie as tie
 
-started : (c : tie.After-find-groups) → let a = c .before .before .before .before .before .before in Start (a .args .n) (a .args .f) (c .find-groups .result)
+started : (c : tie.After-find-groups) → let a = c .before .before .before .before .before .before .before .before in Start (a .args .n) (a .args .f) (c .find-groups .result)
 started c =
-    let a = c .before .before .before .before .before .before in
+    let a = c .before .before .before .before .before .before .before .before in
     record {
       few = a .pre;
       groups = c .find-groups .ensures;
       parent-long = search needs;
+      child-small = λ i. let h : Fits w16 (getD (a .args .f .child) i 0) = search needs in h .fits;
       parent-small = λ i. let h : Fits w16 (getD (a .args .f .parent) i 0) = search needs in h .fits;
     }
 

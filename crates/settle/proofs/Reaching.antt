@@ -1,0 +1,146 @@
+-- What the helpers of the step of siblings compute, from what their loops know at the end, and what two or three of them make together.
+use mathlib.Core.Path.{_≡_, refl, sym, ap, _∙_, subst}
+use mathlib.Core.Logic.{_≢_, _⊎_, inl, inr, ⊎-elim}
+use mathlib.Core.Bool.{Bool, false, not}
+use mathlib.Core.List.{List}
+use Prim.Native.Nat.{ℕ, _+_, _<_, _≤_}
+use native.Mathlib.Nat.{le-trans, le-refl, not-suc-le-zero}
+use native.Mathlib.Decide.{decLt, ℕ-discrete}
+use native.Mathlib.Omega.{arith}
+use lib.Dec.{eqb}
+use lib.Bits.{bitOr, bitXor, or-add-and, and-le-l, xor-self}
+use lib.ListN.{length, set, length-set}
+use lib.Seq.{getD-set-same, getD-set-other}
+use Rattle.meaning.specs.Constraint.{Fact, child, below, before}
+use Rattle.meaning.specs.Settled.{Settled, before-chain, before-child, after-child, same-before, same-after}
+use Rattle.rowbits.specs.Bit.{bit}
+use Rattle.meaning.specs.Finite.{Yes}
+use Rattle.tables.specs.Tables.{row}
+use Rattle.tables.specs.Rows.{Up, Union}
+use Rattle.tables.proofs.Bits.{or-case, or-r, or-le, up-or, up-self, up-trans, xor-zero}
+use Rattle.tables.proofs.Loops.{below-cases}
+use Rattle.tables.proofs.Tested.{not-eq, eq-not, not-yes}
+use Rattle.settle.specs.Rows.{ChainOf}
+use Rattle.settle.specs.Siblings.{In, Reached, Unlike, Ordered, PassedOn}
+
+-- ---- reach
+
+-- v with what the rows of b hold that w names
+pub record Reach (b : List ℕ) (v w r : ℕ) : Type 0 where
+  pub more : ℕ
+  pub is-union : Union b w more
+  pub is-row : r ≡ bitOr v more
+
+pub record Reaching (t a b : List ℕ) (x : ℕ) (r : List ℕ) : Type 0 where
+  pub long : length r ≡ 16
+  pub done : (k : ℕ) → k < x → Reach b (row t k) (row a k) (row r k)
+  pub rest : (k : ℕ) → x ≤ k → row r k ≡ row t k
+
+pub reaching-none : (t a b : List ℕ) → length t ≡ 16 → Reaching t a b 0 t
+reaching-none t a b h = record { long = h; done = λ k l. absurd (not-suc-le-zero l); rest = λ k l. refl }
+
+pub reaching-more : (t a b : List ℕ) (x : ℕ) (r : List ℕ) (u : ℕ) → x < 16 → Union b (row a x) u → Reaching t a b x r → Reaching t a b (x + 1) (set r x (bitOr (row r x) u))
+reaching-more t a b x r u h w g = record {
+  long = length-set r x v ∙ g .long;
+  done = λ k l. ⊎-elim
+      (λ q. subst (λ (i : ℕ). Reach b (row t i) (row a i) (row (set r x v) i)) (sym q)
+      (record { more = u; is-union = w; is-row = getD-set-same r x v 0 (rw (g .long) h) ∙ ap (λ (i : ℕ). bitOr i u) (g .rest x (le-refl _)) }))
+      (λ m. subst (Reach b (row t k) (row a k)) (sym (getD-set-other r x k v 0 (λ q. omega arith))) (g .done k m)) (below-cases l);
+  rest = λ k l. getD-set-other r x k v 0 (λ q. omega arith) ∙ g .rest k (omega arith);
+}
+  where
+    v : ℕ
+    v = bitOr (row r x) u
+
+pub reached : (t a b : List ℕ) (x : ℕ) (r : List ℕ) → 16 ≤ x → x ≤ 16 → Reaching t a b x r → Reached t a b r
+reached t a b x r h l g = record {
+  up = λ k. up k (decLt k 16);
+  from = λ k y u. from k y u (decLt k 16);
+  to = λ k z y q u v. let w = g .done k (le-trans q h) in subst (λ (i : ℕ). Yes (bit i y)) (sym (w .is-row)) (or-r (row t k) (w .more) y (w .is-union .to z y u v));
+}
+  where
+    up : (k : ℕ) → Dec (k < 16) → Up (row t k) (row r k)
+    up k (yes q) = subst (Up (row t k)) (sym (g .done k (le-trans q h) .is-row)) (up-or _ _)
+    up k (no q) = subst (Up (row t k)) (sym (g .rest k (omega arith))) (up-self _)
+
+    from : (k y : ℕ) → In r k y → Dec (k < 16) → In t k y ⊎ ((z : ℕ) × In a k z × In b z y)
+    from k y u (yes q) =
+        let w = g .done k (le-trans q h) in
+        ⊎-elim inl (λ v. inr (w .is-union .from y v)) (or-case (row t k) (w .more) y (subst (λ (i : ℕ). Yes (bit i y)) (w .is-row) u))
+    from k y u (no q) = inl (subst (λ (i : ℕ). Yes (bit i y)) (g .rest k (omega arith)) u)
+
+-- ---- unlike
+
+pub record Comparing (t u : List ℕ) (x any : ℕ) : Type 0 where
+  pub none : any ≡ 0 → (k : ℕ) → k < x → row t k ≡ row u k
+  pub some : any ≢ 0 → (k : ℕ) × (k < x) × (row t k ≢ row u k)
+
+pub comparing-none : (t u : List ℕ) → Comparing t u 0 0
+comparing-none t u = record { none = λ e k l. absurd (not-suc-le-zero l); some = λ e. absurd (e refl) }
+
+pub comparing-more : (t u : List ℕ) (x any : ℕ) → Comparing t u x any → Comparing t u (x + 1) (bitOr any (bitXor (row t x) (row u x)))
+comparing-more t u x any w = record {
+  none = λ e k l. ⊎-elim (λ j. subst (λ (i : ℕ). row t i ≡ row u i) (sym j) (xor-zero (row t x) (row u x) (right e))) (w .none (left e) k) (below-cases l);
+  some = λ e. go e (ℕ-discrete any 0) (ℕ-discrete (row t x) (row u x));
+}
+  where
+    left : bitOr any (bitXor (row t x) (row u x)) ≡ 0 → any ≡ 0
+    left e = let p = or-le any (bitXor (row t x) (row u x)) in omega arith
+
+    right : bitOr any (bitXor (row t x) (row u x)) ≡ 0 → bitXor (row t x) (row u x) ≡ 0
+    right e =
+        let p = or-add-and any (bitXor (row t x) (row u x)) in
+        let q = and-le-l any (bitXor (row t x) (row u x)) in
+        omega (arith, left e)
+
+    same : (a : ℕ) → bitOr 0 (bitXor a a) ≡ 0
+    same a = rw (xor-self a) refl
+
+    go : bitOr any (bitXor (row t x) (row u x)) ≢ 0 → Dec (any ≡ 0) → Dec (row t x ≡ row u x) → (k : ℕ) × (k < x + 1) × (row t k ≢ row u k)
+    go e (no n) q = let o = w .some n in (o .0, omega (arith, o .1), o .2)
+    go e (yes n) (no q) = (x, omega arith, q)
+    go e (yes n) (yes q) = absurd (e (rw (n, q) (same (row u x))))
+
+pub compared : (t u : List ℕ) (x any : ℕ) → 16 ≤ x → x ≤ 16 → Comparing t u x any → (r : Bool) → r ≡ not (eqb any 0) → Unlike t u r
+compared t u x any h l w r e = record {
+  some = λ y. let o = w .some (not-eq any 0 (sym e ∙ y)) in (o .0, le-trans (o .1) l, o .2);
+  none = λ z k q. w .none (zero (ℕ-discrete any 0) z) k (le-trans q h);
+}
+  where
+    zero : Dec (any ≡ 0) → r ≡ false → any ≡ 0
+    zero (yes i) z = i
+    zero (no i) z = absurd (not-yes (sym e ∙ z) (eq-not any 0 i))
+
+-- ---- before shared and chained
+
+module _ (n : ℕ) (t same lasts firsts r : List ℕ) (a : Reached t t same lasts) (b : Reached lasts same lasts firsts) (c : ChainOf n firsts r) where
+  module _ (S : List Fact) (s : (x y : ℕ) → In t x y → Settled n S (before x y)) (e : (x y : ℕ) → In same x y → Settled n S (below x y) × Settled n S (below y x)) where
+    lasts-s : (x y : ℕ) → In lasts x y → Settled n S (before x y)
+    lasts-s x y u = ⊎-elim (s x y) (λ w. let q = e (w .0) y (w .2) in same-after (q .0) (q .1) (s x (w .0) (w .1))) (a .from x y u)
+
+    firsts-s : (x y : ℕ) → In firsts x y → Settled n S (before x y)
+    firsts-s x y u = ⊎-elim (lasts-s x y) (λ w. let q = e x (w .0) (w .1) in same-before (q .1) (q .0) (lasts-s (w .0) y (w .2))) (b .from x y u)
+
+  pub ordered : Ordered n t same r
+  ordered = record {
+    up = λ x. up-trans (a .up x) (up-trans (b .up x) (c .up x));
+    sound = λ S s e. c .sound S before (λ x y z. before-chain) (firsts-s S s e);
+    firsts = λ x y u h e v. c .up u .kept y (b .to u x y h e (a .up x .kept y v));
+    lasts = λ x y u h e v. c .up x .kept u (b .up x .kept u (a .to x y u h v e));
+    chained = c .chained;
+  }
+
+-- ---- child passed on
+
+module _ (t befores afters later r : List ℕ) (a : Reached t t befores later) (b : Reached later later afters r) where
+  later-s : (n : ℕ) (S : List Fact) → ((x y : ℕ) → In t x y → Settled n S (child x y)) → ((x y : ℕ) → In befores x y → Settled n S (before x y))
+      → (x y : ℕ) → In later x y → Settled n S (child x y)
+  later-s n S s e x y u = ⊎-elim (s x y) (λ w. before-child (e (w .0) y (w .2)) (s x (w .0) (w .1))) (a .from x y u)
+
+  pub passed-on : PassedOn t befores afters r
+  passed-on = record {
+    up = λ x. up-trans (a .up x) (b .up x);
+    sound = λ n S s e f x y u. ⊎-elim (later-s n S s e x y) (λ w. after-child (f y (w .0) (w .2)) (later-s n S s e x (w .0) (w .1))) (b .from x y u);
+    later = λ x y u h e v. b .up u .kept y (a .to u x y h v e);
+    earlier = λ x y u h e v. b .to u y x h (a .up u .kept y v) e;
+  }

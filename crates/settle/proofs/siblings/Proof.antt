@@ -1,0 +1,134 @@
+-- `settle::siblings` meets its contract: what it calls gives the tables of which `Sibling` speaks.
+use mathlib.Core.Path.{_≡_}
+use lib.ListN.{length}
+use borrow.Author.Needs.{needs}
+use borrow.Author.Tests.{not-true, not-false}
+use Rattle.settle.proofs.Sibling.{Crossing, Rowed, ended-crossed, ended-still, ended-more}
+use Rattle.settle.proofs.siblings.Statement.{statement}
+use Rattle.settle.proofs.siblings.Tie as tie
+
+abbrev start : tie.After-transpose → tie.Start
+start c = c .before .before .before .before .before .before
+
+crossing : (c : tie.After-crossed) → let a = start (c .before) in Crossing (a .args .n) (a .args .f) (c .before .transpose .result) (c .crossed .result)
+crossing c = record { few = start (c .before) .pre; columns = c .before .transpose .ensures; crossed = c .crossed .ensures }
+
+before-long : (c : tie.After-order-rows) → length (c .order-rows .result) ≡ 16
+before-long c = search needs
+
+after-long : (c : tie.After-transpose2) → length (c .transpose2 .result) ≡ 16
+after-long c = search needs
+
+parent-long : (c : tie.After-transpose3) → length (c .transpose3 .result) ≡ 16
+parent-long c = search needs
+
+abbrev cross : tie.After-child-rows → tie.After-crossed
+cross c = c .before .before .before .before .before
+
+rowed : (c : tie.After-child-rows)
+    → let a = start (cross c .before) in
+    Rowed (a .args .n) (a .args .f) (cross c .before .transpose .result) (c .before .before .before .common .result) (c .before .before .order-rows .result) (c .before .transpose2 .result) (c .child-rows .result)
+rowed c = record {
+  few = start (cross c .before) .pre;
+  columns = cross c .before .transpose .ensures;
+  is-same = c .before .before .before .common .ensures;
+  is-before = c .before .before .order-rows .ensures;
+  is-after = c .before .transpose2 .ensures;
+  is-child = c .child-rows .ensures;
+  before-long = before-long (c .before .before);
+  after-long = after-long (c .before);
+}
+
+transpose-requires : tie.Need-transpose-requires
+transpose-requires c κs = search needs
+
+crossed-requires : tie.Need-crossed-requires
+crossed-requires c κs = search needs
+
+returns : tie.Need-returns
+returns c = ended-crossed (crossing (c .before)) (c .if1 .taken)
+
+common-requires : tie.Need-common-requires
+common-requires c κs = search needs
+
+order-rows-requires : tie.Need-order-rows-requires
+order-rows-requires c κs = search needs
+
+transpose-requires-2 : tie.Need-transpose-requires-2
+transpose-requires-2 c κs = search needs
+
+child-rows-requires : tie.Need-child-rows-requires
+child-rows-requires c κs = search needs
+
+unlike-requires : tie.Need-unlike-requires
+unlike-requires c κs = search needs
+
+unlike-requires-2 : tie.Need-unlike-requires-2
+unlike-requires-2 c κs = search needs
+
+returns-2 : tie.Need-returns-2
+returns-2 c =
+    let v = c .before in
+    let u = v .before in
+    let r = u .before in
+    ended-still (rowed r) (crossing (cross r)) (r .before .before .before .before .if1 .left) (u .unlike .ensures) (v .unlike2 .ensures) (not-true _ (c .if2 .taken))
+
+transpose-requires-3 : tie.Need-transpose-requires-3
+transpose-requires-3 c κs = search needs
+
+either-requires : tie.Need-either-requires
+either-requires c κs = search needs
+
+either-requires-2 : tie.Need-either-requires-2
+either-requires-2 c κs = search needs
+
+either-requires-3 : tie.Need-either-requires-3
+either-requires-3 c κs = search needs
+
+either-requires-4 : tie.Need-either-requires-4
+either-requires-4 c κs = search needs
+
+returns-3 : tie.Need-returns-3
+returns-3 c =
+    let e3 = c .before in
+    let e2 = e3 .before in
+    let e1 = e2 .before in
+    let t = e1 .before in
+    let i = t .before in
+    let v = i .before in
+    let u = v .before in
+    let r = u .before in
+    ended-more (rowed r) (crossing (cross r)) (r .before .before .before .before .if1 .left) (u .unlike .ensures) (v .unlike2 .ensures)
+    (record {
+      lines = e1 .either .result;
+      orders = e2 .either2 .result;
+      both = e3 .either3 .result;
+      is-parent = t .transpose3 .ensures;
+      is-lines = e1 .either .ensures;
+      is-orders = e2 .either2 .ensures;
+      is-both = e3 .either3 .ensures;
+      is-differ = c .either4 .ensures;
+      parent-long = parent-long t;
+    })
+    (not-false _ (i .if2 .left))
+
+pub siblings-spec : {M : Type 1} → statement M
+siblings-spec =
+    tie.close
+    (tie.spec
+    transpose-requires
+    crossed-requires
+    returns
+    common-requires
+    order-rows-requires
+    transpose-requires-2
+    child-rows-requires
+    unlike-requires
+    unlike-requires-2
+    returns-2
+    transpose-requires-3
+    either-requires
+    either-requires-2
+    either-requires-3
+    either-requires-4
+    returns-3)
