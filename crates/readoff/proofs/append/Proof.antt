@@ -3,7 +3,7 @@ use mathlib.Core.Path.{_≡_, refl, ap, _∙_}
 use Prim.Native.Nat.{_^_, _<_}
 use native.Mathlib.Omega.{arith}
 use Rattle.tables.specs.Rows.{without}
-use Rattle.readoff.specs.Listing.{groups}
+use Rattle.readoff.specs.Listing.{groups, Earliest}
 use Rattle.readoff.proofs.Listing.{length-mapped, Appending, next-in, rest-less, appending-room, appending-more, appending-all}
 use borrow.Author.Needs.{needs}
 use Rattle.readoff.proofs.append.Statement.{statement}
@@ -23,11 +23,14 @@ module _ (c : tie.After-earliest Inv-loop μ-loop) where
   abbrev s : tie.Start Inv-loop μ-loop
   s = i .before
 
+  next : Earliest (s .args .after) (i .loop .rest) (c .earliest .result)
+  next = c .earliest .ensures
+
   variable-in : c .earliest .result < 16
-  variable-in = next-in (i .loop .inv) (s .pre .1) _ (c .earliest .ensures)
+  variable-in = next-in (i .loop .inv) (s .pre .1) _ next
 
   room : i .loop .o .len < 16
-  room = appending-room (i .loop .inv) (s .pre .1) _ (c .earliest .ensures)
+  room = appending-room (i .loop .inv) (s .pre .1) _ next
 
 left-is : (c : tie.After-except Inv-loop μ-loop) → c .except .result ≡ without (i (c .before .before) .loop .rest) (2 ^ (c .before .before .earliest .result))
 left-is c = c .except .ensures ∙ ap (without (i (c .before .before) .loop .rest)) (c .before .one .ensures)
@@ -56,12 +59,12 @@ except-requires c κs = search needs
 loop-less : tie.Need-loop-less Inv-loop μ-loop
 loop-less c =
     let w = c .before .before in
-    rw (left-is c) (rest-less (i w .loop .inv) (s w .pre .1) _ (w .earliest .ensures))
+    rw (left-is c) (rest-less (i w .loop .inv) (s w .pre .1) _ (next w))
 
 loop-again : tie.Need-loop-again Inv-loop μ-loop
 loop-again c =
     let w = c .before .before in
-    rw (left-is c) (appending-more (i w .loop .inv) (s w .pre .1) _ (w .earliest .ensures))
+    rw (left-is c) (appending-more (i w .loop .inv) (s w .pre .1) _ (next w))
 
 returns : tie.Need-returns Inv-loop μ-loop
 returns c =
