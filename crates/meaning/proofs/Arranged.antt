@@ -75,7 +75,8 @@ module _ (p : ℕ → Bool) where
       (yes-case (p g))
 
   -- the first that passes stands behind those that do not
-  found-behind : (ys zs : List ℕ) (x : ℕ) → ((y : ℕ) → List·Memᴰ y ys → ¬ Yes (p y)) → Yes (p x) → (found p (ys ++ x ∷ zs) ≡ x ∷ []) × (without p (ys ++ x ∷ zs) ≡ ys ++ zs)
+  found-behind : (ys zs : List ℕ) (x : ℕ) → ((y : ℕ) → List·Memᴰ y ys → ¬ Yes (p y)) → Yes (p x)
+      → (found p (ys ++ x ∷ zs) ≡ x ∷ []) × (without p (ys ++ x ∷ zs) ≡ ys ++ zs)
   found-behind [] zs x none t = found-yes x zs t
   found-behind (y ∷ ys) zs x none t =
       let a = found-no y (ys ++ x ∷ zs) (no-neg (none y (List·Memᴰ·head refl))) in

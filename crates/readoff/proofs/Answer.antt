@@ -136,7 +136,7 @@ pub room-for : (f : Facts) (n lows : ℕ) (rows : List ℕ) → n ≤ 16 → Col
     → Layered (f .below) (f .above) n lows n rows → SayBefore f → length (listed (f .after) rows n) ≤ 16
 room-for f n lows rows few m g l says = let a = order-most n (has f) in omega (arith, ap length (order-is f n few m lows g rows l says))
 
-module _ (f : Facts) (n lows : ℕ) (rows : List ℕ) (o : Order) (s : Ordered f n lows rows o) where
+module _ {f : Facts} {n lows : ℕ} {rows : List ℕ} {o : Order} (s : Ordered f n lows rows o) where
   groups-are : groups o ≡ order n (has f)
   groups-are = s .these .these ∙ order-is f n (s .few) (s .columns) lows (s .low) rows (s .layered) (s .says)
 

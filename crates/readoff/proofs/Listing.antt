@@ -155,7 +155,7 @@ pub record Appending (after : List ℕ) (a : ℕ) (gs : List ℕ) (rest : ℕ) (
   pub fits : rest < 65536
   pub these : groups o ++ inLine after rest ≡ gs ++ inLine after a
 
-module _ (after : List ℕ) (a : ℕ) (gs : List ℕ) (rest : ℕ) (o : Order) (w : Appending after a gs rest o) where
+module _ {after : List ℕ} {a : ℕ} {gs : List ℕ} {rest : ℕ} {o : Order} (w : Appending after a gs rest o) where
   module _ (room : length gs + length (inLine after a) ≤ 16) (x : ℕ) (early : Earliest after rest x) where
     pub next-in : x < 16
     next-in = earliest-in after rest (w .fits) x early

@@ -23,7 +23,10 @@ array-read-row : tie.Need-array-read-row Inv-loop μ-loop
 array-read-row c = search needs
 
 append-requires : tie.Need-append-requires Inv-loop μ-loop
-append-requires c κs = let s = c .before .before in (c .before .loop .inv .1 .small, listed-room (s .args .after) (s .args .t1) (s .args .n) (c .before .loop .d) (s .pre .1) (c .loop-test .taken) (c .before .loop .o) (c .before .loop .inv .1), s .pre .2)
+append-requires c κs =
+    let i = c .before in
+    let s = i .before in
+    (i .loop .inv .1 .small, listed-room (s .args .after) (s .args .t1) (s .args .n) (i .loop .d) (s .pre .1) (c .loop-test .taken) (i .loop .o) (i .loop .inv .1), s .pre .2)
 
 add-d : tie.Need-add-d Inv-loop μ-loop
 add-d c = search needs
@@ -32,7 +35,12 @@ loop-less : tie.Need-loop-less Inv-loop μ-loop
 loop-less c = search needs
 
 loop-again : tie.Need-loop-again Inv-loop μ-loop
-loop-again c = let i = c .before .before in let s = i .before in (search needs, listed-next (s .args .after) (s .args .t1) (s .args .n) (i .loop .d) (s .pre .1) (c .before .loop-test .taken) (i .loop .o) (i .loop .inv .1) (c .append .result) (c .append .ensures))
+loop-again c =
+    let i = c .before .before in
+    let s = i .before in (
+      search needs,
+      listed-next (s .args .after) (s .args .t1) (s .args .n) (i .loop .d) (s .pre .1) (c .before .loop-test .taken) (i .loop .o) (i .loop .inv .1) (c .append .result) (c .append .ensures),
+    )
 
 returns : tie.Need-returns Inv-loop μ-loop
 returns c = let e : c .before .loop .d ≡ c .before .before .args .n = search needs in rw (← e) (c .before .loop .inv .1)

@@ -37,22 +37,26 @@ layered : (c : tie.After-layers) → let s = c .before .before .before in Layere
 unfolding Layered
 layered c = c .layers .ensures
 
-ordered : (c : tie.After-in-order) (S : List Fact) (g : Facts) → let s = c .before .before .before .before in Ready (s .args .n) S (tables s g) → Ordered (tables s g) (s .args .n) (c .before .before .lows .result) (c .before .layers .result) (c .in-order .result)
-ordered c S g r =
-    let s = c .before .before .before .before in
-    record {
-      few = s .pre .0;
-      columns = r .mirrored .ancestors;
-      low = c .before .before .lows .ensures;
-      layered = layered (c .before);
-      says = says s S g r;
-      these = c .in-order .ensures;
-      long = search (needs, length-mapped);
-    }
+module _ (c : tie.After-in-order) where
+  abbrev began : tie.Start
+  began = c .before .before .before .before
 
--- of the tables that are ready
-ready-ordered : (c : tie.After-in-order) → let s = c .before .before .before .before in Ordered (ready s) (s .args .n) (c .before .before .lows .result) (c .before .layers .result) (c .in-order .result)
-ready-ordered c = let p = c .before .before .before .before .pre .2 in ordered c (p .0) (p .1) (p .2)
+  abbrev OrderedBy : Facts → Type 0
+  OrderedBy f = Ordered f (began .args .n) (c .before .before .lows .result) (c .before .layers .result) (c .in-order .result)
+
+  ordered : (S : List Fact) (g : Facts) → Ready (began .args .n) S (tables began g) → OrderedBy (tables began g)
+  ordered S g r = record {
+    few = began .pre .0;
+    columns = r .mirrored .ancestors;
+    low = c .before .before .lows .ensures;
+    layered = layered (c .before);
+    says = says began S g r;
+    these = c .in-order .ensures;
+    long = search (needs, length-mapped);
+  }
+
+  ready-ordered : OrderedBy (ready began)
+  ready-ordered = let p = began .pre .2 in ordered (p .0) (p .1) (p .2)
 
 -- the bounds that the writers need
 module _ (c : tie.After-front-of) where
@@ -60,7 +64,7 @@ module _ (c : tie.After-front-of) where
   s = c .before .before .before .before .before
 
   few : (numbered (c .front-of .result) (c .before .in-order .result .len) + s .args .n ≤ 33) × (length (inFront (c .front-of .result)) ≤ 33)
-  few = few-records (ready s) (s .args .n) (c .before .before .before .lows .result) (c .before .before .layers .result) (c .before .in-order .result) (ready-ordered (c .before)) (c .front-of .result) (c .front-of .ensures)
+  few = few-records (ready-ordered (c .before)) (c .front-of .result) (c .front-of .ensures)
 
 -- the places before the one where the number of nodes is known
 module _ (c : tie.After-node-at) where
@@ -118,7 +122,7 @@ assign-requires c κs =
       b .before .in-order .ensures .small,
       omega (arith, few b .0),
       s b .pre .0,
-      groups-led (ready (s b)) (s b .args .n) (b .before .before .before .lows .result) (b .before .before .layers .result) (b .before .in-order .result) (ready-ordered (b .before)) (s b .pre .2 .0) (s b .pre .2 .2),
+      groups-led (ready-ordered (b .before)) (s b .pre .2 .0) (s b .pre .2 .2),
     )
 
 put-places-requires : tie.Need-put-places-requires
@@ -143,7 +147,7 @@ returns c =
     let a = g .before .before in
     let b = known a in
     λ S t r.
-    file-written (tables (s b) t) (s b .args .n) (b .before .before .before .lows .result) (b .before .before .layers .result) (b .before .in-order .result) (ordered (b .before) S t r) (b .front-of .result) (b .front-of .ensures)
+    file-written (ordered (b .before) S t r) (b .front-of .result) (b .front-of .ensures)
     (a .node-at .result .0) (s b .args .answer .now) (front-put a .put-front .last .0) (nodes-put a .put-nodes .last .0) (p .put-places .last .0) _ (a .node-at .ensures) (s b .pre .1) (label-bytes (s b))
     (front-put a .put-front .ensures) (nodes-put a .put-nodes .ensures) (p .put-places .ensures) (g .assign .ensures)
 
