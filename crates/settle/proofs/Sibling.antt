@@ -4,8 +4,8 @@ use mathlib.Core.Path.{_≡_, refl, sym, _∙_, subst}
 use mathlib.Core.Logic.{_≢_, _⊎_, ⊎-elim}
 use mathlib.Core.Bool.{Bool, true, false, _||_, false≢true}
 use mathlib.Core.List.{List}
-use Prim.Native.Nat.{ℕ, _+_, _<_, _≤_}
-use native.Mathlib.Nat.{le-trans, le-refl}
+use Prim.Native.Nat.{ℕ, _<_, _≤_}
+use native.Mathlib.Nat.{le-trans}
 use native.Mathlib.Decide.{decLt}
 use native.Mathlib.Omega.{arith}
 use lib.ListN.{length, replicate, List·getD-eq-default}
@@ -16,7 +16,7 @@ use Rattle.meaning.specs.Finite.{Yes, sum, pick}
 use Rattle.meaning.proofs.Finite.{sum-le, sum-lt}
 use Rattle.meaning.proofs.Least.{settled-within}
 use Rattle.rowbits.specs.Bit.{bit}
-use Rattle.tables.specs.Tables.{row, has, Columns, Sound, Seeded}
+use Rattle.tables.specs.Tables.{row, has, Sound, Seeded}
 use Rattle.tables.specs.Rows.{Up, Transposed, Common, United, Crossed}
 use Rattle.tables.specs.Free.{Clear}
 use Rattle.tables.specs.declared.Facts.{Facts}
