@@ -65,7 +65,7 @@ impl Comparison {
 
     /// Every fourth verdict on few variables, against trees of so many nodes that they stay few.
     pub fn check_some_meanings(&mut self, constraints: &[Constraint], verdict: &SolverVerdict) {
-        let most_nodes = [7, 7, 6, 6, 5].get(number_of_variables(constraints));
+        let most_nodes = [7, 7, 6, 6, 5, 6].get(number_of_variables(constraints));
         if let Some(&most_nodes) = most_nodes.filter(|_| self.random.one_in(4)) {
             self.check_meaning(constraints, verdict, most_nodes);
         }
