@@ -7,23 +7,24 @@ use mathlib.Core.List.{List, _∷_, List·Memᴰ, List·Memᴰ·head, List·Mem�
 use Prim.Native.Nat.{ℕ, _<_, _≤_}
 use native.Mathlib.Nat.{le-trans}
 use Rattle.meaning.specs.ReadOff.{Decides}
-use Rattle.meaning.specs.Constraint.{Fact, child, below, differ, root, leaf, label}
-use Rattle.meaning.specs.Settled.{Settled, given, chain}
-use Rattle.meaning.specs.Closed.{Rules, Within}
+use Rattle.meaning.specs.Constraint.{Fact, child, below, differ, before, root, leaf, label}
+use Rattle.meaning.specs.Settled.{Settled, given, chain, Clash}
+use Rattle.meaning.specs.Closed.{Rules, Inside, Within}
 use Rattle.meaning.proofs.Least.{settled-mono, settled-rules, settled-within}
 use Rattle.theory.proofs.Closure.{rules-decide}
 use Rattle.rowbits.specs.Bit.{bit}
-use Rattle.tables.specs.Tables.{row, has, Ready}
-use Rattle.tables.specs.Rows.{Raised, meets}
+use Rattle.tables.specs.Tables.{row, has, Columns, Ready}
+use Rattle.tables.specs.Rows.{Raised, Crossed, meets}
 use Rattle.tables.specs.declared.Facts.{Facts}
 use Rattle.tables.proofs.Bits.{in-row}
-use Rattle.tables.proofs.Clashes.{free-clash, clash-free}
+use Rattle.tables.proofs.Clashes.{free-clash, clash-free, crossed-clash, uncrossed-clear}
 use Rattle.tables.proofs.Groups.{rules-same}
 use Rattle.tables.proofs.Rises.{rises, raised-out, raised-in, columns-raised}
 use Rattle.tables.proofs.Tested.{or-yes}
 use Rattle.tables.proofs.Wider.{Opening, Wider, wide-least, wide-rules}
 use Rattle.tables.specs.declared.Settled.{Settled as Result}
-use Rattle.merge.specs.Merging.{In, Held, MergedOf}
+use Rattle.merge.specs.Rows.{In}
+use Rattle.merge.specs.Merging.{Held, MergedOf}
 use Rattle.merge.proofs.Entered.{back-tested}
 use Rattle.enter.specs.Entered.{EnteredOf}
 
@@ -54,7 +55,7 @@ module _ (n : ℕ) (few : n ≤ 16) (S : List Fact) (f : Facts) (a b : ℕ) (ha 
   module _ (up-small : u < 65536) (down-small : w < 65536) (t s : List ℕ) (up : Raised (f .below) u w t) (down : Raised (f .above) w u s)
       (not-above : ¬ P (below b a)) (no-leaf : (x : ℕ) → In u x → P (leaf x) → ⊥) where
     abbrev raised : Facts
-    raised = record { child = f .child; parent = f .parent; below = t; above = s; differ = f .differ; root = f .root; leaf = f .leaf; label = f .label }
+    raised = record { child = f .child; parent = f .parent; below = t; above = s; differ = f .differ; before = f .before; after = f .after; root = f .root; leaf = f .leaf; label = f .label }
 
     up-is : (x : ℕ) → In u x → P (below x a)
     unfolding has
@@ -73,6 +74,7 @@ module _ (n : ℕ) (few : n ≤ 16) (S : List Fact) (f : Facts) (a b : ℕ) (ha 
     has-wide (child x y) p = p
     has-wide (below x y) p = raised-out (f .below) u w t (rises up-small up) x y p
     has-wide (differ x y) p = p
+    has-wide (before x y) p = p
     has-wide (root x) p = p
     has-wide (leaf x) p = p
     has-wide (label x l) p = p
@@ -86,6 +88,7 @@ module _ (n : ℕ) (few : n ≤ 16) (S : List Fact) (f : Facts) (a b : ℕ) (ha 
     keep (child x y) p = p
     keep (below x y) p = raised-in (f .below) u w t (rises up-small up) x y (inl p)
     keep (differ x y) p = p
+    keep (before x y) p = p
     keep (root x) p = p
     keep (leaf x) p = p
     keep (label x l) p = p
@@ -105,14 +108,31 @@ module _ (n : ℕ) (few : n ≤ 16) (S : List Fact) (f : Facts) (a b : ℕ) (ha 
     decides' = rules-decide n S' (has raised) sound' given'
         (rules-same n (Wider P (In u) (In w)) (Held raised) (wide-least P (In u) (In w) (Held raised) keep over) has-wide (wide-rules n P (In u) (In w) opening rules))
 
-    pub raised-ready : Ready n S' raised
-    unfolding has
-    raised-ready = record {
-      inside = λ φ m. ⊎-elim (λ e. subst (Within n) (sym e) (ha, hb)) (r .inside φ) (List·Memᴰ·cases-cons m);
-      free = free-clash n S' raised decides' (record { apart = clash-free n S f (r .decides) (r .free) .apart });
-      decides = decides';
-      mirrored = record { parents = r .mirrored .parents; ancestors = columns-raised (f .below) (f .above) u w t s (r .mirrored .ancestors) (rises up-small up) (rises down-small down) };
-    }
+    inside' : Inside n S'
+    inside' φ m = ⊎-elim (λ e. subst (Within n) (sym e) (ha, hb)) (r .inside φ) (List·Memᴰ·cases-cons m)
+
+    ancestors' : Columns t s
+    ancestors' = columns-raised (f .below) (f .above) u w t s (r .mirrored .ancestors) (rises up-small up) (rises down-small down)
+
+    -- before against below is the one clash that there can be
+    module _ (c : Bool) (test : Crossed (f .before) t s c) where
+      within' : (φ : Fact) → Held raised φ → Within n φ
+      within' φ p = settled-within n S' inside' (sound' φ p)
+
+      pub raised-clash : c ≡ true → Clash n S'
+      raised-clash e = crossed-clash n few raised ancestors' within' c test S' sound' e
+
+      pub raised-ready : c ≡ false → Ready n S' raised
+      unfolding has
+      raised-ready e = record {
+        inside = inside';
+        free = free-clash n S' raised decides' (record { apart = clash-free n S f (r .decides) (r .free) .apart; clear = uncrossed-clear n few raised ancestors' within' c test e });
+        decides = decides';
+        mirrored = record { parents = r .mirrored .parents; ancestors = ancestors'; siblings = r .mirrored .siblings };
+      }
+
+pub entered-clash : (n : ℕ) (f : Facts) (a b : ℕ) → ((S : List Fact) → Ready n S f → Clash n (below a b ∷ S)) → EnteredOf n f a b (record { clash = true; facts = f })
+entered-clash n f a b h = record { clashes = λ e. h; kept = λ e. refl; settles = λ e. absurd (false≢true (sym e)) }
 
 pub entered-well : (n : ℕ) (f : Facts) (a b : ℕ) (g : Facts) → ((S : List Fact) → Ready n S f → Ready n (below a b ∷ S) g) → EnteredOf n f a b (record { clash = false; facts = g })
 entered-well n f a b g h = record { clashes = λ e. absurd (false≢true e); kept = λ e. absurd (false≢true e); settles = λ e. h }

@@ -9,7 +9,7 @@ use tables::Facts;
 use tables::Settled;
 
 // The tables with below(a, b), settled again. Where b is not at or above a and no leaf is, nothing becomes the same: the new facts are
-// below(u, v) with u at or above a and v at or below b. Elsewhere a and b become the same.
+// below(u, v) with u at or above a and v at or below b, and they clash only with before. Elsewhere a and b become the same.
 pub fn enter_below(f: Facts, n: usize, a: Var, b: Var) -> Settled
     requires { ⌜ (a .0 < n) × (b .0 < n) × (n ≤ 16) ⌝ }
     requires { ⌜ ((S : List Fact) × Ready n S f) ⌝ }
@@ -24,9 +24,16 @@ pub fn enter_below(f: Facts, n: usize, a: Var, b: Var) -> Settled
     if rowbits::has(down, i) | tables::meet(up, f.leaf) {
         return merge::enter_same(f, n, a, b);
     }
-    let mut g = f;
     let below = tables::raise(rows, up, down);
     let above = tables::raise(columns, down, up);
+    let before = f.before;
+    if tables::crossed(before, below, above) {
+        return Settled {
+            clash: true,
+            facts: f,
+        };
+    }
+    let mut g = f;
     g.below = below;
     g.above = above;
     Settled {

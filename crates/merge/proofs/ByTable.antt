@@ -12,42 +12,13 @@ use Rattle.meaning.specs.Finite.{Yes, _and_, neg}
 use Rattle.meaning.proofs.Tests.{clash, yes-case, yes-eq, and-left, and-right, is-eq, eq-yes, pick-yes, pick-no}
 use Rattle.rowbits.specs.Bit.{bit}
 use Rattle.tables.specs.Tables.{row, Columns}
-use Rattle.tables.specs.Rows.{gained, meets, Raised, Union}
+use Rattle.tables.specs.Rows.{gained, meets, Union}
 use Rattle.tables.proofs.Bits.{in-both, both-in, gained-up, gained-has, gained-case, meets-in, meets-out}
 use Rattle.tables.proofs.Groups.{Twin, One, Two, own, pair}
-use Rattle.tables.proofs.Rises.{Rises, rises, raised-out, raised-keeps, raised-has}
 use Rattle.tables.proofs.Wider.{Wide}
-use Rattle.merge.specs.Rows.{LabelOf, Painted}
-use Rattle.merge.specs.Merging.{In}
+use Rattle.merge.specs.Rows.{In, LabelOf, Painted, Spread}
 use Rattle.meaning.specs.Closed.{Sharing}
 use Rattle.merge.proofs.Glue.{Cut, mid-twin, twin-cases}
-
--- ---- a table raised twice: the rows of the group with `along`, and the rows of `across` with the group
-
-pub record RaisedTwice (t : List ℕ) (group along across : ℕ) (r : List ℕ) : Type 0 where
-  pub half : List ℕ
-  pub first : Raised t group along half
-  pub last : Raised half across group r
-
-pub record Spread (t : List ℕ) (group along across : ℕ) (r : List ℕ) : Type 0 where
-  pub out : (i j : ℕ) → In (row r i) j → In (row t i) j ⊎ (In group i × In along j) ⊎ (In across i × In group j)
-  pub keeps : (i j : ℕ) → In (row t i) j → In (row r i) j
-  pub rows : (i j : ℕ) → In group i → In along j → In (row r i) j
-  pub columns : (i j : ℕ) → In across i → In group j → In (row r i) j
-
-pub spread : {t : List ℕ} {group along across : ℕ} {r : List ℕ} → group < 65536 → across < 65536 → RaisedTwice t group along across r → Spread t group along across r
-spread {t} {group} {along} {across} {r} small over h = record {
-  out = λ i j u. ⊎-elim (λ v. ⊎-elim inl (λ w. inr (inl w)) (raised-out t group along (h .half) a i j v)) (λ v. inr (inr v)) (raised-out (h .half) across group r b i j u);
-  keeps = λ i j u. raised-keeps (h .half) across group r b i j (raised-keeps t group along (h .half) a i j u);
-  rows = λ i j u v. raised-keeps (h .half) across group r b i j (raised-has t group along (h .half) a i j u v);
-  columns = λ i j u v. raised-has (h .half) across group r b i j u v;
-}
-  where
-    a : Rises t group along (h .half)
-    a = rises small (h .first)
-
-    b : Rises (h .half) across group r
-    b = rises over (h .last)
 
 pub columns-spread : (t r : List ℕ) (group along across : ℕ) (t' r' : List ℕ) → Columns t r → Spread t group along across t' → Spread r group across along r' → Columns t' r'
 columns-spread t r group along across t' r' c h k x y lx ly =
@@ -118,6 +89,13 @@ module _ (n : ℕ) (P : Fact → Type 0) (u w : ℕ) (s : Sharing n P) (c : Cut 
     two-over i j g y =
         ⊎-elim (λ y. h .to i j g y)
         (λ y. ⊎-elim (λ y. let k = h .is-along .from j (y .1) in absurd (h .apart (k .0) j (k .1) g (k .2))) (λ y. y .0) y)
+        (h .spreads .out i j y)
+
+    -- and what one of the group holds afterwards one held before
+    pub two-under : (i j : Var) → G i → Yes (bit (row q i) j) → In along j
+    two-under i j g y =
+        ⊎-elim (λ y. h .is-along .to i j g y)
+        (λ y. ⊎-elim (λ y. y .1) (λ y. let k = h .from i (y .0) in absurd (h .apart i (k .0) g (k .1) (k .2))) y)
         (h .spreads .out i j y)
 
   -- ---- a row of variables: the group is added if it is met

@@ -20,9 +20,10 @@ use Rattle.tables.specs.Tables.{row, has, Ready}
 use Rattle.tables.specs.Rows.{meets}
 use Rattle.tables.specs.declared.Facts.{Facts}
 use Rattle.tables.proofs.Clashes.{free-clash, clash-free}
-use Rattle.tables.proofs.Groups.{sharing-same}
-use Rattle.merge.specs.Rows.{WithGap}
-use Rattle.merge.specs.Merging.{Awaits, held, waits, In, Held, Pending, MergedOf}
+use Rattle.tables.specs.Free.{Free}
+use Rattle.tables.proofs.Groups.{sharing-same, siblings-same}
+use Rattle.merge.specs.Rows.{In, WithGap}
+use Rattle.merge.specs.Merging.{Awaits, held, waits, Held, Pending, MergedOf}
 use Rattle.tables.proofs.Bits.{or-l, or-r, one-has, meets-out, in-row}
 use Rattle.merge.proofs.Loops.{two-case}
 use Rattle.merge.proofs.Rounds.{none-left, narrow}
@@ -64,13 +65,18 @@ module _ (n : ℕ) (S : List Fact) (a b : Var) where
         inside = λ φ m. ⊎-elim (λ e. subst (Within n) (sym e) (ha, hb)) (r .inside φ) (List·Memᴰ·cases-cons m);
         sound = λ φ u. more (r .decides .sound u);
         sharing = sharing-same n (Settled n S) (Held f) (λ φ h. r .decides .complete h) (λ φ u. r .decides .sound u) (settled-rules n S .sharing);
-        free = clash-free n S f (r .decides) (r .free);
+        apart = no-clash .apart;
         mirrored = r .mirrored;
       };
+      siblings = siblings-same n (Settled n S) (Held f) (λ φ h. r .decides .complete h) (λ φ u. r .decides .sound u) (settled-rules n S .siblings);
+      clear = no-clash .clear;
       due = together;
       complete = start-complete;
       one-parent = λ x y z u v. held (r .decides .complete (one-parent (r .decides .sound u) (r .decides .sound v)));
     }
+      where
+        no-clash : Free (Held f)
+        no-clash = clash-free n S f (r .decides) (r .free)
 
 -- ---- nothing has to become the same any more
 
@@ -78,10 +84,15 @@ module _ (n : ℕ) (T : List Fact) (f : Facts) (p : Pending n T 0 f) where
   done-decides : Decides n T (has f)
   done-decides =
       rules-decide n T (has f) (p .standing .sound) (λ φ m. none-left f φ (p .complete φ m))
-      (record { sharing = p .standing .sharing; one-parent = λ x y z u v. none-left f (below x y) (p .one-parent x y z u v) })
+      (record { sharing = p .standing .sharing; siblings = p .siblings; one-parent = λ x y z u v. none-left f (below x y) (p .one-parent x y z u v) })
 
   pub done : Ready n T f
-  done = record { inside = p .standing .inside; free = free-clash n T f done-decides (p .standing .free); decides = done-decides; mirrored = p .standing .mirrored }
+  done = record {
+    inside = p .standing .inside;
+    free = free-clash n T f done-decides (record { apart = p .standing .apart; clear = p .clear });
+    decides = done-decides;
+    mirrored = p .standing .mirrored;
+  }
 
 -- ---- the contract
 

@@ -1,15 +1,14 @@
 -- Gluing a set of facts that is closed under the rules, but perhaps for that of one parent: below is widened (tables/proofs/Wider), and what is
 -- the same afterwards shares its facts (tables/proofs/Groups). Where no leaf gets anything properly below it, the set so glued is closed
--- again, and only parents of what was glued have yet to become the same.
+-- again but for what passes through those that were glued, and only their parents have yet to become the same.
 use mathlib.Core.Logic.{_⊎_, inl, inr, ⊎-elim}
-use Prim.Native.Nat.{ℕ}
+use Prim.Native.Nat.{ℕ, _<_}
 use Rattle.meaning.specs.Tree.{Var}
-use Rattle.meaning.specs.Constraint.{Fact, child, below, differ, leaf}
-use Rattle.meaning.specs.Closed.{Within, Sharing}
-use Rattle.tables.specs.Free.{Free}
-use Rattle.tables.proofs.Groups.{Twin, Two, Shared, Order, flip, via, shared-sharing, embed}
+use Rattle.meaning.specs.Constraint.{Fact, child, below, differ, before, leaf}
+use Rattle.meaning.specs.Closed.{Within, Sharing, Siblings}
+use Rattle.tables.proofs.Groups.{Twin, Two, Shared, Order, flip, alone, pair, each, via, move-left, move-right, shared-sharing, embed}
 use Rattle.tables.proofs.Wider.{Ends, Wide, Mid, wide-chain, wide-cases}
-use Rattle.merge.specs.Merging.{Awaits, held, waits}
+use Rattle.merge.specs.Merging.{Awaits, held, waits, Through}
 
 -- where a set of facts can be glued
 pub record Cut (P : Fact → Type 0) (Up Down : Var → Type 0) : Type 0 where
@@ -19,13 +18,28 @@ pub record Cut (P : Fact → Type 0) (Up Down : Var → Type 0) : Type 0 where
 
 module _ (P : Fact → Type 0) (Up Down : Var → Type 0) where
   abbrev pub Glued : Fact → Type 0
-  Glued φ = Shared (Wide P Up Down) P φ
+  Glued φ = Shared (Wide P Up Down) (Two (Wide P Up Down) (λ i j. P (before i j))) P φ
 
-  -- a parent of what is glued
-  pub record Over (x : Var) : Type 0 where
+  -- R of x and of one of those that are glued, either way
+  pub record Toward (R : Var → Var → Type 0) (x : Var) : Type 0 where
     pub it : Var
     pub mid : Mid P Up Down it
-    pub holds : Two (Wide P Up Down) (λ i j. P (child i j)) x it
+    pub holds : Two (Wide P Up Down) R x it
+
+  pub record From (R : Var → Var → Type 0) (x : Var) : Type 0 where
+    pub it : Var
+    pub mid : Mid P Up Down it
+    pub holds : Two (Wide P Up Down) R it x
+
+  -- a parent of what is glued; what is earlier, and later
+  abbrev pub Over : Var → Type 0
+  Over = Toward (λ i j. P (child i j))
+
+  abbrev pub Earlier : Var → Type 0
+  Earlier = Toward (λ i j. P (before i j))
+
+  abbrev pub Later : Var → Type 0
+  Later = From (λ i j. P (before i j))
 
 module _ (n : ℕ) (P : Fact → Type 0) (Up Down : Var → Type 0) (s : Sharing n P) (c : Cut P Up Down) where
   abbrev B : Var → Var → Type 0
@@ -50,19 +64,46 @@ module _ (n : ℕ) (P : Fact → Type 0) (Up Down : Var → Type 0) (s : Sharing
   }
 
   pub glued-sharing : Sharing n (Glued P Up Down)
-  glued-sharing = shared-sharing n P B order
+  glued-sharing = shared-sharing n P B order _
 
-  -- there is no clash, if there was none and what is glued does not differ
-  pub glued-free : Free P → ((x y : Var) → Mid P Up Down x → Mid P Up Down y → ¬ P (differ x y)) → Free (Glued P Up Down)
-  glued-free h k = record {
-    apart = λ x a. ⊎-elim (λ p. h .apart _ (s .same-differ _ _ _ (p .0) (p .1) (a .holds))) (λ p. k _ _ (p .0) (p .1) (a .holds))
-        (twin-cases (via n P B order (a .left-twin) (flip (a .right-twin))));
+  -- nothing differs from itself, if nothing did and what is glued does not differ
+  pub glued-apart : ((x : Var) → ¬ P (differ x x)) → ((x y : Var) → Mid P Up Down x → Mid P Up Down y → ¬ P (differ x y)) → (x : Var) → ¬ Glued P Up Down (differ x x)
+  glued-apart h k x a =
+      ⊎-elim (λ p. h _ (s .same-differ _ _ _ (p .0) (p .1) (a .holds))) (λ p. k _ _ (p .0) (p .1) (a .holds))
+      (twin-cases (via n P B order (a .left-twin) (flip (a .right-twin))))
+
+  -- ---- what does not pass through those that are glued is as it was
+
+  toward : {R : Var → Var → Type 0} {x z : Var} (a : Two B R x z) → Mid P Up Down (a .right) → Toward P Up Down R x
+  toward a m = record { it = a .right; mid = m; holds = record { left = a .left; right = a .right; left-twin = a .left-twin; right-twin = mid-twin m m; holds = a .holds } }
+
+  from : {R : Var → Var → Type 0} {x z : Var} (a : Two B R z x) → Mid P Up Down (a .left) → From P Up Down R x
+  from a m = record { it = a .left; mid = m; holds = record { left = a .left; right = a .right; left-twin = mid-twin m m; right-twin = a .right-twin; holds = a .holds } }
+
+  pub glued-siblings : Siblings n P → Through (Glued P Up Down) (Over P Up Down) (Earlier P Up Down) (Later P Up Down)
+  glued-siblings b = record {
+    before-chain = λ x y z a d. ⊎-elim (λ p. inl (outer a d (b .before-chain _ _ _ (a .holds) (b .same-before _ _ _ (p .1) (p .0) (d .holds)))))
+        (λ p. inr (toward a (p .0), from d (p .1))) (twin-cases (via n P B order (a .right-twin) (flip (d .left-twin))));
+    before-differ = λ x y a. each (b .before-differ) a;
+    before-child = λ x y u a d. ⊎-elim (λ p. inl (outer d a (b .before-child _ _ _ (a .holds) (s .same-child _ _ _ (p .0) (p .1) (d .holds)))))
+        (λ p. inr (toward d (p .0), from a (p .1))) (twin-cases (via n P B order (d .right-twin) (flip (a .left-twin))));
+    after-child = λ x y u a d. ⊎-elim
+        (λ p. inl (record { left = d .left; right = a .left; left-twin = d .left-twin; right-twin = a .left-twin; holds = b .after-child _ _ _ (a .holds) (s .same-child _ _ _ (p .0) (p .1) (d .holds)) }))
+        (λ p. inr (toward d (p .0), toward a (p .1))) (twin-cases (via n P B order (d .right-twin) (flip (a .right-twin))));
+    same-before = λ x y u p q. move-left n P B order p q;
+    same-after = λ x y u p q. move-right n P B order p q;
   }
+    where
+      outer : {R Q S : Var → Var → Type 0} {x y z v : Var} (a : Two B R x y) (d : Two B Q z v) → S (a .left) (d .right) → Two B S x v
+      outer a d h = record { left = a .left; right = d .right; left-twin = a .left-twin; right-twin = d .right-twin; holds = h }
 
   module _ (within : (φ : Fact) → P φ → Within n φ) (X : Var → Type 0) (ends : (x : Var) → X x → Mid P Up Down x) where
+    own-twin : {x : Var} → x < n → Twin B x x
+    own-twin l = alone (inl (s .self-below _ l))
+
     -- what was awaited is there
     pub arrived : (φ : Fact) → Awaits X P φ → Glued P Up Down φ
-    arrived φ (held p) = embed n P B order within φ p
+    arrived φ (held p) = embed n P B order _ (λ x y q. let w = within (before x y) q in pair (own-twin (w .0)) (own-twin (w .1)) q) within φ p
     arrived φ (waits {x} {y} a b) = inr (ends x a .0, ends y b .1)
 
     -- two parents of one child are the same, or both are parents of what is glued
@@ -71,11 +112,8 @@ module _ (n : ℕ) (P : Fact → Type 0) (Up Down : Var → Type 0) (s : Sharing
     glued-parent h x y z a b =
         ⊎-elim
         (λ p. inl (link (a .left-twin .fro) (link (arrived _ (h _ _ _ (a .holds) (s .same-child _ _ _ (p .1) (p .0) (b .holds)))) (b .left-twin .to))))
-        (λ p. inr (over a (p .0), over b (p .1)))
+        (λ p. inr (toward a (p .0), toward b (p .1)))
         (twin-cases (via n P B order (a .right-twin) (flip (b .right-twin))))
       where
         link : {x y z : Var} → B x y → B y z → B x z
         link p q = order .chain _ _ _ p q
-
-        over : {x z : Var} (a : Two B (λ i j. P (child i j)) x z) → Mid P Up Down (a .right) → Over P Up Down x
-        over a m = record { it = a .right; mid = m; holds = record { left = a .left; right = a .right; left-twin = a .left-twin; right-twin = mid-twin m m; holds = a .holds } }

@@ -5,5 +5,7 @@ mod Reach
 mod Masks
 mod ByTable
 mod Making
+mod Added
+mod Passing
 mod Rounds
 pub mod Entered

@@ -1,9 +1,10 @@
--- What the loops over one table know after some rows: the rows named gathered or compared, and their labels.
+-- What the loops over one table know after some rows: the rows named gathered or compared, their labels, what is spread over them, and what
+-- they lead to.
 use mathlib.Core.Path.{_≡_, refl, sym, _∙_, subst}
-use mathlib.Core.Logic.{_≢_, ⊎-elim}
+use mathlib.Core.Logic.{_≢_, inl, inr, ⊎-elim}
 use mathlib.Core.Bool.{true, false, false≢true, _&&_, not}
 use mathlib.Core.List.{List}
-use Prim.Native.Nat.{ℕ, _^_, _<_}
+use Prim.Native.Nat.{ℕ, _^_, _-_, _<_}
 use native.Mathlib.Decide.{ℕ-discrete}
 use native.Mathlib.Omega.{arith}
 use lib.Dec.{eqb}
@@ -14,10 +15,11 @@ use Rattle.meaning.specs.Finite.{Yes}
 use Rattle.meaning.proofs.Tests.{yes-case, clash, is-eq, eq-yes, pick-yes, pick-no}
 use Rattle.rowbits.specs.Bit.{bit}
 use Rattle.tables.specs.Tables.{row}
-use Rattle.tables.specs.Rows.{without, Lowest, Union}
-use Rattle.tables.proofs.Bits.{none-in, or-case, or-l, or-r, one-is, one-has, one-small, in-both, both-in, some-in, in-row, without-in, without-out}
+use Rattle.tables.specs.Rows.{without, Lowest, Raised, Union}
+use Rattle.tables.proofs.Bits.{none-in, or-case, or-l, or-r, one-is, one-has, one-small, in-both, both-in, some-in, in-row, or-le, without-in, without-out}
 use Rattle.tables.proofs.Members.{Passed, passed-none, next-in, next-named, passed-more, passed-all}
-use Rattle.merge.specs.Rows.{WithGap, LabelOf, TwoLabels, Painted}
+use Rattle.tables.proofs.Rises.{Rises, rises, raised-out, raised-keeps, raised-has}
+use Rattle.merge.specs.Rows.{WithGap, LabelOf, TwoLabels, Painted, Spread, Kin, own, to-later, to-earlier, Family}
 use Rattle.tables.proofs.Tested.{and-yes, yes-and, not-eq, eq-not, not-yes}
 
 -- ---- whether one of them lacks one
@@ -155,3 +157,75 @@ was-painted t rows l a rest w z = record {
       (λ y. passed-all _ rows rest (w .passed) z i y ∙ sym (pick-yes l (row t i) y))
       (λ y. w .kept i (λ u. clash u y) ∙ sym (pick-no l (row t i) (λ u. clash u y))) (yes-case (bit rows i));
 }
+
+-- ---- a group spread over rows and columns
+
+pub was-spread : (t half r : List ℕ) (group along across : ℕ) → group < 65536 → across < 65536 → Raised t group along half → Raised half across group r
+    → Spread t group along across r
+was-spread t half r group along across small over h k = record {
+  out = λ i j u. ⊎-elim (λ v. ⊎-elim inl (λ w. inr (inl w)) (raised-out t group along half a i j v)) (λ v. inr (inr v)) (raised-out half across group r b i j u);
+  keeps = λ i j u. raised-keeps half across group r b i j (raised-keeps t group along half a i j u);
+  rows = λ i j u v. raised-keeps half across group r b i j (raised-has t group along half a i j u v);
+  columns = λ i j u v. raised-has half across group r b i j u v;
+}
+  where
+    a : Rises t group along half
+    a = rises small h
+
+    b : Rises half across group r
+    b = rises over k
+
+pub none-spread : (t : List ℕ) (group along across : ℕ) → bitOr along across ≡ 0 → Spread t group along across t
+none-spread t group along across z = record {
+  out = λ i j u. inl u;
+  keeps = λ i j u. u;
+  rows = λ i j u v. none-in j (subst (λ (k : ℕ). Yes (bit k j)) z (or-l along across j v));
+  columns = λ i j u v. none-in i (subst (λ (k : ℕ). Yes (bit k i)) z (or-r along across i u));
+}
+
+-- ---- a family
+
+pub record Relating (before after : List ℕ) (group all : ℕ) : Type 0 where
+  pub small : all < 65536
+  pub from : (i : ℕ) → Yes (bit all i) → Kin before after group i
+  pub owns : (i : ℕ) → Yes (bit group i) → Yes (bit all i)
+
+module _ (before after : List ℕ) (group : ℕ) where
+  pub relating-none : group < 65536 → Relating before after group group
+  relating-none small = record { small = small; from = λ i u. own u; owns = λ i u. u }
+
+  module _ (all later earlier : ℕ) (w : Relating before after group all) (ul : Union before all later) (ue : Union after all earlier) where
+    near-small : bitOr later earlier < 65536
+    near-small = or-lt 16 later earlier (ul .small) (ue .small)
+
+    more-small : without (bitOr later earlier) all < 65536
+    unfolding without
+    more-small = let l = and-le-l (bitOr later earlier) (bitXor all 65535) in let k = near-small in omega arith
+
+    pub relating-more : Relating before after group (bitOr all (without (bitOr later earlier) all))
+    relating-more = record {
+      small = or-lt 16 all _ (w .small) more-small;
+      from = λ i u. ⊎-elim (w .from i)
+          (λ v. let q = without-out (bitOr later earlier) all i (in-row _ i more-small v) v in
+          ⊎-elim (λ y. let k = ul .from i y in to-later (w .from (k .0) (k .1)) (k .2)) (λ y. let k = ue .from i y in to-earlier (w .from (k .0) (k .1)) (k .2)) (or-case later earlier i (q .0)))
+          (or-case all _ i u);
+      owns = λ i u. or-l all _ i (w .owns i u);
+    }
+
+    pub relating-less : without (bitOr later earlier) all ≢ 0 → 65536 - bitOr all (without (bitOr later earlier) all) < 65536 - all
+    relating-less z =
+        let k = some-in _ more-small z in
+        let q = without-out (bitOr later earlier) all (k .0) (in-row _ (k .0) more-small (k .1)) (k .1) in
+        let e : bitOr all (without (bitOr later earlier) all) ≢ all = λ e. q .1 (subst (λ (i : ℕ). Yes (bit i (k .0))) e (or-r all _ (k .0) (k .1))) in
+        let l = or-le all (without (bitOr later earlier) all) in
+        let s = relating-more .small in
+        omega (arith, e, l, s)
+
+    pub related : without (bitOr later earlier) all ≡ 0 → Family before after group all
+    related z = record {
+      small = w .small;
+      from = w .from;
+      owns = w .owns;
+      later = λ i j u v. all-in _ all near-small z j (or-l later earlier j (ul .to i j u v));
+      earlier = λ i j u v. all-in _ all near-small z j (or-r later earlier j (ue .to i j u v));
+    }

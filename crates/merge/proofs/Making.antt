@@ -1,7 +1,7 @@
 -- Making a group meets its contract. Where its tests find a clash, the given facts have one; elsewhere its tables are those of the glued facts,
--- and only the parents of the group have yet to become the same.
+-- and what is left open passes through the group.
 use mathlib.Core.Path.{_≡_, refl, sym, _∙_, subst}
-use mathlib.Core.Logic.{_≢_, inl, ⊎-elim}
+use mathlib.Core.Logic.{_≢_, inl, inr, ⊎-elim}
 use mathlib.Core.Bool.{true, false, false≢true}
 use mathlib.Core.List.{List}
 use Prim.Native.Nat.{ℕ, _<_, _≤_}
@@ -9,8 +9,8 @@ use native.Mathlib.Nat.{le-trans}
 use native.Mathlib.Omega.{arith}
 use lib.Bits.{bitOr, bitAnd, and-le-r, or-lt}
 use Rattle.meaning.specs.Tree.{Var}
-use Rattle.meaning.specs.Constraint.{Fact, child, below, differ, root, leaf, label}
-use Rattle.meaning.specs.Settled.{Settled, Clash, differs, labels, one-parent, same-child, same-differ, same-label}
+use Rattle.meaning.specs.Constraint.{Fact, child, below, differ, before, root, leaf, label}
+use Rattle.meaning.specs.Settled.{Settled, Clash, differs, labels, same-differ, same-label, same-before, same-after}
 use Rattle.meaning.specs.Finite.{Yes, neg, pick, one}
 use Rattle.meaning.specs.Closed.{Within, Sharing}
 use Rattle.meaning.proofs.Finite.{sum-le, sum-lt, one-le, one-lt}
@@ -21,23 +21,24 @@ use Rattle.tables.specs.Tables.{row, has}
 use Rattle.tables.specs.Rows.{gained, meets, Raised, Union}
 use Rattle.tables.specs.declared.Facts.{Facts}
 use Rattle.tables.proofs.Bits.{in-both, both-in, meets-in, meets-out, in-row, or-l}
-use Rattle.tables.proofs.Clashes.{free-less}
 use Rattle.tables.proofs.Groups.{Twin, alone, shared-least, sharing-same}
 use Rattle.tables.proofs.Labels.{label-has}
 use Rattle.tables.proofs.Rises.{rises, raised-out, raised-in, raised-keeps, raised-has, columns-raised}
 use Rattle.tables.proofs.Wider.{Wide}
 use Rattle.merge.specs.declared.Round.{Round}
-use Rattle.merge.specs.Rows.{Gap, LabelOf, Painted}
-use Rattle.merge.specs.Merging.{held, waits, In, Held, Standing, Pending, lacking, UnifiedOf}
-use Rattle.merge.proofs.Glue.{Cut, Glued, Over, glued-sharing, glued-free, arrived, glued-parent}
+use Rattle.merge.specs.Rows.{In, Gap, LabelOf, Painted, Spread}
+use Rattle.merge.specs.Merging.{held, waits, Held, Standing, Pending, Through, Grouped, lacking, UnifiedOf}
+use Rattle.merge.proofs.Glue.{Cut, Glued, Over, Earlier, Later, glued-sharing, glued-apart, glued-siblings, arrived, glued-parent}
 use Rattle.merge.proofs.Reach.{Reach, within, ends, cut, glue}
 use Rattle.merge.proofs.Masks.{reach, union-columns, columns-union}
-use Rattle.merge.proofs.ByTable.{RaisedTwice, spread, columns-spread, Shares, two-out, two-in, two-over, one-out, one-in, label-out, label-in}
+use Rattle.merge.proofs.ByTable.{columns-spread, Shares, two-out, two-in, two-over, two-under, one-out, one-in, label-out, label-in}
 
--- g is f with u glued over w, where the group m has no clash: its parents, its children, what differs from it, and its label are
--- given to all of it, and it to all of them
-pub record Made (f : Facts) (u w m parents : ℕ) (g : Facts) : Type 0 where
+-- g is f with u glued over w, where the group m has no clash: its parents, its children, what differs from it, what is earlier and later,
+-- and its label are given to all of it, and it to all of them
+pub record Made (f : Facts) (u w m parents earlier later : ℕ) (g : Facts) : Type 0 where
   pub is-parents : Union (f .parent) m parents
+  pub is-earlier : Union (f .after) m earlier
+  pub is-later : Union (f .before) m later
   pub children : ℕ
   pub is-children : Union (f .child) m children
   pub others : ℕ
@@ -48,9 +49,11 @@ pub record Made (f : Facts) (u w m parents : ℕ) (g : Facts) : Type 0 where
   pub only : (i : Var) → In m i → row (f .label) i ≢ 0 → row (f .label) i ≡ shown
   pub below : Raised (f .below) u w (g .below)
   pub above : Raised (f .above) w u (g .above)
-  pub child : RaisedTwice (f .child) m children parents (g .child)
-  pub parent : RaisedTwice (f .parent) m parents children (g .parent)
-  pub differ : RaisedTwice (f .differ) m others others (g .differ)
+  pub child : Spread (f .child) m children parents (g .child)
+  pub parent : Spread (f .parent) m parents children (g .parent)
+  pub differ : Spread (f .differ) m others others (g .differ)
+  pub before : Spread (f .before) m later earlier (g .before)
+  pub after : Spread (f .after) m earlier later (g .after)
   pub root : g .root ≡ gained (meets (f .root) m) (f .root) m
   pub leaf : g .leaf ≡ gained (meets (f .leaf) m) (f .leaf) m
   pub label : Painted (f .label) m shown (g .label)
@@ -101,7 +104,8 @@ module _ (n : ℕ) (T : List Fact) (f : Facts) (x u w : ℕ) (p : Pending n T x 
   twin : (i : Var) → i < n → Twin (Wide P (In u) (In w)) i i
   twin i l = alone (inl (s .self-below i l))
 
-  module _ (up-small : u < 65536) (down-small : w < 65536) (root-small : f .root < 65536) (leaf-small : f .leaf < 65536) (parents : ℕ) (g : Facts) (q : Made f u w m parents g) where
+  module _ (up-small : u < 65536) (down-small : w < 65536) (root-small : f .root < 65536) (leaf-small : f .leaf < 65536)
+      (parents earlier later : ℕ) (g : Facts) (q : Made f u w m parents earlier later g) where
     small : m < 65536
     small = let h = and-le-r u w in omega arith
 
@@ -120,7 +124,20 @@ module _ (n : ℕ) (T : List Fact) (f : Facts) (x u w : ℕ) (p : Pending n T x 
       is-along = q .is-children;
       from = union-columns (f .child) (f .parent) m parents small (p .standing .mirrored .parents) (q .is-parents);
       to = λ i k y v. columns-union (f .child) (f .parent) m parents small (p .standing .mirrored .parents) (q .is-parents) i (le-trans (inside-of (child i k) v .0) (p .standing .few)) (k, y, v);
-      spreads = spread small (q .is-parents .small) (q .child);
+      spreads = q .child;
+    }
+
+    shares-before : Shares n P u w s c (f .before) (g .before) later earlier
+    unfolding has
+    shares-before = record {
+      to-left = λ i j k y z v. p .siblings .same-before i j k y z v;
+      to-right = λ i j k y z v. p .siblings .same-after i j k y z v;
+      selves = λ i j v. let h = inside-of (before i j) v in (twin i (h .0), twin j (h .1));
+      apart = λ i j y z v. apart-in i j y z (p .siblings .before-differ i j v);
+      is-along = q .is-later;
+      from = union-columns (f .before) (f .after) m earlier small (p .standing .mirrored .siblings) (q .is-earlier);
+      to = λ i k y v. columns-union (f .before) (f .after) m earlier small (p .standing .mirrored .siblings) (q .is-earlier) i (le-trans (inside-of (before i k) v .0) (p .standing .few)) (k, y, v);
+      spreads = q .before;
     }
 
     shares-differ : Shares n P u w s c (f .differ) (g .differ) (q .others) (q .others)
@@ -133,7 +150,7 @@ module _ (n : ℕ) (T : List Fact) (f : Facts) (x u w : ℕ) (p : Pending n T x 
       is-along = q .is-others;
       from = λ i y. let k = q .is-others .from i y in (k .0, k .1, s .differ-back (k .0) i (k .2));
       to = λ i k y v. q .is-others .to k i y (s .differ-back i k v);
-      spreads = spread small (q .is-others .small) (q .differ);
+      spreads = q .differ;
     }
 
     has-glued : (φ : Fact) → Held g φ → Glued P (In u) (In w) φ
@@ -141,6 +158,7 @@ module _ (n : ℕ) (T : List Fact) (f : Facts) (x u w : ℕ) (p : Pending n T x 
     has-glued (child i j) y = two-out n P u w s c _ _ _ _ shares-child i j y
     has-glued (below i j) y = raised-out (f .below) u w (g .below) (rises up-small (q .below)) i j y
     has-glued (differ i j) y = two-out n P u w s c _ _ _ _ shares-differ i j y
+    has-glued (before i j) y = two-out n P u w s c _ _ _ _ shares-before i j y
     has-glued (root i) y = one-out n P u w s c (f .root) root-small (λ i k. s .same-root i k) (λ i v. twin i (inside-of (root i) v)) i (subst (λ (k : ℕ). In k i) (q .root) y)
     has-glued (leaf i) y = one-out n P u w s c (f .leaf) leaf-small (λ i k. s .same-leaf i k) (λ i v. twin i (inside-of (leaf i) v)) i (subst (λ (k : ℕ). In k i) (q .leaf) y)
     has-glued (label i l) y =
@@ -151,6 +169,7 @@ module _ (n : ℕ) (T : List Fact) (f : Facts) (x u w : ℕ) (p : Pending n T x 
     glued-has (child i j) y = two-in n P u w s c _ _ _ _ shares-child i j y
     glued-has (below i j) y = raised-in (f .below) u w (g .below) (rises up-small (q .below)) i j y
     glued-has (differ i j) y = two-in n P u w s c _ _ _ _ shares-differ i j y
+    glued-has (before i j) y = two-in n P u w s c _ _ _ _ shares-before i j y
     glued-has (root i) y = subst (λ (k : ℕ). In k i) (sym (q .root)) (one-in n P u w s c (f .root) root-small (λ i k. s .same-root i k) (λ i v. twin i (inside-of (root i) v)) i y)
     glued-has (leaf i) y = subst (λ (k : ℕ). In k i) (sym (q .leaf)) (one-in n P u w s c (f .leaf) leaf-small (λ i k. s .same-leaf i k) (λ i v. twin i (inside-of (leaf i) v)) i y)
     glued-has (label i l) y =
@@ -160,39 +179,73 @@ module _ (n : ℕ) (T : List Fact) (f : Facts) (x u w : ℕ) (p : Pending n T x 
     unfolding has
     over i o = two-over n P u w s c _ _ _ _ shares-child i (o .it) (both-in u w (o .it) (o .mid .0) (o .mid .1)) (glued-has (child i (o .it)) (o .holds))
 
-    -- two parents of the group
-    awaited : (i j : Var) → In parents i → In parents j → Settled n T (below i j)
+    first : (i : Var) → Earlier P (In u) (In w) i → In earlier i
     unfolding has
-    awaited i j y z =
-        let k = shares-child .from i y in
-        let l = shares-child .from j z in
-        one-parent (settled (child i (k .0)) (k .2))
-        (same-child (one-group (l .0) (k .0) (l .1) (k .1)) (one-group (k .0) (l .0) (k .1) (l .1)) (settled (child j (l .0)) (l .2)))
+    first i o = two-over n P u w s c _ _ _ _ shares-before i (o .it) (both-in u w (o .it) (o .mid .0) (o .mid .1)) (glued-has (before i (o .it)) (o .holds))
+
+    last : (i : Var) → Later P (In u) (In w) i → In later i
+    unfolding has
+    last i o = two-under n P u w s c _ _ _ _ shares-before (o .it) i (both-in u w (o .it) (o .mid .0) (o .mid .1)) (glued-has (before (o .it) i) (o .holds))
 
     x-ends : (i : Var) → In x i → In u i × In w i
     x-ends = ends n T (p .standing .inside) P (In x) (In u) (In w) s settled (p .due) r
+
+    glue-settled : (i j : Var) → Wide P (In u) (In w) i j → Settled n T (below i j)
+    glue-settled i j b = ⊎-elim (settled (below i j)) (λ h. over-down i j (h .0) (h .1)) b
 
     made-standing : Standing n T g
     made-standing = record {
       few = p .standing .few;
       inside = p .standing .inside;
-      sound = λ φ y. shared-least n P (Settled n T) _ (settled-rules n T .sharing) settled (λ i j b. ⊎-elim (settled (below i j)) (λ h. over-down i j (h .0) (h .1)) b) φ (has-glued φ y);
+      sound = λ φ y. shared-least n P (Settled n T) _ _ (settled-rules n T .sharing) settled glue-settled
+          (λ i j a. same-before (glue-settled _ _ (a .left-twin .to)) (glue-settled _ _ (a .left-twin .fro))
+          (same-after (glue-settled _ _ (a .right-twin .to)) (glue-settled _ _ (a .right-twin .fro)) (settled _ (a .holds)))) φ (has-glued φ y);
       sharing = sharing-same n (Glued P (In u) (In w)) (Held g) glued-has has-glued (glued-sharing n P (In u) (In w) s c);
-      free = free-less has-glued (glued-free n P (In u) (In w) s c (p .standing .free) (λ i j a b. apart-in i j (both-in u w i (a .0) (a .1)) (both-in u w j (b .0) (b .1))));
+      apart = λ i y. glued-apart n P (In u) (In w) s c (p .standing .apart)
+          (λ i j a b. apart-in i j (both-in u w i (a .0) (a .1)) (both-in u w j (b .0) (b .1))) i (has-glued (differ i i) y);
       mirrored = record {
-        parents = columns-spread (f .child) (f .parent) m (q .children) parents (g .child) (g .parent) (p .standing .mirrored .parents) (shares-child .spreads) (spread small (q .is-children .small) (q .parent));
+        parents = columns-spread (f .child) (f .parent) m (q .children) parents (g .child) (g .parent) (p .standing .mirrored .parents) (q .child) (q .parent);
         ancestors = columns-raised (f .below) (f .above) u w (g .below) (g .above) (p .standing .mirrored .ancestors) (rises up-small (q .below)) (rises down-small (q .above));
+        siblings = columns-spread (f .before) (f .after) m later earlier (g .before) (g .after) (p .standing .mirrored .siblings) (q .before) (q .after);
       };
     }
 
-    pub made-pending : Pending n T parents g
-    made-pending = record {
+    made-siblings : Through (Held g) (In parents) (In earlier) (In later)
+    made-siblings = record {
+      before-chain = λ i j k y z. ⊎-elim (λ h. inl (glued-has (before i k) h)) (λ h. inr (first i (h .0), last k (h .1)))
+          (b .before-chain i j k (has-glued (before i j) y) (has-glued (before j k) z));
+      before-differ = λ i j y. glued-has (differ i j) (b .before-differ i j (has-glued (before i j) y));
+      before-child = λ i j k y z. ⊎-elim (λ h. inl (glued-has (child k j) h)) (λ h. inr (over k (h .0), last j (h .1)))
+          (b .before-child i j k (has-glued (before i j) y) (has-glued (child k i) z));
+      after-child = λ i j k y z. ⊎-elim (λ h. inl (glued-has (child k i) h)) (λ h. inr (over k (h .0), first i (h .1)))
+          (b .after-child i j k (has-glued (before i j) y) (has-glued (child k j) z));
+      same-before = λ i j k y z v. glued-has (before k j) (b .same-before i j k (has-glued (below i k) y) (has-glued (below k i) z) (has-glued (before i j) v));
+      same-after = λ i j k y z v. glued-has (before i k) (b .same-after i j k (has-glued (below j k) y) (has-glued (below k j) z) (has-glued (before i j) v));
+    }
+      where
+        b : Through (Glued P (In u) (In w)) (Over P (In u) (In w)) (Earlier P (In u) (In w)) (Later P (In u) (In w))
+        b = glued-siblings n P (In u) (In w) s c (p .siblings)
+
+    pub made-grouped : Grouped n T m parents earlier later g
+    unfolding has
+    made-grouped = record {
       standing = made-standing;
-      due = awaited;
-      complete = λ φ h. held (glued-has φ (arrived n P (In u) (In w) s c inside-of (In x) x-ends φ (p .complete φ h)));
+      complete = λ φ h. glued-has φ (arrived n P (In u) (In w) s c inside-of (In x) x-ends φ (p .complete φ h));
+      siblings = made-siblings;
       one-parent = λ i j k y z. ⊎-elim (λ h. held (glued-has (below i j) h)) (λ h. waits (over i (h .0)) (over j (h .1)))
           (glued-parent n P (In u) (In w) s c inside-of (In x) x-ends (p .one-parent) i j k (has-glued (child i k) y) (has-glued (child j k) z));
+      one-group = λ i j y z. glued-has (below i j) (inr (in-both u w i y .0, in-both u w j z .1));
+      same-group = λ i j y z a. let h = in-both u w i a in both-in u w j (up-same i j z (h .0)) (down-same i j y (h .1));
+      is-parents = record { from = λ i y. let k = shares-child .from i y in (k .0, k .1, q .child .keeps i (k .0) (k .2)); to = λ i k a y. two-over n P u w s c _ _ _ _ shares-child i k a y };
+      is-earlier = record { from = λ i y. let k = shares-before .from i y in (k .0, k .1, q .before .keeps i (k .0) (k .2)); to = λ i k a y. two-over n P u w s c _ _ _ _ shares-before i k a y };
+      is-later = record { from = λ i y. let k = q .is-later .from i y in (k .0, k .1, q .before .keeps (k .0) i (k .2)); to = λ i k a y. two-under n P u w s c _ _ _ _ shares-before k i a y };
     }
+      where
+        up-same : (i j : Var) → Held g (below j i) → In u i → In u j
+        up-same i j y z = ⊎-elim (λ h. c .ends .up j i h z) (λ h. h .0) (has-glued (below j i) y)
+
+        down-same : (i j : Var) → Held g (below i j) → In w i → In w j
+        down-same i j y z = ⊎-elim (λ h. c .ends .down i j z h) (λ h. h .1) (has-glued (below i j) y)
 
 -- a gap among the rows that were raised over each other is filled
 fewer : (t : List ℕ) (x u w : ℕ) (r : List ℕ) → x < 65536 → u < 65536 → ((i : ℕ) → In x i → In u i × In w i) → Raised t u w r → Gap t x → lacking r < lacking t
@@ -225,7 +278,7 @@ module _ (f : Facts) (x w near far far-of : ℕ) (small : x < 65536) (uw : Union
   reached n T p = reach n T x small f p w near far uw un (subst (λ (k : ℕ). Union (f .above) k far) is-far-of uf)
 
   clashing : (r : Round) → r .clash ≡ true → ((n : ℕ) (T : List Fact) → Pending n T x f → Clash n T) → UnifiedOf f x r
-  clashing r t h = record { clashes = λ _. h; goes-on = λ e. absurd (false≢true (sym e ∙ t)); falls = λ e. absurd (false≢true (sym e ∙ t)) }
+  clashing r t h = record { clashes = λ _. h; groups = λ e. absurd (false≢true (sym e ∙ t)); falls = λ e. absurd (false≢true (sym e ∙ t)) }
 
   pub unify-differs : (d : ℕ) → Union (f .differ) M d → Yes (meets d M) → (r : Round) → r .clash ≡ true → UnifiedOf f x r
   unify-differs d ud h r t = clashing r t (λ n T p. clash-differs n T f x U D p (reached n T p) d ud h)
@@ -233,9 +286,10 @@ module _ (f : Facts) (x w near far far-of : ℕ) (small : x < 65536) (uw : Union
   pub unify-labels : (l : ℕ) → LabelOf (f .label) M l → ((i : Var) × In M i × (row (f .label) i ≢ 0) × (row (f .label) i ≢ l)) → (r : Round) → r .clash ≡ true → UnifiedOf f x r
   unify-labels l lo y r t = clashing r t (λ n T p. clash-labels n T f x U D p (reached n T p) l lo (y .0) (y .1) (y .2) (y .3))
 
-  pub unify-well : f .root < 65536 → f .leaf < 65536 → (parents : ℕ) (g : Facts) → Made f U D M parents g → UnifiedOf f x (record { clash = false; next = parents; facts = g })
-  unify-well root-small leaf-small parents g q = record {
+  pub unify-well : f .root < 65536 → f .leaf < 65536 → (parents earlier later : ℕ) (g : Facts) → Made f U D M parents earlier later g
+      → UnifiedOf f x (record { clash = false; next = parents; group = M; earlier = earlier; later = later; facts = g })
+  unify-well root-small leaf-small parents earlier later g q = record {
     clashes = λ e. absurd (false≢true e);
-    goes-on = λ _ n T p. made-pending n T f x U D p (reached n T p) up-small (or-lt 16 x w small (uw .small)) root-small leaf-small parents g q;
+    groups = λ _ n T p. made-grouped n T f x U D p (reached n T p) up-small (or-lt 16 x w small (uw .small)) root-small leaf-small parents earlier later g q;
     falls = λ _. fewer (f .below) x U D (g .below) small up-small (λ i y. (or-l (bitOr x near) far i (or-l x near i y), or-l x w i y)) (q .below);
   }

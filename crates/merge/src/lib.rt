@@ -4,8 +4,8 @@ ghost use mathlib.Core.Bool.{true};
 ghost use Prim.Native.Nat.{_<_, _≤_, _^_};
 ghost use lib.Bits.{bitOr};
 ghost use Rattle.tables.specs.Rows.{Union};
-ghost use Rattle.merge.specs.Rows.{WithGap, LabelOf, TwoLabels, Painted};
-ghost use Rattle.merge.specs.Merging.{UnifiedOf, RoundOf, Joining, MergedOf};
+ghost use Rattle.merge.specs.Rows.{WithGap, LabelOf, TwoLabels, Painted, Spread, Family};
+ghost use Rattle.merge.specs.Merging.{UnifiedOf, Passes, RoundOf, Joining, MergedOf};
 use ids::Var;
 use tables::Facts;
 use tables::Settled;
@@ -104,10 +104,47 @@ fn paint(t: [u8; 16], rows: u16, l: u8) -> [u8; 16]
     a
 }
 
-// The tables after a step, and the variables that have yet to become the same.
+// The rows of the group with `along`, and the rows of `across` with the group.
+fn spread(t: [u16; 16], group: u16, along: u16, across: u16) -> [u16; 16]
+    ensures { λ r. ⌜ Spread t group along across r ⌝ }
+{
+    tables::raise(tables::raise(t, group, along), across, group)
+}
+
+// The same for siblings, of which most groups have none.
+fn spread_siblings(t: [u16; 16], group: u16, along: u16, across: u16) -> [u16; 16]
+    ensures { λ r. ⌜ Spread t group along across r ⌝ }
+{
+    if along | across == 0 {
+        return t;
+    }
+    spread(t, group, along, across)
+}
+
+// All that a chain of rows of the two tables leads to from the group.
+fn family(before: [u16; 16], after: [u16; 16], group: u16) -> u16
+    ensures { λ r. ⌜ Family before after group r ⌝ }
+{
+    let mut all = group;
+    loop {
+        let later = tables::union_rows(before, all);
+        let earlier = tables::union_rows(after, all);
+        let more = tables::except(later | earlier, all);
+        if more == 0 {
+            return all;
+        }
+        all = all | more;
+    }
+}
+
+// The tables after a step, and the variables that have yet to become the same: the parents of the group that was made. With it what is
+// earlier than the group and what is later.
 struct Round {
     clash: bool,
     next: u16,
+    group: u16,
+    earlier: u16,
+    later: u16,
     facts: Facts,
 }
 
@@ -117,12 +154,15 @@ fn refused(f: Facts) -> Round
     Round {
         clash: true,
         next: 0,
+        group: 0,
+        earlier: 0,
+        later: 0,
         facts: f,
     }
 }
 
 // The variables of x become the same. All that is at or above one of them and at or below one becomes one group, and shares every fact; a
-// leaf at or above x is the same as all below it, so that these join the group. Then the parents of the group have yet to become the same.
+// leaf at or above x is the same as all below it, so that these join the group.
 fn unify(f: Facts, x: u16, lower: u16, upper: u16) -> Round
     requires { ⌜ Union (f .below) x lower × Union (f .above) x upper ⌝ }
     ensures { λ r. ⌜ UnifiedOf f x r ⌝ }
@@ -132,6 +172,8 @@ fn unify(f: Facts, x: u16, lower: u16, upper: u16) -> Round
     let child = f.child;
     let parent = f.parent;
     let differ = f.differ;
+    let before = f.before;
+    let after = f.after;
     let label = f.label;
     let down = x | lower;
     let near = x | upper;
@@ -148,23 +190,32 @@ fn unify(f: Facts, x: u16, lower: u16, upper: u16) -> Round
     }
     let children = tables::union_rows(child, group);
     let parents = tables::union_rows(parent, group);
+    let later = tables::union_rows(before, group);
+    let earlier = tables::union_rows(after, group);
     let new_below = tables::raise(below, up, down);
     let new_above = tables::raise(above, down, up);
-    let new_child = tables::raise(tables::raise(child, group, children), parents, group);
-    let new_parent = tables::raise(tables::raise(parent, group, parents), children, group);
-    let new_differ = tables::raise(tables::raise(differ, group, others), others, group);
+    let new_child = spread(child, group, children, parents);
+    let new_parent = spread(parent, group, parents, children);
+    let new_differ = spread(differ, group, others, others);
+    let new_before = spread_siblings(before, group, later, earlier);
+    let new_after = spread_siblings(after, group, earlier, later);
     let new_label = paint(label, group, shown);
     let root = tables::gain(tables::meet(f.root, group), f.root, group);
     let leaf = tables::gain(tables::meet(f.leaf, group), f.leaf, group);
     Round {
         clash: false,
         next: parents,
+        group,
+        earlier,
+        later,
         facts: Facts {
             child: new_child,
             parent: new_parent,
             below: new_below,
             above: new_above,
             differ: new_differ,
+            before: new_before,
+            after: new_after,
             root,
             label: new_label,
             leaf,
@@ -172,7 +223,45 @@ fn unify(f: Facts, x: u16, lower: u16, upper: u16) -> Round
     }
 }
 
-// One round: the variables of x become the same, and the next one is for the parents of their group, if they are not the same.
+// Before chained through the group, and its parents given to its whole family: what is earlier than the group is before what is later, the
+// parents are parents of every member of the family, and so at or above all that is at or below one.
+fn order(f: Facts, group: u16, parents: u16, earlier: u16, later: u16) -> Facts
+    ensures { λ r. ⌜ Passes f group parents earlier later r ⌝ }
+{
+    let below = f.below;
+    let above = f.above;
+    let child = f.child;
+    let parent = f.parent;
+    let differ = f.differ;
+    let before = f.before;
+    let after = f.after;
+    let kin = family(before, after, group);
+    let over = tables::union_rows(above, parents);
+    let under = tables::union_rows(below, kin);
+    let new_before = tables::raise(before, earlier, later);
+    let new_after = tables::raise(after, later, earlier);
+    let new_child = tables::raise(child, parents, kin);
+    let new_parent = tables::raise(parent, kin, parents);
+    let new_below = tables::raise(below, over, under);
+    let new_above = tables::raise(above, under, over);
+    let new_differ = spread(spread(differ, earlier, later, later), parents, kin, kin);
+    let label = f.label;
+    Facts {
+        child: new_child,
+        parent: new_parent,
+        below: new_below,
+        above: new_above,
+        differ: new_differ,
+        before: new_before,
+        after: new_after,
+        root: f.root,
+        label,
+        leaf: f.leaf,
+    }
+}
+
+// One round: the variables of x become the same, what has siblings then passes on what it has, and the next round is for the parents of the
+// group, if they are not the same.
 fn next_round(f: Facts, x: u16, lower: u16, upper: u16) -> Round
     requires { ⌜ Union (f .below) x lower × Union (f .above) x upper ⌝ }
     ensures { λ r. ⌜ RoundOf f x r ⌝ }
@@ -181,7 +270,17 @@ fn next_round(f: Facts, x: u16, lower: u16, upper: u16) -> Round
     if r.clash {
         return r;
     }
+    if r.earlier | r.later != 0 {
+        let g = r.facts;
+        r.facts = order(g, r.group, r.next, r.earlier, r.later);
+    }
+    let before = r.facts.before;
     let below = r.facts.below;
+    let above = r.facts.above;
+    if tables::crossed(before, below, above) {
+        r.clash = true;
+        return r;
+    }
     r.next = with_gap(below, r.next);
     r
 }

@@ -85,10 +85,10 @@ module _ (n : ℕ) (P : Fact → Type 0) (B : Var → Var → Type 0) (o : Order
   move-one : {R : Var → Type 0} {x u : Var} → B x u → B u x → One B R x → One B R u
   move-one a b h = record { it = h .it; twin = via (h .twin) (record { to = a; fro = b }); holds = h .holds }
 
-  move-left : {R : Var → Var → Type 0} {x y u : Var} → B x u → B u x → Two B R x y → Two B R u y
+  pub move-left : {R : Var → Var → Type 0} {x y u : Var} → B x u → B u x → Two B R x y → Two B R u y
   move-left a b h = record { left = h .left; right = h .right; left-twin = via (h .left-twin) (record { to = a; fro = b }); right-twin = h .right-twin; holds = h .holds }
 
-  move-right : {R : Var → Var → Type 0} {x y u : Var} → B y u → B u y → Two B R x y → Two B R x u
+  pub move-right : {R : Var → Var → Type 0} {x y u : Var} → B y u → B u y → Two B R x y → Two B R x u
   move-right a b h = record { left = h .left; right = h .right; left-twin = h .left-twin; right-twin = via (h .right-twin) (record { to = a; fro = b }); holds = h .holds }
 
   pub shared-sharing : (R : Var → Var → Type 0) → Sharing n (Shared B R P)

@@ -1,14 +1,14 @@
+-- `enter::enter_below` meets its contract: by rows or by merging, as the test says.
 use Prim.Native.Nat.{ℕ, _<_}
 use lib.ListN.{getD}
 use mir.Val.{Fits}
 use mir.Syntax.{w16}
--- `enter::enter_below` meets its contract: by rows or by settling, as the test says.
 use mathlib.Core.Path.{sym, _∙_}
 use mathlib.Core.Bool.{false≢true}
 use borrow.Author.Needs.{needs}
 use Rattle.tables.specs.Tables.{has}
 use Rattle.tables.proofs.Bits.{meets-in}
-use Rattle.enter.proofs.Enter.{raised-ready, entered-well, follows, entered-same}
+use Rattle.enter.proofs.Enter.{raised-ready, raised-clash, entered-well, entered-clash, follows, entered-same}
 use Rattle.tables.proofs.Tested.{or-no}
 use Rattle.enter.proofs.enter_below.Statement.{statement}
 use Rattle.enter.proofs.enter_below.Tie as tie
@@ -62,15 +62,32 @@ raise-requires c κs = search needs
 raise-requires-2 : tie.Need-raise-requires-2
 raise-requires-2 c κs = search needs
 
+crossed-requires : tie.Need-crossed-requires
+crossed-requires c κs = search needs
+
 returns-2 : tie.Need-returns-2
 unfolding has
 returns-2 c =
-    let m = c .before .before .before in
+    let x = c .before in
+    let raised = x .before .before in
+    let m = raised .before .before .before in
     let s = m .before .before .before .before .before .before in
-    let o = or-no _ _ (c .before .before .if1 .left) in
-    entered-well _ _ _ _ _ (λ S q. raised-ready _ (s .pre .0 .2) S _ _ _ (s .pre .0 .0) (s .pre .0 .1) q (above-small s _) (below-small s _) _ _ (c .before .raise .ensures) (c .raise2 .ensures)
+    let o = or-no _ _ (raised .before .before .if1 .left) in
+    entered-clash _ _ _ _ (λ S q. raised-clash _ (s .pre .0 .2) S _ _ _ (s .pre .0 .0) (s .pre .0 .1) q (above-small s _) (below-small s _) _ _ (raised .before .raise .ensures) (raised .raise2 .ensures)
     (λ u. false≢true (sym (o .0) ∙ m .before .has .ensures ∙ u))
-    (λ k u v. false≢true (sym (o .1) ∙ m .meet .ensures ∙ meets-in _ _ k u v)))
+    (λ k u v. false≢true (sym (o .1) ∙ m .meet .ensures ∙ meets-in _ _ k u v)) _ (x .crossed .ensures) (c .if2 .taken))
+
+returns-3 : tie.Need-returns-3
+unfolding has
+returns-3 c =
+    let x = c .before in
+    let raised = x .before .before in
+    let m = raised .before .before .before in
+    let s = m .before .before .before .before .before .before in
+    let o = or-no _ _ (raised .before .before .if1 .left) in
+    entered-well _ _ _ _ _ (λ S q. raised-ready _ (s .pre .0 .2) S _ _ _ (s .pre .0 .0) (s .pre .0 .1) q (above-small s _) (below-small s _) _ _ (raised .before .raise .ensures) (raised .raise2 .ensures)
+    (λ u. false≢true (sym (o .0) ∙ m .before .has .ensures ∙ u))
+    (λ k u v. false≢true (sym (o .1) ∙ m .meet .ensures ∙ meets-in _ _ k u v)) _ (x .crossed .ensures) (c .if2 .left))
 
 pub enter-below-spec : {M : Type 1} → statement M
 enter-below-spec =
@@ -88,4 +105,6 @@ enter-below-spec =
     returns
     raise-requires
     raise-requires-2
-    returns-2)
+    crossed-requires
+    returns-2
+    returns-3)

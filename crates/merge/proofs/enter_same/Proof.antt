@@ -54,7 +54,7 @@ returns c =
     let l = u .before .before in
     let a = l .before .before .before in
     let s = a .before .before .before .before .before in
-    merged-clash _ _ _ _ (s .pre .0 .2) (s .pre .0 .0) (s .pre .0 .1) _ (a .two-with-gap .ensures) (λ T p. u .next-round .ensures .unified .clashes (c .if1 .taken) _ T (l .loop .inv .0 T p))
+    merged-clash _ _ _ _ (s .pre .0 .2) (s .pre .0 .0) (s .pre .0 .1) _ (a .two-with-gap .ensures) (λ T p. u .next-round .ensures .clashes (c .if1 .taken) _ T (l .loop .inv .0 T p))
 
 union-rows-requires : tie.Need-union-rows-requires Inv-loop μ-loop
 union-rows-requires c κs = search needs
@@ -66,13 +66,13 @@ loop-less : tie.Need-loop-less Inv-loop μ-loop
 loop-less c =
     let e = c .before .before .before .before .before in
     let u = e .before in
-    u .next-round .ensures .unified .falls (e .if1 .left) (u .before .before .loop .inv .1 (u .before .loop-test .taken) .0)
+    u .next-round .ensures .falls (e .if1 .left) (u .before .before .loop .inv .1 (u .before .loop-test .taken) .0)
 
 loop-again : tie.Need-loop-again Inv-loop μ-loop
 loop-again c =
     let e = c .before .before .before .before .before in
     let u = e .before in
-    ((λ T p. u .next-round .ensures .unified .goes-on (e .if1 .left) _ T (u .before .before .loop .inv .0 T p)), λ z. (u .next-round .ensures .gap (e .if1 .left) z, c .before .union-rows .ensures, c .union-rows2 .ensures))
+    ((λ T p. u .next-round .ensures .goes-on (e .if1 .left) _ T (u .before .before .loop .inv .0 T p)), λ z. (u .next-round .ensures .gap (e .if1 .left) z, c .before .union-rows .ensures, c .union-rows2 .ensures))
 
 returns-2 : tie.Need-returns-2 Inv-loop μ-loop
 returns-2 c =

@@ -1,0 +1,19 @@
+-- `merge::spread` meets its contract: a table raised twice (proofs/Loops.antt).
+use borrow.Author.Needs.{needs}
+use Rattle.merge.proofs.Loops.{was-spread}
+use Rattle.merge.proofs.spread.Statement.{statement}
+use Rattle.merge.proofs.spread.Tie as tie
+
+raise-requires : tie.Need-raise-requires
+raise-requires c κs = search needs
+
+raise-requires-2 : tie.Need-raise-requires-2
+raise-requires-2 c κs = search needs
+
+returns : tie.Need-returns
+returns c =
+    let s = c .before .before in
+    was-spread _ _ _ _ _ _ (s .fits .group .fits) (s .fits .across .fits) (c .before .raise .ensures) (c .raise2 .ensures)
+
+pub spread-spec : {M : Type 1} → statement M
+spread-spec = tie.close (tie.spec raise-requires raise-requires-2 returns)
