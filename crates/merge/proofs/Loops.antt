@@ -160,28 +160,37 @@ was-painted t rows l a rest w z = record {
 
 -- ---- a group spread over rows and columns
 
-pub was-spread : (t half r : List ℕ) (group along across : ℕ) → group < 65536 → across < 65536 → Raised t group along half → Raised half across group r
-    → Spread t group along across r
-was-spread t half r group along across small over h k = record {
-  out = λ i j u. ⊎-elim (λ v. ⊎-elim inl (λ w. inr (inl w)) (raised-out t group along half a i j v)) (λ v. inr (inr v)) (raised-out half across group r b i j u);
-  keeps = λ i j u. raised-keeps half across group r b i j (raised-keeps t group along half a i j u);
-  rows = λ i j u v. raised-keeps half across group r b i j (raised-has t group along half a i j u v);
-  columns = λ i j u v. raised-has half across group r b i j u v;
+pub record RaisedTwice (t : List ℕ) (group along across : ℕ) (r : List ℕ) : Type 0 where
+  pub half : List ℕ
+  pub first : Raised t group along half
+  pub last : Raised half across group r
+
+pub was-spread : {t : List ℕ} {group along across : ℕ} {r : List ℕ} → group < 65536 → across < 65536 → RaisedTwice t group along across r → Spread t group along across r
+was-spread {t} {group} {along} {across} {r} small over h = record {
+  out = λ i j u. ⊎-elim (λ v. ⊎-elim inl (λ w. inr (inl w)) (raised-out t group along (h .half) a i j v)) (λ v. inr (inr v)) (raised-out (h .half) across group r b i j u);
+  keeps = λ i j u. raised-keeps (h .half) across group r b i j (raised-keeps t group along (h .half) a i j u);
+  rows = λ i j u v. raised-keeps (h .half) across group r b i j (raised-has t group along (h .half) a i j u v);
+  columns = λ i j u v. raised-has (h .half) across group r b i j u v;
 }
   where
-    a : Rises t group along half
-    a = rises small h
+    a : Rises t group along (h .half)
+    a = rises small (h .first)
 
-    b : Rises half across group r
-    b = rises over k
+    b : Rises (h .half) across group r
+    b = rises over (h .last)
 
-pub none-spread : (t : List ℕ) (group along across : ℕ) → bitOr along across ≡ 0 → Spread t group along across t
-none-spread t group along across z = record {
-  out = λ i j u. inl u;
-  keeps = λ i j u. u;
-  rows = λ i j u v. none-in j (subst (λ (k : ℕ). Yes (bit k j)) z (or-l along across j v));
-  columns = λ i j u v. none-in i (subst (λ (k : ℕ). Yes (bit k i)) z (or-r along across i u));
-}
+module _ (t : List ℕ) (group along across : ℕ) (z : bitOr along across ≡ 0) where
+  no-along : {A : Type 0} (j : ℕ) → Yes (bit along j) → A
+  no-along j u = none-in j (subst (λ (k : ℕ). Yes (bit k j)) z (or-l along across j u))
+
+  no-across : {A : Type 0} (i : ℕ) → Yes (bit across i) → A
+  no-across i u = none-in i (subst (λ (k : ℕ). Yes (bit k i)) z (or-r along across i u))
+
+  pub none-spread : Spread t group along across t
+  none-spread = record { out = λ i j u. inl u; keeps = λ i j u. u; rows = λ i j u v. no-along j v; columns = λ i j u v. no-across i u }
+
+  pub none-turned : Spread t group across along t
+  none-turned = record { out = λ i j u. inl u; keeps = λ i j u. u; rows = λ i j u v. no-across j v; columns = λ i j u v. no-along i u }
 
 -- ---- a family
 

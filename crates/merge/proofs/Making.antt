@@ -26,19 +26,18 @@ use Rattle.tables.proofs.Labels.{label-has}
 use Rattle.tables.proofs.Rises.{rises, raised-out, raised-in, raised-keeps, raised-has, columns-raised}
 use Rattle.tables.proofs.Wider.{Wide}
 use Rattle.merge.specs.declared.Round.{Round}
-use Rattle.merge.specs.Rows.{In, Gap, LabelOf, Painted, Spread}
-use Rattle.merge.specs.Merging.{held, waits, Held, Standing, Pending, Through, Grouped, lacking, UnifiedOf}
+use Rattle.merge.specs.Rows.{In, Gap, LabelOf, Painted}
+use Rattle.merge.specs.Merging.{held, waits, Held, Standing, Pending, Through, Grouped, withSiblings, SharesBefore, lacking, UnifiedOf}
 use Rattle.merge.proofs.Glue.{Cut, Glued, Over, Earlier, Later, glued-sharing, glued-apart, glued-siblings, arrived, glued-parent}
 use Rattle.merge.proofs.Reach.{Reach, within, ends, cut, glue}
 use Rattle.merge.proofs.Masks.{reach, union-columns, columns-union}
+use Rattle.merge.proofs.Loops.{RaisedTwice, was-spread}
 use Rattle.merge.proofs.ByTable.{columns-spread, Shares, two-out, two-in, two-over, two-under, one-out, one-in, label-out, label-in}
 
--- g is f with u glued over w, where the group m has no clash: its parents, its children, what differs from it, what is earlier and later,
--- and its label are given to all of it, and it to all of them
-pub record Made (f : Facts) (u w m parents earlier later : ℕ) (g : Facts) : Type 0 where
+-- g is f with u glued over w, where the group m has no clash: its parents, its children, what differs from it, and its label are
+-- given to all of it, and it to all of them; before is as it was
+pub record Made (f : Facts) (u w m parents : ℕ) (g : Facts) : Type 0 where
   pub is-parents : Union (f .parent) m parents
-  pub is-earlier : Union (f .after) m earlier
-  pub is-later : Union (f .before) m later
   pub children : ℕ
   pub is-children : Union (f .child) m children
   pub others : ℕ
@@ -49,11 +48,11 @@ pub record Made (f : Facts) (u w m parents earlier later : ℕ) (g : Facts) : Ty
   pub only : (i : Var) → In m i → row (f .label) i ≢ 0 → row (f .label) i ≡ shown
   pub below : Raised (f .below) u w (g .below)
   pub above : Raised (f .above) w u (g .above)
-  pub child : Spread (f .child) m children parents (g .child)
-  pub parent : Spread (f .parent) m parents children (g .parent)
-  pub differ : Spread (f .differ) m others others (g .differ)
-  pub before : Spread (f .before) m later earlier (g .before)
-  pub after : Spread (f .after) m earlier later (g .after)
+  pub child : RaisedTwice (f .child) m children parents (g .child)
+  pub parent : RaisedTwice (f .parent) m parents children (g .parent)
+  pub differ : RaisedTwice (f .differ) m others others (g .differ)
+  pub before : g .before ≡ f .before
+  pub after : g .after ≡ f .after
   pub root : g .root ≡ gained (meets (f .root) m) (f .root) m
   pub leaf : g .leaf ≡ gained (meets (f .leaf) m) (f .leaf) m
   pub label : Painted (f .label) m shown (g .label)
@@ -105,7 +104,11 @@ module _ (n : ℕ) (T : List Fact) (f : Facts) (x u w : ℕ) (p : Pending n T x 
   twin i l = alone (inl (s .self-below i l))
 
   module _ (up-small : u < 65536) (down-small : w < 65536) (root-small : f .root < 65536) (leaf-small : f .leaf < 65536)
-      (parents earlier later : ℕ) (g : Facts) (q : Made f u w m parents earlier later g) where
+      (parents : ℕ) (g : Facts) (q : Made f u w m parents g) (earlier later : ℕ) (befores afters : List ℕ)
+      (z : SharesBefore (f .before) (f .after) m earlier later befores afters) where
+    abbrev h : Facts
+    h = withSiblings g befores afters
+
     small : m < 65536
     small = let h = and-le-r u w in omega arith
 
@@ -124,20 +127,20 @@ module _ (n : ℕ) (T : List Fact) (f : Facts) (x u w : ℕ) (p : Pending n T x 
       is-along = q .is-children;
       from = union-columns (f .child) (f .parent) m parents small (p .standing .mirrored .parents) (q .is-parents);
       to = λ i k y v. columns-union (f .child) (f .parent) m parents small (p .standing .mirrored .parents) (q .is-parents) i (le-trans (inside-of (child i k) v .0) (p .standing .few)) (k, y, v);
-      spreads = q .child;
+      spreads = was-spread small (q .is-parents .small) (q .child);
     }
 
-    shares-before : Shares n P u w s c (f .before) (g .before) later earlier
+    shares-before : Shares n P u w s c (f .before) befores later earlier
     unfolding has
     shares-before = record {
       to-left = λ i j k y z v. p .siblings .same-before i j k y z v;
       to-right = λ i j k y z v. p .siblings .same-after i j k y z v;
       selves = λ i j v. let h = inside-of (before i j) v in (twin i (h .0), twin j (h .1));
       apart = λ i j y z v. apart-in i j y z (p .siblings .before-differ i j v);
-      is-along = q .is-later;
-      from = union-columns (f .before) (f .after) m earlier small (p .standing .mirrored .siblings) (q .is-earlier);
-      to = λ i k y v. columns-union (f .before) (f .after) m earlier small (p .standing .mirrored .siblings) (q .is-earlier) i (le-trans (inside-of (before i k) v .0) (p .standing .few)) (k, y, v);
-      spreads = q .before;
+      is-along = z .is-later;
+      from = union-columns (f .before) (f .after) m earlier small (p .standing .mirrored .siblings) (z .is-earlier);
+      to = λ i k y v. columns-union (f .before) (f .after) m earlier small (p .standing .mirrored .siblings) (z .is-earlier) i (le-trans (inside-of (before i k) v .0) (p .standing .few)) (k, y, v);
+      spreads = z .shared-before;
     }
 
     shares-differ : Shares n P u w s c (f .differ) (g .differ) (q .others) (q .others)
@@ -150,10 +153,10 @@ module _ (n : ℕ) (T : List Fact) (f : Facts) (x u w : ℕ) (p : Pending n T x 
       is-along = q .is-others;
       from = λ i y. let k = q .is-others .from i y in (k .0, k .1, s .differ-back (k .0) i (k .2));
       to = λ i k y v. q .is-others .to k i y (s .differ-back i k v);
-      spreads = q .differ;
+      spreads = was-spread small (q .is-others .small) (q .differ);
     }
 
-    has-glued : (φ : Fact) → Held g φ → Glued P (In u) (In w) φ
+    has-glued : (φ : Fact) → Held h φ → Glued P (In u) (In w) φ
     unfolding has
     has-glued (child i j) y = two-out n P u w s c _ _ _ _ shares-child i j y
     has-glued (below i j) y = raised-out (f .below) u w (g .below) (rises up-small (q .below)) i j y
@@ -164,7 +167,7 @@ module _ (n : ℕ) (T : List Fact) (f : Facts) (x u w : ℕ) (p : Pending n T x 
     has-glued (label i l) y =
         label-out n P u w s c (f .label) l (λ i k. s .same-label i k l) (λ i v. twin i (inside-of (label i l) v)) (q .shown) (q .is-shown) (q .only) (g .label) (q .label) i y
 
-    glued-has : (φ : Fact) → Glued P (In u) (In w) φ → Held g φ
+    glued-has : (φ : Fact) → Glued P (In u) (In w) φ → Held h φ
     unfolding has
     glued-has (child i j) y = two-in n P u w s c _ _ _ _ shares-child i j y
     glued-has (below i j) y = raised-in (f .below) u w (g .below) (rises up-small (q .below)) i j y
@@ -193,24 +196,25 @@ module _ (n : ℕ) (T : List Fact) (f : Facts) (x u w : ℕ) (p : Pending n T x 
     glue-settled : (i j : Var) → Wide P (In u) (In w) i j → Settled n T (below i j)
     glue-settled i j b = ⊎-elim (settled (below i j)) (λ h. over-down i j (h .0) (h .1)) b
 
-    made-standing : Standing n T g
+    made-standing : Standing n T h
     made-standing = record {
       few = p .standing .few;
       inside = p .standing .inside;
       sound = λ φ y. shared-least n P (Settled n T) _ _ (settled-rules n T .sharing) settled glue-settled
           (λ i j a. same-before (glue-settled _ _ (a .left-twin .to)) (glue-settled _ _ (a .left-twin .fro))
           (same-after (glue-settled _ _ (a .right-twin .to)) (glue-settled _ _ (a .right-twin .fro)) (settled _ (a .holds)))) φ (has-glued φ y);
-      sharing = sharing-same n (Glued P (In u) (In w)) (Held g) glued-has has-glued (glued-sharing n P (In u) (In w) s c);
+      sharing = sharing-same n (Glued P (In u) (In w)) (Held h) glued-has has-glued (glued-sharing n P (In u) (In w) s c);
       apart = λ i y. glued-apart n P (In u) (In w) s c (p .standing .apart)
           (λ i j a b. apart-in i j (both-in u w i (a .0) (a .1)) (both-in u w j (b .0) (b .1))) i (has-glued (differ i i) y);
       mirrored = record {
-        parents = columns-spread (f .child) (f .parent) m (q .children) parents (g .child) (g .parent) (p .standing .mirrored .parents) (q .child) (q .parent);
+        parents = columns-spread (f .child) (f .parent) m (q .children) parents (g .child) (g .parent) (p .standing .mirrored .parents) (shares-child .spreads)
+            (was-spread small (q .is-children .small) (q .parent));
         ancestors = columns-raised (f .below) (f .above) u w (g .below) (g .above) (p .standing .mirrored .ancestors) (rises up-small (q .below)) (rises down-small (q .above));
-        siblings = columns-spread (f .before) (f .after) m later earlier (g .before) (g .after) (p .standing .mirrored .siblings) (q .before) (q .after);
+        siblings = columns-spread (f .before) (f .after) m later earlier befores afters (p .standing .mirrored .siblings) (z .shared-before) (z .shared-after);
       };
     }
 
-    made-siblings : Through (Held g) (In parents) (In earlier) (In later)
+    made-siblings : Through (Held h) (In parents) (In earlier) (In later)
     made-siblings = record {
       before-chain = λ i j k y z. ⊎-elim (λ h. inl (glued-has (before i k) h)) (λ h. inr (first i (h .0), last k (h .1)))
           (b .before-chain i j k (has-glued (before i j) y) (has-glued (before j k) z));
@@ -226,7 +230,7 @@ module _ (n : ℕ) (T : List Fact) (f : Facts) (x u w : ℕ) (p : Pending n T x 
         b : Through (Glued P (In u) (In w)) (Over P (In u) (In w)) (Earlier P (In u) (In w)) (Later P (In u) (In w))
         b = glued-siblings n P (In u) (In w) s c (p .siblings)
 
-    pub made-grouped : Grouped n T m parents earlier later g
+    pub made-grouped : Grouped n T m parents earlier later h
     unfolding has
     made-grouped = record {
       standing = made-standing;
@@ -236,15 +240,15 @@ module _ (n : ℕ) (T : List Fact) (f : Facts) (x u w : ℕ) (p : Pending n T x 
           (glued-parent n P (In u) (In w) s c inside-of (In x) x-ends (p .one-parent) i j k (has-glued (child i k) y) (has-glued (child j k) z));
       one-group = λ i j y z. glued-has (below i j) (inr (in-both u w i y .0, in-both u w j z .1));
       same-group = λ i j y z a. let h = in-both u w i a in both-in u w j (up-same i j z (h .0)) (down-same i j y (h .1));
-      is-parents = record { from = λ i y. let k = shares-child .from i y in (k .0, k .1, q .child .keeps i (k .0) (k .2)); to = λ i k a y. two-over n P u w s c _ _ _ _ shares-child i k a y };
-      is-earlier = record { from = λ i y. let k = shares-before .from i y in (k .0, k .1, q .before .keeps i (k .0) (k .2)); to = λ i k a y. two-over n P u w s c _ _ _ _ shares-before i k a y };
-      is-later = record { from = λ i y. let k = q .is-later .from i y in (k .0, k .1, q .before .keeps (k .0) i (k .2)); to = λ i k a y. two-under n P u w s c _ _ _ _ shares-before k i a y };
+      is-parents = record { from = λ i y. let k = shares-child .from i y in (k .0, k .1, shares-child .spreads .keeps i (k .0) (k .2)); to = λ i k a y. two-over n P u w s c _ _ _ _ shares-child i k a y };
+      is-earlier = record { from = λ i y. let k = shares-before .from i y in (k .0, k .1, z .shared-before .keeps i (k .0) (k .2)); to = λ i k a y. two-over n P u w s c _ _ _ _ shares-before i k a y };
+      is-later = record { from = λ i y. let k = z .is-later .from i y in (k .0, k .1, z .shared-before .keeps (k .0) i (k .2)); to = λ i k a y. two-under n P u w s c _ _ _ _ shares-before k i a y };
     }
       where
-        up-same : (i j : Var) → Held g (below j i) → In u i → In u j
+        up-same : (i j : Var) → Held h (below j i) → In u i → In u j
         up-same i j y z = ⊎-elim (λ h. c .ends .up j i h z) (λ h. h .0) (has-glued (below j i) y)
 
-        down-same : (i j : Var) → Held g (below i j) → In w i → In w j
+        down-same : (i j : Var) → Held h (below i j) → In w i → In w j
         down-same i j y z = ⊎-elim (λ h. c .ends .down i j z h) (λ h. h .1) (has-glued (below i j) y)
 
 -- a gap among the rows that were raised over each other is filled
@@ -278,7 +282,12 @@ module _ (f : Facts) (x w near far far-of : ℕ) (small : x < 65536) (uw : Union
   reached n T p = reach n T x small f p w near far uw un (subst (λ (k : ℕ). Union (f .above) k far) is-far-of uf)
 
   clashing : (r : Round) → r .clash ≡ true → ((n : ℕ) (T : List Fact) → Pending n T x f → Clash n T) → UnifiedOf f x r
-  clashing r t h = record { clashes = λ _. h; groups = λ e. absurd (false≢true (sym e ∙ t)); falls = λ e. absurd (false≢true (sym e ∙ t)) }
+  clashing r t h = record {
+    clashes = λ _. h;
+    groups = λ e. absurd (false≢true (sym e ∙ t));
+    keeps = λ e. absurd (false≢true (sym e ∙ t));
+    falls = λ e. absurd (false≢true (sym e ∙ t));
+  }
 
   pub unify-differs : (d : ℕ) → Union (f .differ) M d → Yes (meets d M) → (r : Round) → r .clash ≡ true → UnifiedOf f x r
   unify-differs d ud h r t = clashing r t (λ n T p. clash-differs n T f x U D p (reached n T p) d ud h)
@@ -286,10 +295,12 @@ module _ (f : Facts) (x w near far far-of : ℕ) (small : x < 65536) (uw : Union
   pub unify-labels : (l : ℕ) → LabelOf (f .label) M l → ((i : Var) × In M i × (row (f .label) i ≢ 0) × (row (f .label) i ≢ l)) → (r : Round) → r .clash ≡ true → UnifiedOf f x r
   unify-labels l lo y r t = clashing r t (λ n T p. clash-labels n T f x U D p (reached n T p) l lo (y .0) (y .1) (y .2) (y .3))
 
-  pub unify-well : f .root < 65536 → f .leaf < 65536 → (parents earlier later : ℕ) (g : Facts) → Made f U D M parents earlier later g
-      → UnifiedOf f x (record { clash = false; next = parents; group = M; earlier = earlier; later = later; facts = g })
-  unify-well root-small leaf-small parents earlier later g q = record {
+  pub unify-well : f .root < 65536 → f .leaf < 65536 → (parents : ℕ) (g : Facts) → Made f U D M parents g
+      → UnifiedOf f x (record { clash = false; next = parents; group = M; facts = g })
+  unify-well root-small leaf-small parents g q = record {
     clashes = λ e. absurd (false≢true e);
-    groups = λ _ n T p. made-grouped n T f x U D p (reached n T p) up-small (or-lt 16 x w small (uw .small)) root-small leaf-small parents earlier later g q;
+    groups = λ _ n T p earlier later b a z. made-grouped n T f x U D p (reached n T p) up-small (or-lt 16 x w small (uw .small)) root-small leaf-small parents g q earlier later b a
+        (subst (λ (t : List ℕ). SharesBefore t (f .after) M earlier later b a) (q .before) (subst (λ (t : List ℕ). SharesBefore (g .before) t M earlier later b a) (q .after) z));
+    keeps = λ _. (q .before, q .after);
     falls = λ _. fewer (f .below) x U D (g .below) small up-small (λ i y. (or-l (bitOr x near) far i (or-l x near i y), or-l x w i y)) (q .below);
   }

@@ -1,28 +1,29 @@
 -- A round meets its contract: a clash that its tests find is one of the given facts; elsewhere the parents of the group that it made have yet to
 -- become the same, or, where they are the same, nothing has.
-use mathlib.Core.Path.{_≡_, sym, ap, _∙_, subst}
-use mathlib.Core.Logic.{_⊎_, inl, inr}
+use mathlib.Core.Path.{_≡_, refl, sym, _∙_, subst}
+use mathlib.Core.Logic.{⊎-elim}
 use mathlib.Core.Bool.{Bool, true, false, false≢true}
 use mathlib.Core.List.{List}
 use Prim.Native.Nat.{ℕ, _<_, _≤_}
+use native.Mathlib.Nat.{le-trans}
 use native.Mathlib.Decide.{ℕ-discrete}
 use native.Mathlib.Omega.{arith}
-use lib.Bits.{bitOr}
-use Rattle.meaning.specs.Constraint.{Fact, below}
-use Rattle.meaning.specs.Settled.{Clash}
+use Rattle.meaning.specs.Constraint.{Fact, below, before}
+use Rattle.meaning.specs.Settled.{Settled, Clash}
 use Rattle.meaning.specs.Closed.{Within}
 use Rattle.meaning.proofs.Finite.{sum-le, one-le}
 use Rattle.meaning.proofs.Least.{settled-within}
 use Rattle.meaning.proofs.Tests.{clash, no-neg}
-use Rattle.tables.specs.Tables.{row, has}
-use Rattle.tables.specs.Rows.{Crossed}
+use Rattle.tables.specs.Tables.{row, has, Columns}
+use Rattle.tables.specs.Rows.{Union, Crossed, Blank}
 use Rattle.tables.specs.declared.Facts.{Facts}
-use Rattle.tables.proofs.Bits.{none-in}
+use Rattle.tables.proofs.Bits.{none-in, in-row}
 use Rattle.tables.proofs.Clashes.{crossed-clash, uncrossed-clear}
 use Rattle.tables.proofs.Rises.{rises, raised-keeps}
 use Rattle.merge.specs.declared.Round.{Round}
 use Rattle.merge.specs.Rows.{In, Gap, WithGap}
-use Rattle.merge.specs.Merging.{Awaits, held, waits, Held, Pending, Grouped, Passes, lacking, UnifiedOf, RoundOf}
+use Rattle.merge.specs.Merging.{Awaits, held, waits, Held, Pending, Grouped, withSiblings, PassedOf, lacking, UnifiedOf, RoundOf}
+use Rattle.merge.proofs.Loops.{none-spread}
 use Rattle.merge.proofs.Passing.{Follows, alone-follows, passed-follows}
 
 -- ---- what is still apart has to become the same, and nothing else
@@ -52,48 +53,67 @@ narrow n T f x r a p = go (ℕ-discrete r 0)
 
 -- ---- after a group was made
 
--- r is m, or m with the tables in which siblings have passed on what they have
-abbrev pub Ordered : Round → Round → Type 0
-Ordered m r = ((bitOr (m .earlier) (m .later) ≡ 0) × (r ≡ m)) ⊎ ((g : Facts) × Passes (m .facts) (m .group) (m .next) (m .earlier) (m .later) g
-    × (r ≡ record { clash = m .clash; next = m .next; group = m .group; earlier = m .earlier; later = m .later; facts = g }))
+module _ (n : ℕ) (T : List Fact) (f : Facts) (x : ℕ) (m : Round) (p : Pending n T x f) (k : UnifiedOf f x m) (made : m .clash ≡ false) where
+  few : n ≤ 16
+  few = p .standing .few
 
-module _ (m r : Round) where
-  kept-clash : Ordered m r → r .clash ≡ m .clash
-  kept-clash (inl h) = ap (λ (k : Round). k .clash) (h .1)
-  kept-clash (inr h) = ap (λ (k : Round). k .clash) (h .2)
+  inner : (g : Facts) → ((φ : Fact) → Held g φ → Settled n T φ) → (φ : Fact) → Held g φ → Within n φ
+  inner g sound φ u = settled-within n T (p .standing .inside) (sound φ u)
 
-  kept-next : Ordered m r → r .next ≡ m .next
-  kept-next (inl h) = ap (λ (k : Round). k .next) (h .1)
-  kept-next (inr h) = ap (λ (k : Round). k .next) (h .2)
+  -- nothing is before anything
+  module _ (small : m .group < 65536) (smalls : (i : ℕ) → row (f .after) i < 65536) (t : Bool) (blank : Blank (m .facts .before) t) (e : t ≡ true) where
+    no-before : (i j : ℕ) → i < 16 → ¬ In (row (m .facts .before) i) j
+    no-before = blank .none e
 
-  kept-below : Ordered m r → (i j : ℕ) → In (row (m .facts .below) i) j → In (row (r .facts .below) i) j
-  kept-below (inl h) i j u = subst (λ (k : Round). In (row (k .facts .below) i) j) (sym (h .1)) u
-  kept-below (inr h) i j u =
-      let q = h .1 in
-      subst (λ (k : Round). In (row (k .facts .below) i) j) (sym (h .2)) (raised-keeps (m .facts .below) (q .over) (q .under) (h .0 .below) (rises (q .is-over .small) (q .below)) i j u)
+    no-after : (i j : ℕ) → i < 16 → ¬ In (row (f .after) i) j
+    no-after i j l u =
+        let h = in-row (row (f .after) i) j (smalls i) u in
+        no-before j i h (subst (λ (b : List ℕ). In (row b j) i) (sym (k .keeps made .0)) (sym (p .standing .mirrored .siblings j i h l) ∙ u))
 
-  module _ (n : ℕ) (T : List Fact) (o : Grouped n T (m .group) (m .next) (m .earlier) (m .later) (m .facts)) where
-    follows : Ordered m r → Follows n T (m .next) (r .facts)
-    follows (inl h) = subst (λ (k : Round). Follows n T (m .next) (k .facts)) (sym (h .1)) (alone-follows n T _ _ _ _ _ o (h .0))
-    follows (inr h) = subst (λ (k : Round). Follows n T (m .next) (k .facts)) (sym (h .2)) (passed-follows n T _ _ _ _ _ o (h .0) (h .1))
+    none-of : (t : List ℕ) → ((i j : ℕ) → i < 16 → ¬ In (row t i) j) → Union t (m .group) 0
+    none-of t h = record { small = omega arith; from = λ j u. none-in j u; to = λ i j u v. absurd (h i j (in-row (m .group) i small u) v) }
 
-    module _ (h : Ordered m r) (t : Bool) (tests : Crossed (r .facts .before) (r .facts .below) (r .facts .above) t) where
-      w : Follows n T (m .next) (r .facts)
-      w = follows h
+    bare : Follows n T (m .next) (m .facts)
+    bare = alone-follows n T _ _ 0 0 _
+        (k .groups made n T p 0 0 (m .facts .before) (m .facts .after)
+        (record {
+          is-earlier = subst (λ (a : List ℕ). Union a (m .group) 0) (sym (k .keeps made .1)) (none-of (f .after) no-after);
+          is-later = none-of (m .facts .before) no-before;
+          shared-before = none-spread (m .facts .before) (m .group) 0 0 refl;
+          shared-after = none-spread (m .facts .after) (m .group) 0 0 refl;
+        })) refl
 
-      inner : (φ : Fact) → Held (r .facts) φ → Within n φ
-      inner φ u = settled-within n T (o .standing .inside) (w .sound φ u)
+    pub blank-on : Pending n T (m .next) (m .facts)
+    unfolding has
+    blank-on = bare .pending (record {
+      not-above = λ i j u v. no-before i j (le-trans (inner (m .facts) (bare .sound) (before i j) u .0) few) u;
+      not-under = λ i j u v. no-before i j (le-trans (inner (m .facts) (bare .sound) (before i j) u .0) few) u;
+    })
 
-      pub ordered-clash : t ≡ true → Clash n T
-      ordered-clash = crossed-clash n (o .standing .few) (r .facts) (w .mirrored .ancestors) inner t tests T (w .sound)
+  -- the group shares before, and passes on what it has
+  module _ (g : Facts) (h : PassedOf (m .facts) (m .group) (m .next) g) (t : Bool) (tests : Crossed (g .before) (g .below) (g .above) t) where
+    grouped : Grouped n T (m .group) (m .next) (h .earlier) (h .later) (withSiblings (m .facts) (h .b) (h .a))
+    grouped = k .groups made n T p _ _ _ _ (h .shares)
 
-      pub ordered-on : t ≡ false → Pending n T (m .next) (r .facts)
-      ordered-on e = w .pending (uncrossed-clear n (o .standing .few) (r .facts) (w .mirrored .ancestors) inner t tests e)
+    follows : Follows n T (m .next) g
+    follows = ⊎-elim (λ y. subst (Follows n T (m .next)) (sym (y .1)) (alone-follows n T _ _ _ _ _ grouped (y .0))) (passed-follows n T _ _ _ _ _ grouped g) (h .passes)
+
+    pub passed-clash : t ≡ true → Clash n T
+    passed-clash = crossed-clash n few g (follows .mirrored .ancestors) (inner g (follows .sound)) t tests T (follows .sound)
+
+    pub passed-on : t ≡ false → Pending n T (m .next) g
+    passed-on e = follows .pending (uncrossed-clear n few g (follows .mirrored .ancestors) (inner g (follows .sound)) t tests e)
 
 -- below lacks no more
 lacks-no-more : (t r : List ℕ) → ((i j : ℕ) → In (row t i) j → In (row r i) j) → lacking r ≤ lacking t
 unfolding lacking
 lacks-no-more t r h = sum-le 16 _ _ (λ i _. sum-le 16 _ _ (λ j _. one-le _ _ (λ z. no-neg (λ y. clash (h i j y) z))))
+
+-- what is held of below is kept
+passed-keeps : (f : Facts) (group parents : ℕ) (g : Facts) → PassedOf f group parents g → (i j : ℕ) → In (row (f .below) i) j → In (row (g .below) i) j
+passed-keeps f group parents g h i j u =
+    ⊎-elim (λ y. subst (λ (k : Facts). In (row (k .below) i) j) (sym (y .1)) u)
+    (λ q. raised-keeps (f .below) (q .over) (q .under) (g .below) (rises (q .is-over .small) (q .below)) i j u) (h .passes)
 
 -- ---- the contract
 
@@ -109,15 +129,23 @@ module _ (f : Facts) (x : ℕ) (m : Round) (k : UnifiedOf f x m) where
   pub round-refused : m .clash ≡ true → RoundOf f x m
   round-refused t = refused m t (k .clashes t)
 
-  module _ (made : m .clash ≡ false) (r : Round) (h : Ordered m r) (t : Bool) (tests : Crossed (r .facts .before) (r .facts .below) (r .facts .above) t) where
-    pub round-crossed : t ≡ true → (s : Round) → s .clash ≡ true → RoundOf f x s
-    round-crossed c s y = refused s y (λ n T p. ordered-clash m r n T (k .groups made n T p) h t tests c)
-
-    pub round-parents : t ≡ false → (next : ℕ) → WithGap (r .facts .below) (r .next) next
-        → RoundOf f x (record { clash = r .clash; next = next; group = r .group; earlier = r .earlier; later = r .later; facts = r .facts })
-    round-parents c next a = record {
-      clashes = λ e. absurd (false≢true (sym made ∙ sym (kept-clash m r h) ∙ e));
-      goes-on = λ _ n T p. narrow n T (r .facts) (r .next) next a (subst (λ (k : ℕ). Pending n T k (r .facts)) (sym (kept-next m r h)) (ordered-on m r n T (k .groups made n T p) h t tests c));
-      falls = λ _ y. let a = k .falls made y in let b = lacks-no-more (m .facts .below) (r .facts .below) (kept-below m r h) in omega arith;
-      gap = λ _ z. let y = a .some z in subst (Gap (r .facts .below)) (sym (y .0)) (y .1);
+  module _ (made : m .clash ≡ false) where
+    goes-to : (g : Facts) → ((n : ℕ) (T : List Fact) → Pending n T x f → Pending n T (m .next) g) → ((i j : ℕ) → In (row (m .facts .below) i) j → In (row (g .below) i) j)
+        → (next : ℕ) → WithGap (g .below) (m .next) next → RoundOf f x (record { clash = m .clash; next = next; group = m .group; facts = g })
+    goes-to g on keeps next a = record {
+      clashes = λ e. absurd (false≢true (sym made ∙ e));
+      goes-on = λ _ n T p. narrow n T g (m .next) next a (on n T p);
+      falls = λ _ y. let a = k .falls made y in let b = lacks-no-more (m .facts .below) (g .below) keeps in omega arith;
+      gap = λ _ z. let y = a .some z in subst (Gap (g .below)) (sym (y .0)) (y .1);
     }
+
+    pub round-blank : m .group < 65536 → ((i : ℕ) → row (f .after) i < 65536) → (t : Bool) → Blank (m .facts .before) t → t ≡ true
+        → (next : ℕ) → WithGap (m .facts .below) (m .next) next → RoundOf f x (record { clash = m .clash; next = next; group = m .group; facts = m .facts })
+    round-blank small smalls t blank e = goes-to (m .facts) (λ n T p. blank-on n T f x m p k made small smalls t blank e) (λ i j u. u)
+
+    module _ (g : Facts) (h : PassedOf (m .facts) (m .group) (m .next) g) (t : Bool) (tests : Crossed (g .before) (g .below) (g .above) t) where
+      pub round-crossed : t ≡ true → (r : Round) → r .clash ≡ true → RoundOf f x r
+      round-crossed c r y = refused r y (λ n T p. passed-clash n T f x m p k made g h t tests c)
+
+      pub round-passed : t ≡ false → (next : ℕ) → WithGap (g .below) (m .next) next → RoundOf f x (record { clash = m .clash; next = next; group = m .group; facts = g })
+      round-passed c = goes-to g (λ n T p. passed-on n T f x m p k made g h t tests c) (passed-keeps (m .facts) (m .group) (m .next) g h)

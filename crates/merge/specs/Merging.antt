@@ -4,6 +4,7 @@ use mathlib.Core.Logic.{_≢_, _⊎_}
 use mathlib.Core.Bool.{true, false}
 use mathlib.Core.List.{List, _∷_, List·Memᴰ}
 use Prim.Native.Nat.{ℕ, _<_, _≤_}
+use lib.Bits.{bitOr}
 use Rattle.rowbits.specs.Bit.{bit}
 use Rattle.meaning.specs.Tree.{Var}
 use Rattle.meaning.specs.Constraint.{Fact, child, below, differ, before}
@@ -74,6 +75,17 @@ pub record Grouped (n : ℕ) (T : List Fact) (group parents earlier later : ℕ)
   pub is-earlier : Having (λ i k. Held f (before i k)) group earlier
   pub is-later : Having (λ i k. Held f (before k i)) group later
 
+-- tables with other rows of siblings
+abbrev pub withSiblings : Facts → List ℕ → List ℕ → Facts
+withSiblings f b a = record { child = f .child; parent = f .parent; below = f .below; above = f .above; differ = f .differ; before = b; after = a; root = f .root; label = f .label; leaf = f .leaf }
+
+-- b and a are before and after, shared by a group: it has what is earlier and what is later than one of it
+pub record SharesBefore (before after : List ℕ) (group earlier later : ℕ) (b a : List ℕ) : Type 0 where
+  pub is-earlier : Union after group earlier
+  pub is-later : Union before group later
+  pub shared-before : Spread before group later earlier b
+  pub shared-after : Spread after group earlier later a
+
 -- before chained through the group, and its parents given to its family, by rows
 pub record Passes (f : Facts) (group parents earlier later : ℕ) (r : Facts) : Type 0 where
   pub parents-small : parents < 65536
@@ -98,14 +110,25 @@ pub record Passes (f : Facts) (group parents earlier later : ℕ) (r : Facts) : 
   pub leaf : r .leaf ≡ f .leaf
   pub label : r .label ≡ f .label
 
+-- the group shares before, and passes on what it has, if it has siblings
+pub record PassedOf (f : Facts) (group parents : ℕ) (r : Facts) : Type 0 where
+  pub earlier : ℕ
+  pub later : ℕ
+  pub b : List ℕ
+  pub a : List ℕ
+  pub shares : SharesBefore (f .before) (f .after) group earlier later b a
+  pub passes : ((bitOr earlier later ≡ 0) × (r ≡ withSiblings f b a)) ⊎ Passes (withSiblings f b a) group parents earlier later r
+
 -- how many pairs a table lacks
 unfoldable pub lacking : List ℕ → ℕ
 lacking t = sum 16 (λ i. sum 16 (λ j. one (neg (bit (row t i) j))))
 
--- the variables of x became the same, and what is missing now is what passes through their group, of which r .next are the parents
+-- the variables of x became the same, and what is missing now, once their group shares before, is what passes through it; its parents are r .next
 pub record UnifiedOf (f : Facts) (x : ℕ) (r : Round) : Type 0 where
   pub clashes : r .clash ≡ true → (n : ℕ) (T : List Fact) → Pending n T x f → Clash n T
-  pub groups : r .clash ≡ false → (n : ℕ) (T : List Fact) → Pending n T x f → Grouped n T (r .group) (r .next) (r .earlier) (r .later) (r .facts)
+  pub groups : r .clash ≡ false → (n : ℕ) (T : List Fact) → Pending n T x f → (earlier later : ℕ) (b a : List ℕ)
+      → SharesBefore (r .facts .before) (r .facts .after) (r .group) earlier later b a → Grouped n T (r .group) (r .next) earlier later (withSiblings (r .facts) b a)
+  pub keeps : r .clash ≡ false → (r .facts .before ≡ f .before) × (r .facts .after ≡ f .after)
   -- with each group that is merged below lacks less
   pub falls : r .clash ≡ false → Gap (f .below) x → lacking (r .facts .below) < lacking (f .below)
 

@@ -5,7 +5,7 @@ ghost use Prim.Native.Nat.{_<_, _≤_, _^_};
 ghost use lib.Bits.{bitOr};
 ghost use Rattle.tables.specs.Rows.{Union};
 ghost use Rattle.merge.specs.Rows.{WithGap, LabelOf, TwoLabels, Painted, Spread, Family};
-ghost use Rattle.merge.specs.Merging.{UnifiedOf, Passes, RoundOf, Joining, MergedOf};
+ghost use Rattle.merge.specs.Merging.{UnifiedOf, Passes, PassedOf, RoundOf, Joining, MergedOf};
 use ids::Var;
 use tables::Facts;
 use tables::Settled;
@@ -104,47 +104,11 @@ fn paint(t: [u8; 16], rows: u16, l: u8) -> [u8; 16]
     a
 }
 
-// The rows of the group with `along`, and the rows of `across` with the group.
-fn spread(t: [u16; 16], group: u16, along: u16, across: u16) -> [u16; 16]
-    ensures { λ r. ⌜ Spread t group along across r ⌝ }
-{
-    tables::raise(tables::raise(t, group, along), across, group)
-}
-
-// The same for siblings, of which most groups have none.
-fn spread_siblings(t: [u16; 16], group: u16, along: u16, across: u16) -> [u16; 16]
-    ensures { λ r. ⌜ Spread t group along across r ⌝ }
-{
-    if along | across == 0 {
-        return t;
-    }
-    spread(t, group, along, across)
-}
-
-// All that a chain of rows of the two tables leads to from the group.
-fn family(before: [u16; 16], after: [u16; 16], group: u16) -> u16
-    ensures { λ r. ⌜ Family before after group r ⌝ }
-{
-    let mut all = group;
-    loop {
-        let later = tables::union_rows(before, all);
-        let earlier = tables::union_rows(after, all);
-        let more = tables::except(later | earlier, all);
-        if more == 0 {
-            return all;
-        }
-        all = all | more;
-    }
-}
-
-// The tables after a step, and the variables that have yet to become the same: the parents of the group that was made. With it what is
-// earlier than the group and what is later.
+// The tables after a step, the group that was made, and the variables that have yet to become the same: the parents of the group.
 struct Round {
     clash: bool,
     next: u16,
     group: u16,
-    earlier: u16,
-    later: u16,
     facts: Facts,
 }
 
@@ -155,14 +119,12 @@ fn refused(f: Facts) -> Round
         clash: true,
         next: 0,
         group: 0,
-        earlier: 0,
-        later: 0,
         facts: f,
     }
 }
 
-// The variables of x become the same. All that is at or above one of them and at or below one becomes one group, and shares every fact; a
-// leaf at or above x is the same as all below it, so that these join the group.
+// The variables of x become the same. All that is at or above one of them and at or below one becomes one group, and shares its facts; a
+// leaf at or above x is the same as all below it, so that these join the group. Before is left as it is.
 fn unify(f: Facts, x: u16, lower: u16, upper: u16) -> Round
     requires { ⌜ Union (f .below) x lower × Union (f .above) x upper ⌝ }
     ensures { λ r. ⌜ UnifiedOf f x r ⌝ }
@@ -190,15 +152,11 @@ fn unify(f: Facts, x: u16, lower: u16, upper: u16) -> Round
     }
     let children = tables::union_rows(child, group);
     let parents = tables::union_rows(parent, group);
-    let later = tables::union_rows(before, group);
-    let earlier = tables::union_rows(after, group);
     let new_below = tables::raise(below, up, down);
     let new_above = tables::raise(above, down, up);
-    let new_child = spread(child, group, children, parents);
-    let new_parent = spread(parent, group, parents, children);
-    let new_differ = spread(differ, group, others, others);
-    let new_before = spread_siblings(before, group, later, earlier);
-    let new_after = spread_siblings(after, group, earlier, later);
+    let new_child = tables::raise(tables::raise(child, group, children), parents, group);
+    let new_parent = tables::raise(tables::raise(parent, group, parents), children, group);
+    let new_differ = tables::raise(tables::raise(differ, group, others), others, group);
     let new_label = paint(label, group, shown);
     let root = tables::gain(tables::meet(f.root, group), f.root, group);
     let leaf = tables::gain(tables::meet(f.leaf, group), f.leaf, group);
@@ -206,20 +164,41 @@ fn unify(f: Facts, x: u16, lower: u16, upper: u16) -> Round
         clash: false,
         next: parents,
         group,
-        earlier,
-        later,
         facts: Facts {
             child: new_child,
             parent: new_parent,
             below: new_below,
             above: new_above,
             differ: new_differ,
-            before: new_before,
-            after: new_after,
+            before,
+            after,
             root,
             label: new_label,
             leaf,
         },
+    }
+}
+
+// The rows of the group with `along`, and the rows of `across` with the group.
+fn spread(t: [u16; 16], group: u16, along: u16, across: u16) -> [u16; 16]
+    ensures { λ r. ⌜ Spread t group along across r ⌝ }
+{
+    tables::raise(tables::raise(t, group, along), across, group)
+}
+
+// All that a chain of rows of the two tables leads to from the group.
+fn family(before: [u16; 16], after: [u16; 16], group: u16) -> u16
+    ensures { λ r. ⌜ Family before after group r ⌝ }
+{
+    let mut all = group;
+    loop {
+        let later = tables::union_rows(before, all);
+        let earlier = tables::union_rows(after, all);
+        let more = tables::except(later | earlier, all);
+        if more == 0 {
+            return all;
+        }
+        all = all | more;
     }
 }
 
@@ -260,8 +239,27 @@ fn order(f: Facts, group: u16, parents: u16, earlier: u16, later: u16) -> Facts
     }
 }
 
-// One round: the variables of x become the same, what has siblings then passes on what it has, and the next round is for the parents of the
-// group, if they are not the same.
+// The group shares before, and passes on what it has to its siblings, if there are any.
+fn pass_on(f: Facts, group: u16, parents: u16) -> Facts
+    ensures { λ r. ⌜ PassedOf f group parents r ⌝ }
+{
+    let before = f.before;
+    let after = f.after;
+    let later = tables::union_rows(before, group);
+    let earlier = tables::union_rows(after, group);
+    if earlier | later == 0 {
+        return f;
+    }
+    let new_before = spread(before, group, later, earlier);
+    let new_after = spread(after, group, earlier, later);
+    let mut g = f;
+    g.before = new_before;
+    g.after = new_after;
+    order(g, group, parents, earlier, later)
+}
+
+// One round: the variables of x become the same, and the next one is for the parents of their group, if they are not the same. In most sets
+// nothing is before anything, and a round is to cost no more for it: these leave first.
 fn next_round(f: Facts, x: u16, lower: u16, upper: u16) -> Round
     requires { ⌜ Union (f .below) x lower × Union (f .above) x upper ⌝ }
     ensures { λ r. ⌜ RoundOf f x r ⌝ }
@@ -270,18 +268,22 @@ fn next_round(f: Facts, x: u16, lower: u16, upper: u16) -> Round
     if r.clash {
         return r;
     }
-    if r.earlier | r.later != 0 {
-        let g = r.facts;
-        r.facts = order(g, r.group, r.next, r.earlier, r.later);
-    }
     let before = r.facts.before;
-    let below = r.facts.below;
-    let above = r.facts.above;
-    if tables::crossed(before, below, above) {
-        r.clash = true;
+    if tables::blank(before) {
+        let below = r.facts.below;
+        r.next = with_gap(below, r.next);
         return r;
     }
-    r.next = with_gap(below, r.next);
+    let unified = r.facts;
+    let g = pass_on(unified, r.group, r.next);
+    let new_before = g.before;
+    let new_below = g.below;
+    let new_above = g.above;
+    if tables::crossed(new_before, new_below, new_above) {
+        return refused(f);
+    }
+    r.next = with_gap(new_below, r.next);
+    r.facts = g;
     r
 }
 

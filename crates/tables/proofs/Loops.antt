@@ -1,7 +1,7 @@
 -- What the loops over one table know so far: a gathered row, and rows changed up to x.
 use mathlib.Core.Path.{_≡_, refl, sym, ap, _∙_, subst}
 use mathlib.Core.Logic.{_⊎_, inl, inr, ⊎-elim}
-use mathlib.Core.Bool.{Bool, not}
+use mathlib.Core.Bool.{Bool, true, false, false≢true, not}
 use mathlib.Core.List.{List}
 use Prim.Native.Nat.{ℕ, zero, suc, _+_, _<_, _≤_}
 use native.Mathlib.Nat.{le-refl, le-trans, not-suc-le-zero}
@@ -15,7 +15,7 @@ use Rattle.meaning.specs.Finite.{Yes}
 use Rattle.meaning.proofs.Tests.{clash, eq-yes, yes-eq}
 use Rattle.rowbits.specs.Bit.{bit}
 use Rattle.tables.specs.Tables.{row, Columns}
-use Rattle.tables.specs.Rows.{Gathers, Transposed, Raised, Combined, gainedOne, gained, meets, Crossed}
+use Rattle.tables.specs.Rows.{Gathers, Transposed, Raised, Combined, gainedOne, gained, meets, Crossed, Blank}
 use Rattle.tables.proofs.Bits.{gained-up, gained-has, gained-case, one-is, one-has, none-in, or-case, or-l, or-r, in-both, both-in, some-in}
 use Rattle.tables.proofs.Tested.{not-eq, eq-not, not-yes}
 
@@ -137,3 +137,8 @@ was-crossed t below above x any h w r e = record {
   where
     met : (k j : ℕ) → k < 16 → Yes (bit (row t k) j) → Yes (bit (row below k) j) ⊎ Yes (bit (row above k) j) → Yes (not (eqb any 0))
     met k j l u v = eq-not any 0 (λ z. none-in j (subst (λ (i : ℕ). Yes (bit i j)) z (w .to k j (le-trans l h) u v)))
+
+-- a table that has nothing in common with itself
+pub is-blank : (t : List ℕ) (c : Bool) → Crossed t t t c → Blank t (not c)
+is-blank t true w = record { none = λ e. absurd (false≢true e); some = λ _. let q = w .some refl in (q .0, q .1, q .2, q .3) }
+is-blank t false w = record { none = λ _ x y l u. w .none refl x y l u .0 u; some = λ e. absurd (false≢true (sym e)) }

@@ -77,3 +77,8 @@ pub record Union (t : List ℕ) (rows r : ℕ) : Type 0 where
 pub record Crossed (t below above : List ℕ) (r : Bool) : Type 0 where
   pub some : r ≡ true → (x y : ℕ) × (x < 16) × Yes (bit (row t x) y) × (Yes (bit (row below x) y) ⊎ Yes (bit (row above x) y))
   pub none : r ≡ false → (x y : ℕ) → x < 16 → Yes (bit (row t x) y) → (¬ Yes (bit (row below x) y)) × (¬ Yes (bit (row above x) y))
+
+-- whether no row has a number
+pub record Blank (t : List ℕ) (r : Bool) : Type 0 where
+  pub none : r ≡ true → (x y : ℕ) → x < 16 → ¬ Yes (bit (row t x) y)
+  pub some : r ≡ false → (x y : ℕ) × (x < 16) × Yes (bit (row t x) y)

@@ -1,14 +1,19 @@
--- `merge::next_round` meets its contract: a group is made, its siblings pass on what they have, before is tested against below, and of the
+-- `merge::next_round` meets its contract: a group is made, what has siblings passes on what it has, before is tested against below, and of the
 -- parents those that are not the same are left (proofs/Rounds.antt).
-use mathlib.Core.Path.{refl}
-use mathlib.Core.Logic.{inl, inr, ⊎-elim}
+use Prim.Native.Nat.{ℕ, _<_}
+use lib.ListN.{getD}
+use mir.Val.{Fits}
+use mir.Syntax.{w16}
 use borrow.Author.Needs.{needs}
-use Rattle.merge.proofs.Rounds.{Ordered, round-refused, round-crossed, round-parents}
+use Rattle.merge.proofs.Rounds.{round-refused, round-blank, round-crossed, round-passed}
 use Rattle.merge.proofs.next_round.Statement.{statement}
 use Rattle.merge.proofs.next_round.Tie as tie
 
-ordered : (c : tie.Joined2) → Ordered (c .before .before .before .unify .result) (c .if2 .r)
-ordered c = ⊎-elim (λ h. inr (_, h .2 .ensures, h .3)) (λ h. inl (h .0 .left, h .1)) (c .if2 .came)
+group-small : (c : tie.After-unify) → c .unify .result .group < 65536
+group-small c = let h : Fits w16 (c .unify .result .group) = search needs in h .fits
+
+after-small : (c : tie.Start) (i : ℕ) → getD (c .args .f .after) i 0 < 65536
+after-small c i = let h : Fits w16 (getD (c .args .f .after) i 0) = search needs in h .fits
 
 unify-requires : tie.Need-unify-requires
 unify-requires c κs = search needs
@@ -16,29 +21,47 @@ unify-requires c κs = search needs
 returns : tie.Need-returns
 returns c = round-refused _ _ _ (c .before .unify .ensures) (c .if1 .taken)
 
-order-requires : tie.Need-order-requires
-order-requires c κs = search needs
-
-crossed-requires : tie.Need-crossed-requires
-crossed-requires c κs = search needs
-
-returns-2 : tie.Need-returns-2
-returns-2 c =
-    let test = c .before in
-    let joined = test .before .before .before .before in
-    let made = joined .before .before in
-    round-crossed _ _ _ (made .before .unify .ensures) (made .if1 .left) _ (ordered joined) _ (test .crossed .ensures) (c .if3 .taken) _ refl
+blank-requires : tie.Need-blank-requires
+blank-requires c κs = search needs
 
 with-gap-requires : tie.Need-with-gap-requires
 with-gap-requires c κs = search needs
 
+returns-2 : tie.Need-returns-2
+returns-2 c =
+    let none = c .before .before in
+    let test = none .before in
+    let made = test .before .before in
+    let u = made .before in
+    round-blank _ _ _ (u .unify .ensures) (made .if1 .left) (group-small u) (after-small (u .before)) _ (test .blank .ensures) (none .if2 .taken) _ (c .with-gap .ensures)
+
+pass-on-requires : tie.Need-pass-on-requires
+pass-on-requires c κs = search needs
+
+crossed-requires : tie.Need-crossed-requires
+crossed-requires c κs = search needs
+
+refused-requires : tie.Need-refused-requires
+refused-requires c κs = search needs
+
 returns-3 : tie.Need-returns-3
 returns-3 c =
+    let crosses = c .before in
+    let test = crosses .before in
+    let passed = test .before .before .before .before in
+    let made = passed .before .before .before .before .before in
+    round-crossed _ _ _ (made .before .unify .ensures) (made .if1 .left) _ (passed .pass-on .ensures) _ (test .crossed .ensures) (crosses .if3 .taken) _ (c .refused .ensures)
+
+with-gap-requires-2 : tie.Need-with-gap-requires-2
+with-gap-requires-2 c κs = search needs
+
+returns-4 : tie.Need-returns-4
+returns-4 c =
     let clear = c .before in
     let test = clear .before in
-    let joined = test .before .before .before .before in
-    let made = joined .before .before in
-    round-parents _ _ _ (made .before .unify .ensures) (made .if1 .left) _ (ordered joined) _ (test .crossed .ensures) (clear .if3 .left) _ (c .with-gap .ensures)
+    let passed = test .before .before .before .before in
+    let made = passed .before .before .before .before .before in
+    round-passed _ _ _ (made .before .unify .ensures) (made .if1 .left) _ (passed .pass-on .ensures) _ (test .crossed .ensures) (clear .if3 .left) _ (c .with-gap2 .ensures)
 
 pub next-round-spec : {M : Type 1} → statement M
 next-round-spec =
@@ -46,8 +69,12 @@ next-round-spec =
     (tie.spec
     unify-requires
     returns
-    order-requires
-    crossed-requires
-    returns-2
+    blank-requires
     with-gap-requires
-    returns-3)
+    returns-2
+    pass-on-requires
+    crossed-requires
+    refused-requires
+    returns-3
+    with-gap-requires-2
+    returns-4)

@@ -13,7 +13,7 @@ raise-requires-2 c κs = search needs
 returns : tie.Need-returns
 returns c =
     let s = c .before .before in
-    was-spread _ _ _ _ _ _ (s .fits .group .fits) (s .fits .across .fits) (c .before .raise .ensures) (c .raise2 .ensures)
+    was-spread (s .fits .group .fits) (s .fits .across .fits) (record { half = _; first = c .before .raise .ensures; last = c .raise2 .ensures })
 
 pub spread-spec : {M : Type 1} → statement M
 spread-spec = tie.close (tie.spec raise-requires raise-requires-2 returns)

@@ -1,6 +1,6 @@
 -- `merge::unify` meets its contract: what its helpers ensure is what has to be made (proofs/Making.antt).
 use Prim.Native.Nat.{_<_}
-use mathlib.Core.Path.{sym, _∙_}
+use mathlib.Core.Path.{refl, sym, _∙_}
 use mir.Val.{Fits}
 use mir.Syntax.{w16}
 use Rattle.tables.proofs.Tested.{not-yes}
@@ -74,35 +74,32 @@ union-rows-requires-3 c κs = search needs
 union-rows-requires-4 : tie.Need-union-rows-requires-4
 union-rows-requires-4 c κs = search needs
 
-union-rows-requires-5 : tie.Need-union-rows-requires-5
-union-rows-requires-5 c κs = search needs
-
-union-rows-requires-6 : tie.Need-union-rows-requires-6
-union-rows-requires-6 c κs = search needs
-
 raise-requires : tie.Need-raise-requires
 raise-requires c κs = search needs
 
 raise-requires-2 : tie.Need-raise-requires-2
 raise-requires-2 c κs = search needs
 
-spread-requires : tie.Need-spread-requires
-spread-requires c κs = search needs
+raise-requires-3 : tie.Need-raise-requires-3
+raise-requires-3 c κs = search needs
 
-spread-requires-2 : tie.Need-spread-requires-2
-spread-requires-2 c κs = search needs
+raise-requires-4 : tie.Need-raise-requires-4
+raise-requires-4 c κs = search needs
 
-spread-requires-3 : tie.Need-spread-requires-3
-spread-requires-3 c κs = search needs
+raise-requires-5 : tie.Need-raise-requires-5
+raise-requires-5 c κs = search needs
 
-spread-siblings-requires : tie.Need-spread-siblings-requires
-spread-siblings-requires c κs = search needs
+raise-requires-6 : tie.Need-raise-requires-6
+raise-requires-6 c κs = search needs
 
-spread-siblings-requires-2 : tie.Need-spread-siblings-requires-2
-spread-siblings-requires-2 c κs = search needs
+raise-requires-7 : tie.Need-raise-requires-7
+raise-requires-7 c κs = search needs
+
+raise-requires-8 : tie.Need-raise-requires-8
+raise-requires-8 c κs = search needs
 
 paint-requires : tie.Need-paint-requires
-paint-requires c κs = c .before .before .before .before .before .before .before .before .before .before .before .before .before .label-of .ensures
+paint-requires c κs = c .before .before .before .before .before .before .before .before .before .before .before .before .label-of .ensures
 
 meet-requires-3 : tie.Need-meet-requires-3
 meet-requires-3 c κs = search needs
@@ -122,16 +119,12 @@ returns-3 c =
     let root = leaf-met .before in
     let root-met = root .before in
     let label = root-met .before in
-    let after = label .before in
-    let before = after .before in
-    let differ = before .before in
-    let parent = differ .before in
-    let child = parent .before in
-    let above = child .before in
+    let differ = label .before in
+    let parent = differ .before .before in
+    let child = parent .before .before in
+    let above = child .before .before in
     let below = above .before in
-    let earlier = below .before in
-    let later = earlier .before in
-    let parents = later .before in
+    let parents = below .before in
     let children = parents .before in
     let free = children .before in
     let test = free .before in
@@ -144,11 +137,9 @@ returns-3 c =
     let met = leafy .before in
     let s = met .before .before .before .before .before .before .before .before .before in
     unify-well _ _ _ _ _ _ (x-small s) (s .pre .0) (s .pre .1) (far .union-rows .ensures) (rw (leafy .when .ensures, met .meet .ensures))
-    (root-small s) (leaf-small s) _ _ _ _
+    (root-small s) (leaf-small s) _ _
     (record {
       is-parents = parents .union-rows4 .ensures;
-      is-earlier = earlier .union-rows6 .ensures;
-      is-later = later .union-rows5 .ensures;
       children = _;
       is-children = children .union-rows3 .ensures;
       others = _;
@@ -159,11 +150,11 @@ returns-3 c =
       only = test .two-labels .ensures .one (free .if2 .left);
       below = below .raise .ensures;
       above = above .raise2 .ensures;
-      child = child .spread .ensures;
-      parent = parent .spread2 .ensures;
-      differ = differ .spread3 .ensures;
-      before = before .spread-siblings .ensures;
-      after = after .spread-siblings2 .ensures;
+      child = record { half = _; first = child .before .raise3 .ensures; last = child .raise4 .ensures };
+      parent = record { half = _; first = parent .before .raise5 .ensures; last = parent .raise6 .ensures };
+      differ = record { half = _; first = differ .before .raise7 .ensures; last = differ .raise8 .ensures };
+      before = refl;
+      after = refl;
       root = rw (root .gain .ensures, root-met .meet3 .ensures);
       leaf = rw (c .gain2 .ensures, leaf-met .meet4 .ensures);
       label = label .paint .ensures;
@@ -186,15 +177,14 @@ unify-spec =
     returns-2
     union-rows-requires-3
     union-rows-requires-4
-    union-rows-requires-5
-    union-rows-requires-6
     raise-requires
     raise-requires-2
-    spread-requires
-    spread-requires-2
-    spread-requires-3
-    spread-siblings-requires
-    spread-siblings-requires-2
+    raise-requires-3
+    raise-requires-4
+    raise-requires-5
+    raise-requires-6
+    raise-requires-7
+    raise-requires-8
     paint-requires
     meet-requires-3
     gain-requires

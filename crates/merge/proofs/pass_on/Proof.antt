@@ -1,0 +1,67 @@
+-- `merge::pass_on` meets its contract: with no sibling all is as it was.
+use mathlib.Core.Path.{refl}
+use mathlib.Core.Logic.{inl, inr}
+use borrow.Author.Needs.{needs}
+use Rattle.merge.proofs.Loops.{none-spread, none-turned}
+use Rattle.merge.proofs.pass_on.Statement.{statement}
+use Rattle.merge.proofs.pass_on.Tie as tie
+
+union-rows-requires : tie.Need-union-rows-requires
+union-rows-requires c κs = search needs
+
+union-rows-requires-2 : tie.Need-union-rows-requires-2
+union-rows-requires-2 c κs = search needs
+
+returns : tie.Need-returns
+returns c =
+    let earlier = c .before in
+    let later = earlier .before in
+    record {
+      earlier = _;
+      later = _;
+      b = _;
+      a = _;
+      shares = record {
+        is-earlier = earlier .union-rows2 .ensures;
+        is-later = later .union-rows .ensures;
+        shared-before = none-turned _ _ _ _ (c .if1 .taken);
+        shared-after = none-spread _ _ _ _ (c .if1 .taken);
+      };
+      passes = inl (c .if1 .taken, refl);
+    }
+
+spread-requires : tie.Need-spread-requires
+spread-requires c κs = search needs
+
+spread-requires-2 : tie.Need-spread-requires-2
+spread-requires-2 c κs = search needs
+
+order-requires : tie.Need-order-requires
+order-requires c κs = search needs
+
+returns-2 : tie.Need-returns-2
+returns-2 c =
+    let after = c .before in
+    let before = after .before in
+    let earlier = before .before .before in
+    let later = earlier .before in
+    record {
+      earlier = _;
+      later = _;
+      b = _;
+      a = _;
+      shares = record { is-earlier = earlier .union-rows2 .ensures; is-later = later .union-rows .ensures; shared-before = before .spread .ensures; shared-after = after .spread2 .ensures };
+      passes = inr (c .order .ensures);
+    }
+
+pub pass-on-spec : {M : Type 1} → statement M
+pass-on-spec =
+    tie.close
+    (tie.spec
+    union-rows-requires
+    union-rows-requires-2
+    returns
+    spread-requires
+    spread-requires-2
+    order-requires
+    returns-2)
