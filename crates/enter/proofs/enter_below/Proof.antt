@@ -99,7 +99,7 @@ returns-3 c =
     entered-well _ _ _ _ _ (λ S q. raised-ready _ (s .pre .0 .2) S _ _ _ (s .pre .0 .0) (s .pre .0 .1) q (above-small s _) (below-small s _) _ _ (below .raise .ensures) (above .raise2 .ensures)
     (λ u. false≢true (sym (o .0) ∙ m .before .has .ensures ∙ u))
     (λ k u v. false≢true (sym (o .1) ∙ m .meet .ensures ∙ meets-in _ _ k u v))
-    false (⊎-elim (λ h. subst (Crossed _ _ _) (h .2 .left) (h .1 .ensures)) (λ h. blank-crossed _ _ _ _ (blank .blank .ensures) (h .left)) (c .if2 .came)) refl)
+    false (⊎-elim {C = Crossed (s .args .f .before) (below .raise .result) (above .raise2 .result) false} (λ h. subst (Crossed _ _ _) (h .2 .left) (h .1 .ensures)) (λ h. blank-crossed _ _ _ _ (blank .blank .ensures) (h .left)) (c .if2 .came)) refl)
 
 pub enter-below-spec : {M : Type 1} → statement M
 enter-below-spec =
