@@ -27,11 +27,14 @@ pub fn enter_below(f: Facts, n: usize, a: Var, b: Var) -> Settled
     let below = tables::raise(rows, up, down);
     let above = tables::raise(columns, down, up);
     let before = f.before;
-    if tables::crossed(before, below, above) {
-        return Settled {
-            clash: true,
-            facts: f,
-        };
+    // most sets have no before, and are not to wait for the test
+    if !tables::blank(before) {
+        if tables::crossed(before, below, above) {
+            return Settled {
+                clash: true,
+                facts: f,
+            };
+        }
     }
     let mut g = f;
     g.below = below;

@@ -9,7 +9,7 @@ use lib.Bits.{bitOr}
 use lib.Dec.{eqb}
 use Rattle.meaning.specs.Tree.{Var}
 use Rattle.meaning.specs.Constraint.{Fact, child, below, differ, before, root, leaf, label}
-use Rattle.meaning.specs.Settled.{Settled, child-below as cb, child-differ as cd, chain as ch, differ-back as db, before-differ as bd, before-chain as bc, before-child as bh, after-child as ah, one-parent as op}
+use Rattle.meaning.specs.Settled.{Settled, child-below, child-differ, chain, differ-back, one-parent, before-chain, before-differ, before-child, after-child}
 use Rattle.meaning.specs.Finite.{Yes, _and_, neg}
 use Rattle.meaning.specs.Closed.{Within, Sharing, Siblings}
 use Rattle.meaning.proofs.Least.{settled-within}
@@ -38,11 +38,14 @@ module _ (n : ℕ) (T : List Fact) (group parents earlier later : ℕ) (f : Fact
   s : Sharing n P
   s = o .standing .sharing
 
-  b : Through P (In parents) (In earlier) (In later)
-  b = o .siblings
+  through : Through P (In parents) (In earlier) (In later)
+  through = o .siblings
+
+  settled : (φ : Fact) → P φ → Settled n T φ
+  settled = o .standing .sound
 
   inner : (φ : Fact) → P φ → Within n φ
-  inner φ u = settled-within n T (o .standing .inside) (o .standing .sound φ u)
+  inner φ u = settled-within n T (o .standing .inside) (settled φ u)
 
   sixteen : {x : Var} → x < n → x < 16
   sixteen h = le-trans h (o .standing .few)
@@ -62,7 +65,7 @@ module _ (n : ℕ) (T : List Fact) (group parents earlier later : ℕ) (f : Fact
   pub parents-settled : (x y : Var) → In parents x → In parents y → Settled n T (below x y)
   parents-settled x y u v =
       let k = o .is-parents .from x u in
-      op (o .standing .sound (child x (k .0)) (k .2)) (o .standing .sound (child y (k .0)) (of-all y (k .0) v (k .1)))
+      one-parent (settled (child x (k .0)) (k .2)) (settled (child y (k .0)) (of-all y (k .0) v (k .1)))
 
   -- ---- nothing is earlier or later than the group
 
@@ -75,17 +78,17 @@ module _ (n : ℕ) (T : List Fact) (group parents earlier later : ℕ) (f : Fact
 
     alone-siblings : Siblings n P
     alone-siblings = record {
-      before-chain = λ x y z p q. ⊎-elim (λ h. h) (λ h. not-earlier x (h .0)) (b .before-chain x y z p q);
-      before-differ = b .before-differ;
-      before-child = λ x y u p q. ⊎-elim (λ h. h) (λ h. not-later y (h .1)) (b .before-child x y u p q);
-      after-child = λ x y u p q. ⊎-elim (λ h. h) (λ h. not-earlier x (h .1)) (b .after-child x y u p q);
-      same-before = b .same-before;
-      same-after = b .same-after;
+      before-chain = λ x y z p q. ⊎-elim (λ h. h) (λ h. not-earlier x (h .0)) (through .before-chain x y z p q);
+      before-differ = through .before-differ;
+      before-child = λ x y u p q. ⊎-elim (λ h. h) (λ h. not-later y (h .1)) (through .before-child x y u p q);
+      after-child = λ x y u p q. ⊎-elim (λ h. h) (λ h. not-earlier x (h .1)) (through .after-child x y u p q);
+      same-before = through .same-before;
+      same-after = through .same-after;
     }
 
     pub alone-follows : Follows n T parents f
     alone-follows = record {
-      sound = o .standing .sound;
+      sound = settled;
       mirrored = o .standing .mirrored;
       pending = λ clear. record {
         standing = o .standing;
@@ -134,20 +137,20 @@ module _ (n : ℕ) (T : List Fact) (group parents earlier later : ℕ) (f : Fact
     parents-of : {y : Var} → K y → (x : Var) → P (child x y) → In parents x
     unfolding has
     parents-of {y} (own u) x c = o .is-parents .to x y u c
-    parents-of {y} (to-later {i} k u) x c = ⊎-elim (parents-of k x) (λ h. h .0) (o .siblings .after-child i y x u c)
-    parents-of {y} (to-earlier {i} k u) x c = ⊎-elim (parents-of k x) (λ h. h .0) (o .siblings .before-child y i x (step i y k u) c)
+    parents-of {y} (to-later {i} k u) x c = ⊎-elim (parents-of k x) (λ h. h .0) (through .after-child i y x u c)
+    parents-of {y} (to-earlier {i} k u) x c = ⊎-elim (parents-of k x) (λ h. h .0) (through .before-child y i x (step i y k u) c)
 
     kin-same : {x : Var} → K x → (y : Var) → P (below x y) → P (below y x) → In (q .kin) y
     unfolding has
     kin-same {x} (own u) y a b = q .is-kin .owns y (o .same-group x y a b u)
-    kin-same {x} (to-later {i} k u) y a b = kin-later i y (o .siblings .same-after i x y a b u) (kin-in k)
-    kin-same {x} (to-earlier {i} k u) y a b = kin-earlier y i (o .siblings .same-before x i y a b (step i x k u)) (kin-in k)
+    kin-same {x} (to-later {i} k u) y a b = kin-later i y (through .same-after i x y a b u) (kin-in k)
+    kin-same {x} (to-earlier {i} k u) y a b = kin-earlier y i (through .same-before x i y a b (step i x k u)) (kin-in k)
 
     child-settled : {y : Var} → K y → (x : Var) → In parents x → Settled n T (child x y)
     unfolding has
-    child-settled {y} (own u) x v = o .standing .sound (child x y) (of-all x y v u)
-    child-settled {y} (to-later {i} k u) x v = bh (o .standing .sound (before i y) u) (child-settled k x v)
-    child-settled {y} (to-earlier {i} k u) x v = ah (o .standing .sound (before y i) (step i y k u)) (child-settled k x v)
+    child-settled {y} (own u) x v = settled (child x y) (of-all x y v u)
+    child-settled {y} (to-later {i} k u) x v = before-child (settled (before i y) u) (child-settled k x v)
+    child-settled {y} (to-earlier {i} k u) x v = after-child (settled (before y i) (step i y k u)) (child-settled k x v)
 
     -- ---- over and under
 
@@ -205,29 +208,29 @@ module _ (n : ℕ) (T : List Fact) (group parents earlier later : ℕ) (f : Fact
     below-settled x y u v =
         let a = over-is x u in
         let b = under-is y v in
-        ch (o .standing .sound (below x (a .0)) (a .2)) (ch (cb (child-settled (q .is-kin .from (b .0) (b .1)) (a .0) (a .1))) (o .standing .sound (below (b .0) y) (b .2)))
+        chain (settled (below x (a .0)) (a .2)) (chain (child-below (child-settled (q .is-kin .from (b .0) (b .1)) (a .0) (a .1))) (settled (below (b .0) y) (b .2)))
 
     before-settled : (x y : Var) → In earlier x → In later y → Settled n T (before x y)
     before-settled x y u v =
         let a = o .is-earlier .from x u in
         let b = o .is-later .from y v in
-        bc (o .standing .sound (before x (a .0)) (a .2))
-        (o .standing .sound (before (a .0) y) (o .siblings .same-before (b .0) y (a .0) (o .one-group (b .0) (a .0) (b .1) (a .1)) (o .one-group (a .0) (b .0) (a .1) (b .1)) (b .2)))
+        before-chain (settled (before x (a .0)) (a .2))
+        (settled (before (a .0) y) (through .same-before (b .0) y (a .0) (o .one-group (b .0) (a .0) (b .1) (a .1)) (o .one-group (a .0) (b .0) (a .1) (b .1)) (b .2)))
 
     differ-settled : (x y : Var) → Across (In earlier) (In later) x y ⊎ Across (In parents) (In (q .kin)) x y → Settled n T (differ x y)
-    differ-settled x y (inl (inl h)) = bd (before-settled x y (h .0) (h .1))
-    differ-settled x y (inl (inr h)) = db (bd (before-settled y x (h .1) (h .0)))
-    differ-settled x y (inr (inl h)) = cd (child-settled (q .is-kin .from y (h .1)) x (h .0))
-    differ-settled x y (inr (inr h)) = db (cd (child-settled (q .is-kin .from x (h .0)) y (h .1)))
+    differ-settled x y (inl (inl h)) = before-differ (before-settled x y (h .0) (h .1))
+    differ-settled x y (inl (inr h)) = differ-back (before-differ (before-settled y x (h .1) (h .0)))
+    differ-settled x y (inr (inl h)) = child-differ (child-settled (q .is-kin .from y (h .1)) x (h .0))
+    differ-settled x y (inr (inr h)) = differ-back (child-differ (child-settled (q .is-kin .from x (h .0)) y (h .1)))
 
     new-settled : (φ : Fact) → Q φ → Settled n T φ
-    new-settled (child x y) u = ⊎-elim (o .standing .sound (child x y)) (λ h. child-settled (q .is-kin .from y (h .1)) x (h .0)) u
-    new-settled (below x y) u = ⊎-elim (o .standing .sound (below x y)) (λ h. below-settled x y (h .0) (h .1)) u
-    new-settled (differ x y) u = ⊎-elim (o .standing .sound (differ x y)) (differ-settled x y) u
-    new-settled (before x y) u = ⊎-elim (o .standing .sound (before x y)) (λ h. before-settled x y (h .0) (h .1)) u
-    new-settled (root x) u = o .standing .sound (root x) u
-    new-settled (leaf x) u = o .standing .sound (leaf x) u
-    new-settled (label x l) u = o .standing .sound (label x l) u
+    new-settled (child x y) u = ⊎-elim (settled (child x y)) (λ h. child-settled (q .is-kin .from y (h .1)) x (h .0)) u
+    new-settled (below x y) u = ⊎-elim (settled (below x y)) (λ h. below-settled x y (h .0) (h .1)) u
+    new-settled (differ x y) u = ⊎-elim (settled (differ x y)) (differ-settled x y) u
+    new-settled (before x y) u = ⊎-elim (settled (before x y)) (λ h. before-settled x y (h .0) (h .1)) u
+    new-settled (root x) u = settled (root x) u
+    new-settled (leaf x) u = settled (leaf x) u
+    new-settled (label x l) u = settled (label x l) u
 
     passed-sound : (φ : Fact) → Held g φ → Settled n T φ
     passed-sound φ u = new-settled φ (has-new φ u)
@@ -295,19 +298,19 @@ module _ (n : ℕ) (T : List Fact) (group parents earlier later : ℕ) (f : Fact
       unfolding has
       adding = record {
         siblings = record {
-          before-chain = b .before-chain;
-          before-differ = b .before-differ;
-          before-child = b .before-child;
-          after-child = b .after-child;
-          same-before = λ x y u p q. let h = same x u p q in b .same-before x y u (h .0) (h .1);
-          same-after = λ x y u p q. let h = same y u p q in b .same-after x y u (h .0) (h .1);
+          before-chain = through .before-chain;
+          before-differ = through .before-differ;
+          before-child = through .before-child;
+          after-child = through .after-child;
+          same-before = λ x y u p q. let h = same x u p q in through .same-before x y u (h .0) (h .1);
+          same-after = λ x y u p q. let h = same y u p q in through .same-after x y u (h .0) (h .1);
         };
-        first-same = λ x y a b u. let h = same x y a b in let k = o .is-earlier .from x u in o .is-earlier .to y (k .0) (k .1) (o .siblings .same-before x (k .0) y (h .0) (h .1) (k .2));
-        last-same = λ x y a b u. let h = same x y a b in let k = o .is-later .from x u in o .is-later .to y (k .0) (k .1) (o .siblings .same-after (k .0) x y (h .0) (h .1) (k .2));
+        first-same = λ x y a b u. let h = same x y a b in let k = o .is-earlier .from x u in o .is-earlier .to y (k .0) (k .1) (through .same-before x (k .0) y (h .0) (h .1) (k .2));
+        last-same = λ x y a b u. let h = same x y a b in let k = o .is-later .from x u in o .is-later .to y (k .0) (k .1) (through .same-after (k .0) x y (h .0) (h .1) (k .2));
         over-same = λ x y a b u. let h = same x y a b in let k = o .is-parents .from x u in o .is-parents .to y (k .0) (k .1) (s .same-parent x (k .0) y (h .0) (h .1) (k .2));
         kin-same = λ x y a b u. let h = same x y a b in kin-same (q .is-kin .from x u) y (h .0) (h .1);
-        first-earlier = λ x y b u. let k = o .is-earlier .from y u in ⊎-elim (o .is-earlier .to x (k .0) (k .1)) (λ h. h .0) (o .siblings .before-chain x y (k .0) b (k .2));
-        last-later = λ x y b u. let k = o .is-later .from x u in ⊎-elim (o .is-later .to y (k .0) (k .1)) (λ h. h .1) (o .siblings .before-chain (k .0) x y (k .2) b);
+        first-earlier = λ x y b u. let k = o .is-earlier .from y u in ⊎-elim (o .is-earlier .to x (k .0) (k .1)) (λ h. h .0) (through .before-chain x y (k .0) b (k .2));
+        last-later = λ x y b u. let k = o .is-later .from x u in ⊎-elim (o .is-later .to y (k .0) (k .1)) (λ h. h .1) (through .before-chain (k .0) x y (k .2) b);
         kin-earlier = kin-earlier;
         kin-later = kin-later;
         first-kin = λ x u. let k = o .is-earlier .from x u in kin-earlier x (k .0) (k .2) (q .is-kin .owns (k .0) (k .1));

@@ -179,7 +179,8 @@ fn unify(f: Facts, x: u16, lower: u16, upper: u16) -> Round
     }
 }
 
-// The rows of the group with `along`, and the rows of `across` with the group.
+// The rows of the group with `along`, and the rows of `across` with the group. `unify` writes this out: the call is not inlined, and each round
+// has to wait for it.
 fn spread(t: [u16; 16], group: u16, along: u16, across: u16) -> [u16; 16]
     ensures { λ r. ⌜ Spread t group along across r ⌝ }
 {

@@ -1,8 +1,8 @@
 -- What it is for facts to have no clash, and that tables that decide a settled set have none just where that set has none; and what the test of
 -- before against below says.
-use mathlib.Core.Path.{_≡_, sym, _∙_}
+use mathlib.Core.Path.{_≡_, refl, sym, _∙_}
 use mathlib.Core.Logic.{⊎-elim}
-use mathlib.Core.Bool.{Bool, true, false}
+use mathlib.Core.Bool.{Bool, true, false, false≢true, not}
 use mathlib.Core.List.{List}
 use Prim.Native.Nat.{ℕ, _≤_}
 use native.Mathlib.Nat.{le-trans}
@@ -12,7 +12,7 @@ use Rattle.meaning.specs.Finite.{Yes}
 use Rattle.meaning.specs.ReadOff.{Decides}
 use Rattle.meaning.specs.Closed.{Within}
 use Rattle.tables.specs.Tables.{has, Columns}
-use Rattle.tables.specs.Rows.{Crossed}
+use Rattle.tables.specs.Rows.{Crossed, Blank}
 use Rattle.tables.specs.declared.Facts.{Facts}
 use Rattle.tables.specs.Free.{Clear, Free}
 use Rattle.tables.proofs.Labels.{label-is}
@@ -37,6 +37,11 @@ module _ (n : ℕ) (S : List Fact) (f : Facts) (d : Decides n S (has f)) where
   }
 
 -- ---- the test of before against below
+
+-- a table that has nothing has nothing in common with others
+pub blank-crossed : (t b a : List ℕ) (r : Bool) → Blank t r → not r ≡ false → Crossed t b a false
+blank-crossed t b a true h e = record { some = λ z. absurd (false≢true z); none = λ _ x y l u. absurd (h .none refl x y l u) }
+blank-crossed t b a false h e = absurd (false≢true (sym e))
 
 module _ (n : ℕ) (few : n ≤ 16) (f : Facts) (columns : Columns (f .below) (f .above)) (within : (φ : Fact) → Yes (has f φ) → Within n φ) (r : Bool)
     (t : Crossed (f .before) (f .below) (f .above) r) where

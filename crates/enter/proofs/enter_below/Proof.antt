@@ -3,11 +3,14 @@ use Prim.Native.Nat.{ℕ, _<_}
 use lib.ListN.{getD}
 use mir.Val.{Fits}
 use mir.Syntax.{w16}
-use mathlib.Core.Path.{sym, _∙_}
-use mathlib.Core.Bool.{false≢true}
+use mathlib.Core.Path.{refl, sym, _∙_, subst}
+use mathlib.Core.Logic.{⊎-elim}
+use mathlib.Core.Bool.{false, false≢true}
 use borrow.Author.Needs.{needs}
 use Rattle.tables.specs.Tables.{has}
+use Rattle.tables.specs.Rows.{Crossed}
 use Rattle.tables.proofs.Bits.{meets-in}
+use Rattle.tables.proofs.Clashes.{blank-crossed}
 use Rattle.enter.proofs.Enter.{raised-ready, raised-clash, entered-well, entered-clash, follows, entered-same}
 use Rattle.tables.proofs.Tested.{or-no}
 use Rattle.enter.proofs.enter_below.Statement.{statement}
@@ -62,32 +65,41 @@ raise-requires c κs = search needs
 raise-requires-2 : tie.Need-raise-requires-2
 raise-requires-2 c κs = search needs
 
+blank-requires : tie.Need-blank-requires
+blank-requires c κs = search needs
+
 crossed-requires : tie.Need-crossed-requires
 crossed-requires c κs = search needs
 
 returns-2 : tie.Need-returns-2
 unfolding has
 returns-2 c =
-    let x = c .before in
-    let raised = x .before .before in
-    let m = raised .before .before .before in
+    let test = c .before in
+    let above = test .before .before .before .before in
+    let below = above .before in
+    let apart = below .before in
+    let m = apart .before in
     let s = m .before .before .before .before .before .before in
-    let o = or-no _ _ (raised .before .before .if1 .left) in
-    entered-clash _ _ _ _ (λ S q. raised-clash _ (s .pre .0 .2) S _ _ _ (s .pre .0 .0) (s .pre .0 .1) q (above-small s _) (below-small s _) _ _ (raised .before .raise .ensures) (raised .raise2 .ensures)
+    let o = or-no _ _ (apart .if1 .left) in
+    entered-clash _ _ _ _ (λ S q. raised-clash _ (s .pre .0 .2) S _ _ _ (s .pre .0 .0) (s .pre .0 .1) q (above-small s _) (below-small s _) _ _ (below .raise .ensures) (above .raise2 .ensures)
     (λ u. false≢true (sym (o .0) ∙ m .before .has .ensures ∙ u))
-    (λ k u v. false≢true (sym (o .1) ∙ m .meet .ensures ∙ meets-in _ _ k u v)) _ (x .crossed .ensures) (c .if2 .taken))
+    (λ k u v. false≢true (sym (o .1) ∙ m .meet .ensures ∙ meets-in _ _ k u v)) _ (test .crossed .ensures) (c .if3 .taken))
 
+-- before is blank, or was tested
 returns-3 : tie.Need-returns-3
 unfolding has
 returns-3 c =
-    let x = c .before in
-    let raised = x .before .before in
-    let m = raised .before .before .before in
+    let blank = c .before in
+    let above = blank .before .before in
+    let below = above .before in
+    let apart = below .before in
+    let m = apart .before in
     let s = m .before .before .before .before .before .before in
-    let o = or-no _ _ (raised .before .before .if1 .left) in
-    entered-well _ _ _ _ _ (λ S q. raised-ready _ (s .pre .0 .2) S _ _ _ (s .pre .0 .0) (s .pre .0 .1) q (above-small s _) (below-small s _) _ _ (raised .before .raise .ensures) (raised .raise2 .ensures)
+    let o = or-no _ _ (apart .if1 .left) in
+    entered-well _ _ _ _ _ (λ S q. raised-ready _ (s .pre .0 .2) S _ _ _ (s .pre .0 .0) (s .pre .0 .1) q (above-small s _) (below-small s _) _ _ (below .raise .ensures) (above .raise2 .ensures)
     (λ u. false≢true (sym (o .0) ∙ m .before .has .ensures ∙ u))
-    (λ k u v. false≢true (sym (o .1) ∙ m .meet .ensures ∙ meets-in _ _ k u v)) _ (x .crossed .ensures) (c .if2 .left))
+    (λ k u v. false≢true (sym (o .1) ∙ m .meet .ensures ∙ meets-in _ _ k u v))
+    false (⊎-elim {C = Crossed (s .args .f .before) (below .raise .result) (above .raise2 .result) false} (λ h. subst (Crossed _ _ _) (h .2 .left) (h .1 .ensures)) (λ h. blank-crossed _ _ _ _ (blank .blank .ensures) (h .left)) (c .if2 .came)) refl)
 
 pub enter-below-spec : {M : Type 1} → statement M
 enter-below-spec =
@@ -105,6 +117,7 @@ enter-below-spec =
     returns
     raise-requires
     raise-requires-2
+    blank-requires
     crossed-requires
     returns-2
     returns-3)

@@ -16,16 +16,18 @@ returns : tie.Need-returns
 returns c =
     let earlier = c .before in
     let later = earlier .before in
+    let e = earlier .union-rows2 .result in
+    let l = later .union-rows .result in
     record {
-      earlier = _;
-      later = _;
+      earlier = e;
+      later = l;
       b = _;
       a = _;
       shares = record {
         is-earlier = earlier .union-rows2 .ensures;
         is-later = later .union-rows .ensures;
-        shared-before = none-turned _ _ _ _ (c .if1 .taken);
-        shared-after = none-spread _ _ _ _ (c .if1 .taken);
+        shared-before = none-turned _ _ e l (c .if1 .taken);
+        shared-after = none-spread _ _ e l (c .if1 .taken);
       };
       passes = inl (c .if1 .taken, refl);
     }
