@@ -1,4 +1,4 @@
--- The joins of siblings at y: a is properly above y, and x is a sibling of y that is missing below a.
+-- The joins of siblings at y: a is properly above y and missing above x, one of the siblings of y.
 use mathlib.Core.Path.{_≡_, refl, sym, _∙_, subst}
 use mathlib.Core.Logic.{⊎-elim}
 use mathlib.Core.List.{List}
@@ -17,9 +17,9 @@ use Rattle.meaning.proofs.Tests.{clash, and-left, and-right, and-both, or-left,
 use Rattle.theory.specs.Search.{isJoin, firstOf}
 use Rattle.rowbits.specs.Bit.{bit}
 use Rattle.tables.specs.Tables.{row, has, Ready}
-use Rattle.tables.specs.Rows.{Gathers, Lowest, meets, without}
+use Rattle.tables.specs.Rows.{Lowest, Union, without}
 use Rattle.tables.specs.declared.Facts.{Facts}
-use Rattle.tables.proofs.Bits.{in-both, both-in, or-l, or-r, or-case, without-in, without-out, flip-has, flip-not, meets-in, meets-out}
+use Rattle.tables.proofs.Bits.{in-both, both-in, or-l, or-r, or-case, without-in, without-out, flip-has, flip-not, none-in}
 use Rattle.joins.specs.Found.{Neither}
 use Rattle.joins.proofs.Find.{firstOf-is-some}
 use Rattle.joins.proofs.First.{NoneBefore, vars-in, vars-out, above-is, below-is}
@@ -59,67 +59,85 @@ module _ (n : ℕ) (small : n ≤ 16) (S : List Fact) (f : Facts) (r : Ready n S
         (and-both (sym (above-is n small S f r a y ha hy) ∙ p .above)
         (and-both (no-neg (λ s. p .not-below (below-is n small S f r y a ∙ and-right _ s))) (no-neg (λ t. p .not-above (below-is n small S f r a x ∙ t)))))
 
-module _ (n : ℕ) (small : n ≤ 16) (f : Facts) (vars : ℕ) (ev : vars ≡ 2 ^ n - 1) (missing : List ℕ) (em : Neither (f .below) (f .below) missing) (y : Var) (hy : y < n)
-    (g : ℕ) (gp : Gathers (λ k. meets (row missing k) (bitAnd (bitOr (row (f .before) y) (row (f .after) y)) vars)) g)
-    (a : ℕ) (la : Lowest (bitAnd (without (bitAnd (row (f .above) y) vars) (row (f .below) y)) g) a) where
-  abbrev siblings : ℕ
-  siblings = bitAnd (bitOr (row (f .before) y) (row (f .after) y)) vars
+    -- the mirror of not-above
+    above-not : ¬ Yes (bit (row (f .below) a) x) → ¬ Yes (bit (row (f .above) x) a)
+    above-not q t = q (below-is n small S f r a x ∙ sym (above-is n small S f r a x ha hx) ∙ t)
 
-  abbrev over : ℕ
-  over = without (bitAnd (row (f .above) y) vars) (row (f .below) y)
+    not-of-above : ¬ Yes (bit (row (f .above) x) a) → ¬ Yes (bit (row (f .below) a) x)
+    not-of-above q t = q (above-is n small S f r a x ha hx ∙ sym (below-is n small S f r a x) ∙ t)
 
-  missing-in : (i k : Var) → i < 16 → k < 16 → ¬ Yes (bit (row (f .below) i) k) → Yes (bit (row missing i) k)
-  missing-in i k hi hk q = subst (λ (j : ℕ). Yes (bit j k)) (sym (em i hi)) (flip-has _ k hk (λ t. ⊎-elim q q (or-case _ _ k t)))
+-- the siblings of y that are variables
+abbrev siblings : Facts → ℕ → Var → ℕ
+siblings f vars y = bitAnd (bitOr (row (f .before) y) (row (f .after) y)) vars
 
-  missing-out : (i k : Var) → i < 16 → k < 16 → Yes (bit (row missing i) k) → ¬ Yes (bit (row (f .below) i) k)
-  missing-out i k hi hk p t = flip-not _ k hk (subst (λ (j : ℕ). Yes (bit j k)) (em i hi) p) (or-l (row (f .below) i) (row (f .below) i) k t)
+module _ (n : ℕ) (small : n ≤ 16) (f : Facts) (vars : ℕ) (ev : vars ≡ 2 ^ n - 1) (y : Var) (hy : y < n) where
+  abbrev s : ℕ
+  s = siblings f vars y
 
-  -- the sibling of a join, and that it is missing
-  passed-x : (S : List Fact) (r : Ready n S f) (i k : Var) → i < n → k < n → Yes (isJoin (has f) sibling-join y i k) → Yes (bit siblings k) × Yes (bit (row missing i) k)
-  passed-x S r i k hi hk u =
-      let p = sibling-parts n small S f r y i k hy hi hk u in
-      (vars-in _ vars n k ev hk (p .sibling), missing-in i k (le-trans hi small) (le-trans hk small) (p .not-above))
+  passed-x : (S : List Fact) (r : Ready n S f) (i k : Var) → i < n → k < n → Yes (isJoin (has f) sibling-join y i k) → Yes (bit s k)
+  passed-x S r i k hi hk u = vars-in _ vars n k ev hk (sibling-parts n small S f r y i k hy hi hk u .sibling)
 
-  passed-a : (S : List Fact) (r : Ready n S f) (i k : Var) → i < n → k < n → Yes (isJoin (has f) sibling-join y i k) → Yes (bit (bitAnd over g) i)
-  passed-a S r i k hi hk u =
-      let p = sibling-parts n small S f r y i k hy hi hk u in
-      let q = passed-x S r i k hi hk u in
-      both-in over g i (without-in _ _ i (le-trans hi small) (vars-in _ vars n i ev hi (p .above)) (p .not-below))
-      (gp .to i (le-trans hi small) (meets-in (row missing i) siblings k (q .1) (q .0)))
+  pub none-alone : s ≡ 0 → (S : List Fact) → Ready n S f → (i k : Var) → i < n → k < n → ¬ Yes (isJoin (has f) sibling-join y i k)
+  none-alone e S r i k hi hk u = none-in k (subst (λ (j : ℕ). Yes (bit j k)) e (passed-x S r i k hi hk u))
 
-  pub none-siblings : 16 ≤ a → (S : List Fact) → Ready n S f → (i k : Var) → i < n → k < n → ¬ Yes (isJoin (has f) sibling-join y i k)
-  none-siblings l S r i k hi hk u = la .none i (omega arith) (passed-a S r i k hi hk u)
+  module _ (missing : List ℕ) (em : Neither (f .above) (f .above) missing) (g : ℕ) (gp : Union missing s g)
+      (a : ℕ) (la : Lowest (bitAnd (without (bitAnd (row (f .above) y) vars) (row (f .below) y)) g) a) where
+    abbrev over : ℕ
+    over = without (bitAnd (row (f .above) y) vars) (row (f .below) y)
 
-  module _ (m : a < 16) (fits : row missing a < 65536) (x : ℕ) (lx : Lowest (bitAnd siblings (row missing a)) x) where
-    a-at : Yes (bit over a) × Yes (bit g a)
-    a-at = in-both over g a (la .this m)
+    missing-in : (k i : Var) → k < 16 → i < 16 → ¬ Yes (bit (row (f .above) k) i) → Yes (bit (row missing k) i)
+    missing-in k i hk hi q = subst (λ (j : ℕ). Yes (bit j i)) (sym (em k hk)) (flip-has _ i hi (λ t. ⊎-elim q q (or-case _ _ i t)))
 
-    a-out : Yes (bit (bitAnd (row (f .above) y) vars) a) × (¬ Yes (bit (row (f .below) y) a))
-    a-out = without-out _ _ a m (a-at .0)
+    missing-out : (k i : Var) → k < 16 → i < 16 → Yes (bit (row missing k) i) → ¬ Yes (bit (row (f .above) k) i)
+    missing-out k i hk hi p t = flip-not _ i hi (subst (λ (j : ℕ). Yes (bit j i)) (em k hk) p) (or-l (row (f .above) k) (row (f .above) k) i t)
 
-    a-n : Yes (bit (row (f .above) y) a) × (a < n)
-    a-n = vars-out _ vars n a ev (a-out .0)
+    passed-a : (S : List Fact) (r : Ready n S f) (i k : Var) → i < n → k < n → Yes (isJoin (has f) sibling-join y i k) → Yes (bit (bitAnd over g) i)
+    passed-a S r i k hi hk u =
+        let p = sibling-parts n small S f r y i k hy hi hk u in
+        both-in over g i (without-in _ _ i (le-trans hi small) (vars-in _ vars n i ev hi (p .above)) (p .not-below))
+        (gp .to k i (passed-x S r i k hi hk u) (missing-in k i (le-trans hk small) (le-trans hi small) (above-not n small S f r y i k hy hi hk (p .not-above))))
 
-    x-16 : x < 16
-    x-16 = go (meets-out (row missing a) siblings fits (gp .from a (a-at .1))) (decLt x 16)
-      where
-        go : (i : ℕ) × Yes (bit (row missing a) i) × Yes (bit siblings i) → Dec (x < 16) → x < 16
-        go q (yes l) = l
-        go q (no l) =
-            let i : q .0 < n = vars-out (bitOr (row (f .before) y) (row (f .after) y)) vars n (q .0) ev (q .2) .1 in
-            absurd (lx .none (q .0) (omega arith) (both-in siblings (row missing a) (q .0) (q .2) (q .1)))
+    pub none-missing : 16 ≤ a → (S : List Fact) → Ready n S f → (i k : Var) → i < n → k < n → ¬ Yes (isJoin (has f) sibling-join y i k)
+    none-missing l S r i k hi hk u = la .none i (omega arith) (passed-a S r i k hi hk u)
 
-    x-at : Yes (bit siblings x) × Yes (bit (row missing a) x)
-    x-at = in-both siblings (row missing a) x (lx .this x-16)
+    module _ (m : a < 16) (x : ℕ) (lx : Lowest (without s (row (f .below) a)) x) where
+      a-at : Yes (bit over a) × Yes (bit g a)
+      a-at = in-both over g a (la .this m)
 
-    x-n : Yes (bit (bitOr (row (f .before) y) (row (f .after) y)) x) × (x < n)
-    x-n = vars-out _ vars n x ev (x-at .0)
+      a-out : Yes (bit (bitAnd (row (f .above) y) vars) a) × (¬ Yes (bit (row (f .below) y) a))
+      a-out = without-out _ _ a m (a-at .0)
 
-    pub sibling-first : NoneBefore sibling-join n f y → (S : List Fact) → Ready n S f → some (join sibling-join y a x) ≡ firstOf n (isJoin (has f) sibling-join) (join sibling-join)
-    sibling-first early S r =
-        sym (firstOf-is-some n (isJoin (has f) sibling-join) (join sibling-join) y a x hy (a-n .1) (x-n .1)
-        (parts-sibling n small S f r y a x hy (a-n .1) (x-n .1)
-        record { sibling = x-n .0; above = a-n .0; not-below = a-out .1; not-above = missing-out a x m x-16 (x-at .1) })
-        (early S r)
-        (λ i k l hk t. la .none i l (passed-a S r i k (le-trans l (le-of-lt (a-n .1))) hk t))
-        (λ k l t. let p = passed-x S r a k (a-n .1) (le-trans l (le-of-lt (x-n .1))) t in lx .none k l (both-in siblings (row missing a) k (p .0) (p .1))))
+      a-n : Yes (bit (row (f .above) y) a) × (a < n)
+      a-n = vars-out _ vars n a ev (a-out .0)
+
+      module _ (S : List Fact) (r : Ready n S f) where
+        x-16 : x < 16
+        x-16 = go (gp .from a (a-at .1)) (decLt x 16)
+          where
+            go : (i : ℕ) × Yes (bit s i) × Yes (bit (row missing i) a) → Dec (x < 16) → x < 16
+            go q (yes l) = l
+            go q (no l) =
+                let hi : q .0 < n = vars-out (bitOr (row (f .before) y) (row (f .after) y)) vars n (q .0) ev (q .1) .1 in
+                let ki : q .0 < 16 = le-trans hi small in
+                absurd (lx .none (q .0) (omega arith)
+                (without-in s (row (f .below) a) (q .0) ki (q .1) (not-of-above n small S f r y a (q .0) hy (a-n .1) hi (missing-out (q .0) a ki m (q .2)))))
+
+        x-out : Yes (bit s x) × (¬ Yes (bit (row (f .below) a) x))
+        x-out = without-out s (row (f .below) a) x x-16 (lx .this x-16)
+
+        x-n : Yes (bit (bitOr (row (f .before) y) (row (f .after) y)) x) × (x < n)
+        x-n = vars-out _ vars n x ev (x-out .0)
+
+        sibling-at : Yes (isJoin (has f) sibling-join y a x)
+        sibling-at = parts-sibling n small S f r y a x hy (a-n .1) (x-n .1) record { sibling = x-n .0; above = a-n .0; not-below = a-out .1; not-above = x-out .1 }
+
+        passed-lower : (k : Var) → k < x → ¬ Yes (isJoin (has f) sibling-join y a k)
+        passed-lower k l t =
+            let hk = le-trans l (le-of-lt (x-n .1)) in
+            let p = sibling-parts n small S f r y a k hy (a-n .1) hk t in
+            lx .none k l (without-in s (row (f .below) a) k (le-trans hk small) (passed-x S r a k (a-n .1) hk t) (p .not-above))
+
+      pub sibling-first : NoneBefore sibling-join n f y → (S : List Fact) → Ready n S f → some (join sibling-join y a x) ≡ firstOf n (isJoin (has f) sibling-join) (join sibling-join)
+      sibling-first early S r =
+          sym (firstOf-is-some n (isJoin (has f) sibling-join) (join sibling-join) y a x hy (a-n .1) (x-n S r .1) (sibling-at S r) (early S r)
+          (λ i k l hk t. la .none i l (passed-a S r i k (le-trans l (le-of-lt (a-n .1))) hk t)) (passed-lower S r))

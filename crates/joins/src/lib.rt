@@ -75,7 +75,7 @@ fn chain_join(below: [u16; 16], above: [u16; 16], n: usize) -> Found
     Found::Nothing
 }
 
-// The first join of siblings: a is properly above y, and x is a sibling of y that is not below a.
+// The first join of siblings: a is properly above y and missing above x, a sibling of y. Most variables have no siblings.
 fn sibling_join(
     before: [u16; 16],
     after: [u16; 16],
@@ -87,18 +87,20 @@ fn sibling_join(
     ensures { λ r. ⌜ SiblingIn n before after below above r ⌝ }
 {
     let vars = tables::all(n);
-    let missing = neither(below, below);
+    let missing = neither(above, above);
     for y in 0..n {
         let p = before[y];
         let q = after[y];
         let s = (p | q) & vars;
-        let u = above[y];
-        let b = below[y];
-        let a = tables::lowest(tables::except(u & vars, b) & tables::meeting(missing, s));
-        if a < 16 {
-            let m = missing[a];
-            let x = tables::lowest(s & m);
-            return Found::One(JoinKind::Sibling, Var(y as u8), Var(a as u8), Var(x as u8));
+        if s != 0 {
+            let u = above[y];
+            let b = below[y];
+            let a = tables::lowest(tables::except(u & vars, b) & tables::union_rows(missing, s));
+            if a < 16 {
+                let v = below[a];
+                let x = tables::lowest(tables::except(s, v));
+                return Found::One(JoinKind::Sibling, Var(y as u8), Var(a as u8), Var(x as u8));
+            }
         }
     }
     Found::Nothing

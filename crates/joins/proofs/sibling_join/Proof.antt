@@ -1,18 +1,16 @@
 -- `joins::sibling_join` meets its contract: the loop has passed no y with a join of siblings.
 use mathlib.Core.Path.{subst}
+use mathlib.Core.Logic.{⊎-elim}
 use Prim.Native.Nat.{ℕ, _≤_, _-_}
 use native.Mathlib.Nat.{not-suc-le-zero}
 use lib.Bits.{bitAnd}
-use lib.ListN.{getD}
-use mir.Val.{Fits}
-use mir.Syntax.{w16}
 use borrow.Author.Needs.{needs}
 use Rattle.meaning.specs.FixedSearch.{sibling-join}
 use Rattle.tables.specs.Rows.{Lowest}
 use Rattle.tables.specs.declared.Facts.{Facts}
 use Rattle.joins.specs.Found.{joinOf, withBelow, withBefore}
 use Rattle.joins.proofs.First.{NoneBefore, none-more, none-first}
-use Rattle.joins.proofs.Siblings.{none-siblings, sibling-first}
+use Rattle.joins.proofs.Siblings.{none-alone, none-missing, sibling-first}
 use Rattle.joins.proofs.sibling_join.Statement.{statement}
 use Rattle.joins.proofs.sibling_join.Tie as tie
 
@@ -59,43 +57,46 @@ array-read-b c = search needs
 except-requires : tie.Need-except-requires Inv-loop μ-loop
 except-requires c κs = search needs
 
-meeting-requires : tie.Need-meeting-requires Inv-loop μ-loop
-meeting-requires c κs = search needs
+union-rows-requires : tie.Need-union-rows-requires Inv-loop μ-loop
+union-rows-requires c κs = search needs
 
 lowest-requires : tie.Need-lowest-requires Inv-loop μ-loop
 lowest-requires c κs = search needs
 
-mul-m : tie.Need-mul-m Inv-loop μ-loop
-mul-m c = search needs
+mul-v : tie.Need-mul-v Inv-loop μ-loop
+mul-v c = search needs
 
-array-read-m : tie.Need-array-read-m Inv-loop μ-loop
-array-read-m c = search needs
+array-read-v : tie.Need-array-read-v Inv-loop μ-loop
+array-read-v c = search needs
+
+except-requires-2 : tie.Need-except-requires-2 Inv-loop μ-loop
+except-requires-2 c κs = search needs
 
 lowest-requires-2 : tie.Need-lowest-requires-2 Inv-loop μ-loop
 lowest-requires-2 c κs = search needs
 
-cast-t44 : tie.Need-cast-t44 Inv-loop μ-loop
-cast-t44 c = search needs
+cast-t45 : tie.Need-cast-t45 Inv-loop μ-loop
+cast-t45 c = search needs
 
-cast-t46 : tie.Need-cast-t46 Inv-loop μ-loop
-cast-t46 c = search needs
+cast-t47 : tie.Need-cast-t47 Inv-loop μ-loop
+cast-t47 c = search needs
 
-cast-t48 : tie.Need-cast-t48 Inv-loop μ-loop
-cast-t48 c = search needs
+cast-t49 : tie.Need-cast-t49 Inv-loop μ-loop
+cast-t49 c = search needs
 
 returns : tie.Need-returns Inv-loop μ-loop
 unfolding joinOf
 returns c =
-    let t = c .before in
+    let t = c .before .before in
     let l = t .before in
-    let i = l .before .before .before in
+    let i = l .before .before .before .before in
     let m = i .before .before in
     let s = m .before .before in
-    let a-is = subst (λ (k : ℕ). Lowest (bitAnd k (l .before .meeting .result)) (l .lowest .result)) (l .before .before .except .ensures) (l .lowest .ensures) in
-    let h : Fits w16 (getD (m .neither .result) (l .lowest .result) 0) = search needs in
+    let a-is = subst (λ (k : ℕ). Lowest (bitAnd k (l .before .union-rows .result)) (l .lowest .result)) (l .before .before .except .ensures) (l .lowest .ensures) in
+    let x-is = subst (λ (k : ℕ). Lowest k (c .lowest2 .result)) (c .before .except2 .ensures) (c .lowest2 .ensures) in
     λ f.
-    sibling-first _ (s .pre) (withBefore (s .args .t1) (s .args .t2) (withBelow (s .args .t3) (s .args .t4) f)) _ (m .before .all .ensures) (m .neither .result) (m .neither .ensures) _ (i .loop-test .taken)
-    _ (l .before .meeting .ensures) _ a-is (t .if1 .taken) (h .fits) _ (c .lowest2 .ensures) (i .before .loop .inv .1 f)
+    sibling-first _ (s .pre) (withBefore (s .args .t1) (s .args .t2) (withBelow (s .args .t3) (s .args .t4) f)) _ (m .before .all .ensures) _ (i .loop-test .taken) (m .neither .result) (m .neither .ensures)
+    _ (l .before .union-rows .ensures) _ a-is (t .if2 .taken) _ x-is (i .before .loop .inv .1 f)
 
 add-y : tie.Need-add-y Inv-loop μ-loop
 add-y c = search needs
@@ -105,16 +106,18 @@ loop-less c = search needs
 
 loop-again : tie.Need-loop-again Inv-loop μ-loop
 loop-again c =
-    let l = c .before in
-    let i = l .before .before .before in
+    let i = c .before in
     let m = i .before .before in
-    let s = m .before .before in
-    let a-is = subst (λ (k : ℕ). Lowest (bitAnd k (l .before .meeting .result)) (l .lowest .result)) (l .before .before .except .ensures) (l .lowest .ensures) in (
+    let s = m .before .before in (
       search needs,
       λ f.
           let g = withBefore (s .args .t1) (s .args .t2) (withBelow (s .args .t3) (s .args .t4) f) in
           none-more sibling-join _ g _ (i .before .loop .inv .1 f)
-          (none-siblings _ (s .pre) g _ (m .before .all .ensures) (m .neither .result) (m .neither .ensures) _ (i .loop-test .taken) _ (l .before .meeting .ensures) _ a-is (c .if1 .left)),
+          (⊎-elim
+          (λ w. none-missing _ (s .pre) g _ (m .before .all .ensures) _ (i .loop-test .taken) (m .neither .result) (m .neither .ensures) _ (w .2 .ensures) _
+          (subst (λ (k : ℕ). Lowest (bitAnd k (w .2 .result)) (w .3 .result)) (w .1 .ensures) (w .3 .ensures)) (w .4 .left))
+          (λ w. none-alone _ (s .pre) g _ (m .before .all .ensures) _ (i .loop-test .taken) (w .left))
+          (c .if1 .came)),
     )
 
 returns-2 : tie.Need-returns-2 Inv-loop μ-loop
@@ -140,14 +143,15 @@ sibling-join-spec =
     mul-b
     array-read-b
     except-requires
-    meeting-requires
+    union-rows-requires
     lowest-requires
-    mul-m
-    array-read-m
+    mul-v
+    array-read-v
+    except-requires-2
     lowest-requires-2
-    cast-t44
-    cast-t46
-    cast-t48
+    cast-t45
+    cast-t47
+    cast-t49
     returns
     add-y
     loop-less
