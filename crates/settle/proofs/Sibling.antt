@@ -1,6 +1,6 @@
 -- The step for the rules of siblings: for every S that the tables are to settle from, what it adds is settled, and where it adds nothing those
 -- rules hold of the tables that came in.
-use mathlib.Core.Path.{_≡_, refl, sym, _∙_, subst}
+use mathlib.Core.Path.{_≡_, sym, _∙_, subst}
 use mathlib.Core.Logic.{_≢_, _⊎_, ⊎-elim}
 use mathlib.Core.Bool.{Bool, true, false, _||_, false≢true}
 use mathlib.Core.List.{List}

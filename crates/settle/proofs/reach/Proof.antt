@@ -1,5 +1,5 @@
 -- `settle::reach` meets its contract: z by z each row gains row z of b where the same row of a has z.
-use Prim.Native.Nat.{ℕ, _≤_, _<_, _-_}
+use Prim.Native.Nat.{_≤_, _-_}
 use lib.ListN.{getD}
 use mir.Val.{Fits}
 use mir.Syntax.{w16}
