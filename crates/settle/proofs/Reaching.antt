@@ -1,73 +1,67 @@
 -- What the helpers of the step of siblings compute, from what their loops know at the end, and what two or three of them make together.
-use mathlib.Core.Path.{_≡_, refl, sym, ap, _∙_, subst}
+use mathlib.Core.Path.{_≡_, refl, sym, _∙_, subst}
 use mathlib.Core.Logic.{_≢_, _⊎_, inl, inr, ⊎-elim}
 use mathlib.Core.Bool.{Bool, false, not}
 use mathlib.Core.List.{List}
 use Prim.Native.Nat.{ℕ, _+_, _<_, _≤_}
-use native.Mathlib.Nat.{le-trans, le-refl, not-suc-le-zero}
+use native.Mathlib.Nat.{le-trans, not-suc-le-zero}
 use native.Mathlib.Decide.{decLt, ℕ-discrete}
 use native.Mathlib.Omega.{arith}
 use lib.Dec.{eqb}
 use lib.Bits.{bitOr, bitXor, or-add-and, and-le-l, xor-self}
-use lib.ListN.{length, set, length-set}
-use lib.Seq.{getD-set-same, getD-set-other}
+use lib.ListN.{length}
 use Rattle.meaning.specs.Constraint.{Fact, child, below, before}
 use Rattle.meaning.specs.Settled.{Settled, before-chain, before-child, after-child, same-before, same-after}
 use Rattle.rowbits.specs.Bit.{bit}
 use Rattle.meaning.specs.Finite.{Yes}
 use Rattle.tables.specs.Tables.{row}
-use Rattle.tables.specs.Rows.{Up, Union}
-use Rattle.tables.proofs.Bits.{or-case, or-r, or-le, up-or, up-self, up-trans, xor-zero}
-use Rattle.tables.proofs.Loops.{below-cases}
+use Rattle.tables.specs.Rows.{Up, gained}
+use Rattle.tables.proofs.Bits.{or-le, up-self, up-trans, xor-zero, gained-up, gained-has, gained-case, in-row}
+use Rattle.tables.proofs.Loops.{below-cases, Rowing}
 use Rattle.tables.proofs.Tested.{not-eq, eq-not, not-yes}
 use Rattle.settle.specs.Rows.{ChainOf}
 use Rattle.settle.specs.Siblings.{In, Reached, Unlike, Ordered, PassedOn}
 
 -- ---- reach
 
--- v with what the rows of b hold that w names
-pub record Reach (b : List ℕ) (v w r : ℕ) : Type 0 where
-  pub more : ℕ
-  pub is-union : Union b w more
-  pub is-row : r ≡ bitOr v more
-
-pub record Reaching (t a b : List ℕ) (x : ℕ) (r : List ℕ) : Type 0 where
+-- through the numbers below z
+pub record Reaching (t a b : List ℕ) (z : ℕ) (r : List ℕ) : Type 0 where
   pub long : length r ≡ 16
-  pub done : (k : ℕ) → k < x → Reach b (row t k) (row a k) (row r k)
-  pub rest : (k : ℕ) → x ≤ k → row r k ≡ row t k
+  pub up : (x : ℕ) → Up (row t x) (row r x)
+  pub from : (x y : ℕ) → In r x y → In t x y ⊎ ((k : ℕ) × In a x k × In b k y)
+  pub to : (x k y : ℕ) → x < 16 → k < z → In a x k → In b k y → In r x y
 
 pub reaching-none : (t a b : List ℕ) → length t ≡ 16 → Reaching t a b 0 t
-reaching-none t a b h = record { long = h; done = λ k l. absurd (not-suc-le-zero l); rest = λ k l. refl }
+reaching-none t a b h = record { long = h; up = λ x. up-self _; from = λ x y u. inl u; to = λ x k y h l. absurd (not-suc-le-zero l) }
 
-pub reaching-more : (t a b : List ℕ) (x : ℕ) (r : List ℕ) (u : ℕ) → x < 16 → Union b (row a x) u → Reaching t a b x r → Reaching t a b (x + 1) (set r x (bitOr (row r x) u))
-reaching-more t a b x r u h w g = record {
-  long = length-set r x v ∙ g .long;
-  done = λ k l. ⊎-elim
-      (λ q. subst (λ (i : ℕ). Reach b (row t i) (row a i) (row (set r x v) i)) (sym q)
-      (record { more = u; is-union = w; is-row = getD-set-same r x v 0 (rw (g .long) h) ∙ ap (λ (i : ℕ). bitOr i u) (g .rest x (le-refl _)) }))
-      (λ m. subst (Reach b (row t k) (row a k)) (sym (getD-set-other r x k v 0 (λ q. omega arith))) (g .done k m)) (below-cases l);
-  rest = λ k l. getD-set-other r x k v 0 (λ q. omega arith) ∙ g .rest k (omega arith);
-}
-  where
-    v : ℕ
-    v = bitOr (row r x) u
+module _ (t a b : List ℕ) (z : ℕ) (r : List ℕ) (x : ℕ) (s : List ℕ) (h : 16 ≤ x) (l : x ≤ 16) (w : Rowing (λ k v. gained (bit (row a k) z) v (row b z)) 16 r x s) (g : Reaching t a b z r) where
+  one-up : (k : ℕ) → Up (row r k) (row s k)
+  one-up k = go (decLt k 16)
+    where
+      go : Dec (k < 16) → Up (row r k) (row s k)
+      go (yes q) = subst (Up (row r k)) (sym (w .done k (le-trans q h))) (gained-up _ _ _)
+      go (no q) = subst (Up (row r k)) (sym (w .rest k (omega arith))) (up-self _)
 
-pub reached : (t a b : List ℕ) (x : ℕ) (r : List ℕ) → 16 ≤ x → x ≤ 16 → Reaching t a b x r → Reached t a b r
-reached t a b x r h l g = record {
-  up = λ k. up k (decLt k 16);
-  from = λ k y u. from k y u (decLt k 16);
-  to = λ k z y q u v. let w = g .done k (le-trans q h) in subst (λ (i : ℕ). Yes (bit i y)) (sym (w .is-row)) (or-r (row t k) (w .more) y (w .is-union .to z y u v));
-}
-  where
-    up : (k : ℕ) → Dec (k < 16) → Up (row t k) (row r k)
-    up k (yes q) = subst (Up (row t k)) (sym (g .done k (le-trans q h) .is-row)) (up-or _ _)
-    up k (no q) = subst (Up (row t k)) (sym (g .rest k (omega arith))) (up-self _)
+  one-from : (k y : ℕ) → In s k y → Dec (k < 16) → In t k y ⊎ ((i : ℕ) × In a k i × In b i y)
+  one-from k y u (yes q) =
+      ⊎-elim (g .from k y) (λ v. inr (z, v .0, v .1)) (gained-case (bit (row a k) z) (row r k) (row b z) y (subst (λ (i : ℕ). Yes (bit i y)) (w .done k (le-trans q h)) u))
+  one-from k y u (no q) = g .from k y (subst (λ (i : ℕ). Yes (bit i y)) (w .rest k (omega arith)) u)
 
-    from : (k y : ℕ) → In r k y → Dec (k < 16) → In t k y ⊎ ((z : ℕ) × In a k z × In b z y)
-    from k y u (yes q) =
-        let w = g .done k (le-trans q h) in
-        ⊎-elim inl (λ v. inr (w .is-union .from y v)) (or-case (row t k) (w .more) y (subst (λ (i : ℕ). Yes (bit i y)) (w .is-row) u))
-    from k y u (no q) = inl (subst (λ (i : ℕ). Yes (bit i y)) (g .rest k (omega arith)) u)
+  here : (k i y : ℕ) → k < 16 → i ≡ z → In a k i → In b i y → In s k y
+  here k i y q e u v =
+      subst (λ (j : ℕ). Yes (bit j y)) (sym (w .done k (le-trans q h)))
+      (gained-has (bit (row a k) z) (row r k) (row b z) y (subst (λ (j : ℕ). In a k j) e u) (subst (λ (j : ℕ). In b j y) e v))
+
+  pub reaching-more : Reaching t a b (z + 1) s
+  reaching-more = record {
+    long = w .long;
+    up = λ k. up-trans (g .up k) (one-up k);
+    from = λ k y u. one-from k y u (decLt k 16);
+    to = λ k i y q m u v. ⊎-elim (λ e. here k i y q e u v) (λ n. one-up k .kept y (g .to k i y q n u v)) (below-cases m);
+  }
+
+pub reached : (t a b : List ℕ) (z : ℕ) (r : List ℕ) → 16 ≤ z → ((i : ℕ) → row a i < 65536) → Reaching t a b z r → Reached t a b r
+reached t a b z r h small g = record { up = g .up; from = g .from; to = λ x k y q u v. g .to x k y q (le-trans (in-row (row a x) k (small x) u) h) u v }
 
 -- ---- unlike
 

@@ -1,6 +1,6 @@
 -- The step for the rules of siblings: for every S that the tables are to settle from, what it adds is settled, and where it adds nothing those
 -- rules hold of the tables that came in.
-use mathlib.Core.Path.{_≡_, refl, sym, _∙_, subst}
+use mathlib.Core.Path.{_≡_, sym, _∙_, subst}
 use mathlib.Core.Logic.{_≢_, _⊎_, ⊎-elim}
 use mathlib.Core.Bool.{Bool, true, false, _||_, false≢true}
 use mathlib.Core.List.{List}
@@ -16,16 +16,16 @@ use Rattle.meaning.specs.Finite.{Yes, sum, pick}
 use Rattle.meaning.proofs.Finite.{sum-le, sum-lt}
 use Rattle.meaning.proofs.Least.{settled-within}
 use Rattle.rowbits.specs.Bit.{bit}
-use Rattle.tables.specs.Tables.{row, has, Sound, Seeded}
+use Rattle.tables.specs.Tables.{row, has, Columns, Sound, Seeded}
 use Rattle.tables.specs.Rows.{Up, Transposed, Common, United, Crossed}
 use Rattle.tables.specs.Free.{Clear}
 use Rattle.tables.specs.declared.Facts.{Facts}
 use Rattle.tables.proofs.Bits.{or-case, or-l, or-r, in-both, both-in, none-in}
 use Rattle.tables.proofs.Loops.{transposed-columns, zeros}
 use Rattle.tables.proofs.Tested.{or-yes, or-no}
-use Rattle.tables.proofs.Clashes.{crossed-clash, uncrossed-clear, clear-less}
+use Rattle.tables.proofs.Clashes.{crossed-clash, uncrossed-clear}
 use Rattle.settle.specs.Siblings.{In, Unlike, Ordered, PassedOn}
-use Rattle.settle.specs.Steps.{weight, SteppedOf, SiblingRules, Unmoved}
+use Rattle.settle.specs.Steps.{weight, SteppedOf, SiblingRules}
 
 short : (t : List ℕ) (x y : ℕ) → length t ≡ 16 → In t x y → x < 16
 short t x y e u = go (decLt x 16)
@@ -34,71 +34,38 @@ short t x y e u = go (decLt x 16)
     go (yes h) = h
     go (no h) = none-in y (subst (λ (k : ℕ). Yes (bit k y)) (List·getD-eq-default t 0 (omega arith)) u)
 
--- ---- the tables, with other columns of below: no fact is read off from them
-
-module _ (f : Facts) (above : List ℕ) where
-  abbrev turned : Facts
-  turned = record { child = f .child; parent = f .parent; below = f .below; above = above; differ = f .differ; before = f .before; after = f .after; root = f .root; label = f .label; leaf = f .leaf }
-
-  to-turned : (φ : Fact) → Yes (has f φ) → Yes (has turned φ)
-  unfolding has
-  to-turned (child x y) u = u
-  to-turned (below x y) u = u
-  to-turned (differ x y) u = u
-  to-turned (before x y) u = u
-  to-turned (root x) u = u
-  to-turned (leaf x) u = u
-  to-turned (label x l) u = u
-
-  from-turned : (φ : Fact) → Yes (has turned φ) → Yes (has f φ)
-  unfolding has
-  from-turned (child x y) u = u
-  from-turned (below x y) u = u
-  from-turned (differ x y) u = u
-  from-turned (before x y) u = u
-  from-turned (root x) u = u
-  from-turned (leaf x) u = u
-  from-turned (label x l) u = u
-
--- what the step knows of before and below
-pub record Crossing (n : ℕ) (f : Facts) (above : List ℕ) (r : Bool) : Type 0 where
+-- what the step knows of the tables that come in
+pub record Start (n : ℕ) (f : Facts) : Type 0 where
   pub few : n ≤ 16
-  pub columns : Transposed (f .below) above
-  pub crossed : Crossed (f .before) (f .below) above r
+  pub columns : Columns (f .below) (f .above)
 
-module _ {n : ℕ} {f : Facts} {above : List ℕ} {r : Bool} (o : Crossing n f above r) (S : List Fact) (seed : Seeded n S f) where
+module _ {n : ℕ} {f : Facts} (o : Start n f) {r : Bool} (t : Crossed (f .before) (f .below) (f .above) r) (S : List Fact) (seed : Seeded n S f) where
   within : (φ : Fact) → Yes (has f φ) → Within n φ
   within φ u = settled-within n S (seed .inside) (seed .sound φ u)
 
   crossed-out : r ≡ true → Clash n S
-  crossed-out e =
-      crossed-clash n (o .few) (turned f above) (transposed-columns (o .columns)) (λ φ u. within φ (from-turned f above φ u)) r (o .crossed)
-      S (λ φ u. seed .sound φ (from-turned f above φ u)) e
+  crossed-out e = crossed-clash n (o .few) f (o .columns) within r t S (seed .sound) e
 
   clear : r ≡ false → Clear (λ φ. Yes (has f φ))
-  clear e =
-      clear-less (to-turned f above)
-      (uncrossed-clear n (o .few) (turned f above) (transposed-columns (o .columns)) (λ φ u. within φ (from-turned f above φ u)) r (o .crossed) e)
+  clear e = uncrossed-clear n (o .few) f (o .columns) within r t e
 
 -- ---- what the step computed
 
-pub record Rowed (n : ℕ) (f : Facts) (above same befores afters childs : List ℕ) : Type 0 where
-  pub few : n ≤ 16
-  pub columns : Transposed (f .below) above
-  pub is-same : Common (f .below) above same
+pub record Rowed (n : ℕ) (f : Facts) (same befores afters childs : List ℕ) : Type 0 where
+  pub start : Start n f
+  pub is-same : Common (f .below) (f .above) same
   pub is-before : Ordered n (f .before) same befores
   pub is-after : Transposed befores afters
   pub is-child : PassedOn (f .child) befores afters childs
-  pub before-long : length befores ≡ 16
   pub after-long : length afters ≡ 16
 
-module _ {n : ℕ} {f : Facts} {above same befores afters childs : List ℕ} (o : Rowed n f above same befores afters childs) where
+module _ {n : ℕ} {f : Facts} {same befores afters childs : List ℕ} (o : Rowed n f same befores afters childs) where
   after-before : (x y : ℕ) → In afters y x → In befores x y
   after-before x y u = o .is-after .columns y (short afters y x (o .after-long) u) .from x u
 
   module _ (S : List Fact) (seed : Seeded n S f) where
     in-16 : {x : ℕ} → x < n → x < 16
-    in-16 h = le-trans h (o .few)
+    in-16 h = le-trans h (o .start .few)
 
     inside : (φ : Fact) → Settled n S φ → Within n φ
     inside φ s = settled-within n S (seed .inside) s
@@ -111,15 +78,16 @@ module _ {n : ℕ} {f : Facts} {above same befores afters childs : List ℕ} (o 
 
     same-s : (x y : ℕ) → In same x y → Settled n S (below x y) × Settled n S (below y x)
     same-s x y u =
-        let q = in-both (row (f .below) x) (row above x) y (subst (λ (k : ℕ). Yes (bit k y)) (o .is-same .rows x) u) in
+        let q = in-both (row (f .below) x) (row (f .above) x) y (subst (λ (k : ℕ). Yes (bit k y)) (o .is-same .rows x) u) in
         let a = below-s x y (q .0) in
-        (a, below-s y x (o .columns .columns x (in-16 (inside (below x y) a .0)) .from y (q .1)))
+        let i = inside (below x y) a in
+        (a, below-s y x (sym (o .start .columns y x (in-16 (i .1)) (in-16 (i .0))) ∙ q .1))
 
     same-in : (x y : ℕ) → In (f .below) x y → In (f .below) y x → In same x y
     same-in x y u v =
         let i = inside (below x y) (below-s x y u) in
         subst (λ (k : ℕ). Yes (bit k y)) (sym (o .is-same .rows x))
-        (both-in (row (f .below) x) (row above x) y u (o .columns .columns x (in-16 (i .0)) .to y (in-16 (i .1)) v))
+        (both-in (row (f .below) x) (row (f .above) x) y u (o .start .columns y x (in-16 (i .1)) (in-16 (i .0)) ∙ v))
 
     before-s : (x y : ℕ) → In befores x y → Settled n S (before x y)
     unfolding has
@@ -190,10 +158,10 @@ module _ {t more r : List ℕ} (w : United t more r) (x y : ℕ) where
   join-r : In more x y → In r x y
   join-r u = subst (λ (k : ℕ). Yes (bit k y)) (sym (w .rows x)) (or-r (row t x) (row more x) y u)
 
-module _ {n : ℕ} {f : Facts} {above same befores afters childs parents differs : List ℕ} (o : Rowed n f above same befores afters childs)
+module _ {n : ℕ} {f : Facts} {same befores afters childs parents differs : List ℕ} (o : Rowed n f same befores afters childs)
     (a : Added f befores afters childs parents differs) (S : List Fact) (seed : Seeded n S f) where
   abbrev g : Facts
-  g = record { child = childs; parent = parents; below = f .below; above = above; differ = differs; before = befores; after = afters; root = f .root; label = f .label; leaf = f .leaf }
+  g = record { child = childs; parent = parents; below = f .below; above = f .above; differ = differs; before = befores; after = afters; root = f .root; label = f .label; leaf = f .leaf }
 
   -- differ, by its parts
   pub data Apart (x y : ℕ) : Type 0 where
@@ -273,30 +241,30 @@ module _ {n : ℕ} {f : Facts} {above same befores afters childs parents differs
 
 -- ---- how the step ends
 
-pub ended-crossed : {n : ℕ} {f : Facts} {above : List ℕ} {r : Bool} → Crossing n f above r → r ≡ true
-    → SteppedOf (Unmoved (SiblingRules n) f) n f (record { clash = true; more = false; facts = f })
-ended-crossed o e = record {
-  clashes = λ d S seed. crossed-out o S seed e;
+pub ended-crossed : {n : ℕ} {f : Facts} → Start n f → {r : Bool} → Crossed (f .before) (f .below) (f .above) r → r ≡ true
+    → SteppedOf (λ g. SiblingRules n f) n f (record { clash = true; more = false; facts = f })
+ended-crossed o t e = record {
+  clashes = λ d S seed. crossed-out o t S seed e;
   seeded = λ d. absurd (false≢true (sym d));
   closed = λ d. absurd (false≢true (sym d));
   grown = λ d. absurd (false≢true (sym d));
 }
 
-module _ {n : ℕ} {f : Facts} {above same befores afters childs : List ℕ} {r b c : Bool} (o : Rowed n f above same befores afters childs)
-    (t : Crossing n f above r) (e : r ≡ false) (u : Unlike (f .before) befores b) (v : Unlike (f .child) childs c) where
-  pub ended-still : (b || c) ≡ false → SteppedOf (Unmoved (SiblingRules n) f) n f (record { clash = false; more = false; facts = f })
+module _ {n : ℕ} {f : Facts} {same befores afters childs : List ℕ} {r b c : Bool} (o : Rowed n f same befores afters childs)
+    (t : Crossed (f .before) (f .below) (f .above) r) (e : r ≡ false) (u : Unlike (f .before) befores b) (v : Unlike (f .child) childs c) where
+  pub ended-still : (b || c) ≡ false → SteppedOf (λ g. SiblingRules n f) n f (record { clash = false; more = false; facts = f })
   unfolding pick
   ended-still z = record {
     clashes = λ d. absurd (false≢true d);
     seeded = λ d S seed. seed;
-    closed = λ d m S seed. let q = or-no b c z in record { same = refl; holds = closed o S seed (u .none (q .0)) (v .none (q .1)) (clear t S seed e) };
+    closed = λ d m S seed. let q = or-no b c z in closed o S seed (u .none (q .0)) (v .none (q .1)) (clear (o .start) t S seed e);
     grown = λ d. omega arith;
   }
 
-  pub ended-more : {parents differs : List ℕ} → Added f befores afters childs parents differs → (b || c) ≡ true → SteppedOf (Unmoved (SiblingRules n) f) n f (record {
+  pub ended-more : {parents differs : List ℕ} → Added f befores afters childs parents differs → (b || c) ≡ true → SteppedOf (λ g. SiblingRules n f) n f (record {
     clash = false;
     more = true;
-    facts = record { child = childs; parent = parents; below = f .below; above = above; differ = differs; before = befores; after = afters; root = f .root; label = f .label; leaf = f .leaf };
+    facts = record { child = childs; parent = parents; below = f .below; above = f .above; differ = differs; before = befores; after = afters; root = f .root; label = f .label; leaf = f .leaf };
   })
   unfolding weight pick
   ended-more a z = record {

@@ -18,17 +18,12 @@ unfoldable pub weight : Facts → ℕ
 weight f = sum 16 (row (f .below)) + sum 16 (row (f .child)) + sum 16 (row (f .before))
 
 -- What a step makes of f, for every S that f is to settle from: a clash of S, or again tables to settle S from. With no more to add they have G,
--- the step's group of rules; else they have grown.
+-- the step's group of rules; else they have grown. A step after the pass has its group of f itself, so that what the pass closed stays closed.
 pub record SteppedOf (G : Facts → Type 0) (n : ℕ) (f : Facts) (r : Stepped) : Type 0 where
   pub clashes : r .clash ≡ true → (S : List Fact) → Seeded n S f → Clash n S
   pub seeded : r .clash ≡ false → (S : List Fact) → Seeded n S f → Seeded n S (r .facts)
   pub closed : r .clash ≡ false → r .more ≡ false → (S : List Fact) → Seeded n S f → G (r .facts)
   pub grown : r .clash ≡ false → weight f + pick (r .more) 1 0 ≤ weight (r .facts)
-
--- a step after the pass, with no more to add, gives back what came in, so that what the pass closed stays closed
-pub record Unmoved (G : Facts → Type 0) (f g : Facts) : Type 0 where
-  pub same : g ≡ f
-  pub holds : G f
 
 -- the group of a pass: the rules of sharing and that of one parent; nothing differs from itself, and `above` is right
 pub record PassRules (n : ℕ) (f : Facts) : Type 0 where

@@ -2,14 +2,14 @@
 ghost use mathlib.Core.Path.{_≡_};
 ghost use mathlib.Core.List.{List};
 ghost use Rattle.meaning.specs.Constraint.{Fact};
-ghost use Rattle.tables.specs.Tables.{Seeded};
+ghost use Rattle.tables.specs.Tables.{Columns, Seeded};
 ghost use Prim.Native.Nat.{_<_, _≤_};
 ghost use Rattle.meaning.specs.Finite.{pick};
 ghost use lib.Dec.{eqb};
 ghost use Rattle.settle.specs.Rows.{firstRow, Clashing, Grouped, ChainOf, Chained, GroupsOf, WholeGroups, JoinedOf};
 ghost use Rattle.settle.specs.Shares.{WithRows, WithGroup, SharedOf};
 ghost use Rattle.settle.specs.Siblings.{Reached, Unlike, Ordered, PassedOn};
-ghost use Rattle.settle.specs.Steps.{SteppedOf, PassRules, SiblingRules, Unmoved};
+ghost use Rattle.settle.specs.Steps.{SteppedOf, PassRules, SiblingRules};
 ghost use Rattle.settle.specs.Settling.{SettledOf};
 use tables::Facts;
 use tables::Settled;
@@ -304,10 +304,13 @@ fn reach(t: [u16; 16], a: [u16; 16], b: [u16; 16]) -> [u16; 16]
     ensures { λ r. ⌜ Reached t a b r ⌝ }
 {
     let mut r = t;
-    for x in 0usize..16 {
-        let v = r[x];
-        let w = a[x];
-        r[x] = v | tables::union_rows(b, w);
+    for z in 0usize..16 {
+        let by = b[z];
+        for x in 0usize..16 {
+            let v = r[x];
+            let w = a[x];
+            r[x] = tables::gain(rowbits::has(w, z), v, by);
+        }
     }
     r
 }
@@ -343,18 +346,18 @@ fn child_rows(child: [u16; 16], before: [u16; 16], after: [u16; 16]) -> [u16; 16
     reach(later, later, after)
 }
 
-// The step for the rules of siblings. Where it adds no fact the tables come back as they went in. The columns of below are made anew: a pass
-// with more leaves those of the rows before it joined any.
+// The step for the rules of siblings, where a pass has no more. Where it adds no fact the tables that came in have them.
 fn siblings(f: Facts, n: usize) -> Stepped
     requires { ⌜ n ≤ 16 ⌝ }
-    ensures { λ r. ⌜ SteppedOf (Unmoved (SiblingRules n) f) n f r ⌝ }
+    requires { ⌜ Columns (f .below) (f .above) ⌝ }
+    ensures { λ r. ⌜ SteppedOf (λ g. SiblingRules n f) n f r ⌝ }
 {
     let below = f.below;
     let befores = f.before;
     let childs = f.child;
     let differs = f.differ;
     let label = f.label;
-    let above = tables::transpose(below);
+    let above = f.above;
     if tables::crossed(befores, below, above) {
         return Stepped {
             clash: true,
@@ -395,8 +398,8 @@ fn siblings(f: Facts, n: usize) -> Stepped
     }
 }
 
-// The tables settled: rounds of the steps until none has more. With a clash the tables are those that came in. The step for siblings would give
-// tables without a before fact back; they are not copied for it.
+// The tables settled: passes until none has more, then the step for siblings, unless there are none, until that has no more. With a clash the
+// tables are those that came in.
 pub fn settle(f: Facts, n: usize) -> Settled
     requires { ⌜ n ≤ 16 ⌝ }
     requires { ⌜ ((S : List Fact) × Seeded n S f) ⌝ }
@@ -412,29 +415,29 @@ pub fn settle(f: Facts, n: usize) -> Settled
             };
         }
         g = p.facts;
+        if p.more {
+            continue;
+        }
         let before = g.before;
-        if unlike(before, [0; 16]) {
-            let s = siblings(g, n);
-            if s.clash {
-                return Settled {
-                    clash: true,
-                    facts: f,
-                };
-            }
-            g = s.facts;
-            if p.more | s.more {
-                continue;
-            }
+        if !unlike(before, [0; 16]) {
             return Settled {
                 clash: false,
                 facts: g,
             };
         }
-        if !p.more {
+        let s = siblings(g, n);
+        if s.clash {
+            return Settled {
+                clash: true,
+                facts: f,
+            };
+        }
+        if !s.more {
             return Settled {
                 clash: false,
                 facts: g,
             };
         }
+        g = s.facts;
     }
 }

@@ -3,50 +3,43 @@ use mathlib.Core.Path.{_≡_}
 use lib.ListN.{length}
 use borrow.Author.Needs.{needs}
 use borrow.Author.Tests.{not-true, not-false}
-use Rattle.settle.proofs.Sibling.{Crossing, Rowed, ended-crossed, ended-still, ended-more}
+use Rattle.settle.proofs.Sibling.{Start, Rowed, ended-crossed, ended-still, ended-more}
 use Rattle.settle.proofs.siblings.Statement.{statement}
 use Rattle.settle.proofs.siblings.Tie as tie
 
-abbrev start : tie.After-transpose → tie.Start
-start c = c .before .before .before .before .before .before
+abbrev first : tie.After-crossed → tie.Start
+first c = c .before .before .before .before .before .before .before
 
-crossing : (c : tie.After-crossed) → let a = start (c .before) in Crossing (a .args .n) (a .args .f) (c .before .transpose .result) (c .crossed .result)
-crossing c = record { few = start (c .before) .pre; columns = c .before .transpose .ensures; crossed = c .crossed .ensures }
+started : (c : tie.Start) → Start (c .args .n) (c .args .f)
+started c = record { few = c .pre .0; columns = c .pre .1 }
 
-before-long : (c : tie.After-order-rows) → length (c .order-rows .result) ≡ 16
-before-long c = search needs
-
-after-long : (c : tie.After-transpose2) → length (c .transpose2 .result) ≡ 16
+after-long : (c : tie.After-transpose) → length (c .transpose .result) ≡ 16
 after-long c = search needs
 
-parent-long : (c : tie.After-transpose3) → length (c .transpose3 .result) ≡ 16
+parent-long : (c : tie.After-transpose2) → length (c .transpose2 .result) ≡ 16
 parent-long c = search needs
 
-abbrev cross : tie.After-child-rows → tie.After-crossed
-cross c = c .before .before .before .before .before
+-- where before was looked at
+abbrev free : tie.After-child-rows → tie.Else1
+free c = c .before .before .before .before
 
 rowed : (c : tie.After-child-rows)
-    → let a = start (cross c .before) in
-    Rowed (a .args .n) (a .args .f) (cross c .before .transpose .result) (c .before .before .before .common .result) (c .before .before .order-rows .result) (c .before .transpose2 .result) (c .child-rows .result)
+    → let a = first (free c .before) in
+    Rowed (a .args .n) (a .args .f) (c .before .before .before .common .result) (c .before .before .order-rows .result) (c .before .transpose .result) (c .child-rows .result)
 rowed c = record {
-  few = start (cross c .before) .pre;
-  columns = cross c .before .transpose .ensures;
+  start = started (first (free c .before));
   is-same = c .before .before .before .common .ensures;
   is-before = c .before .before .order-rows .ensures;
-  is-after = c .before .transpose2 .ensures;
+  is-after = c .before .transpose .ensures;
   is-child = c .child-rows .ensures;
-  before-long = before-long (c .before .before);
   after-long = after-long (c .before);
 }
-
-transpose-requires : tie.Need-transpose-requires
-transpose-requires c κs = search needs
 
 crossed-requires : tie.Need-crossed-requires
 crossed-requires c κs = search needs
 
 returns : tie.Need-returns
-returns c = ended-crossed (crossing (c .before)) (c .if1 .taken)
+returns c = ended-crossed (started (first (c .before))) (c .before .crossed .ensures) (c .if1 .taken)
 
 common-requires : tie.Need-common-requires
 common-requires c κs = search needs
@@ -54,8 +47,8 @@ common-requires c κs = search needs
 order-rows-requires : tie.Need-order-rows-requires
 order-rows-requires c κs = search needs
 
-transpose-requires-2 : tie.Need-transpose-requires-2
-transpose-requires-2 c κs = search needs
+transpose-requires : tie.Need-transpose-requires
+transpose-requires c κs = search needs
 
 child-rows-requires : tie.Need-child-rows-requires
 child-rows-requires c κs = search needs
@@ -71,10 +64,10 @@ returns-2 c =
     let v = c .before in
     let u = v .before in
     let r = u .before in
-    ended-still (rowed r) (crossing (cross r)) (r .before .before .before .before .if1 .left) (u .unlike .ensures) (v .unlike2 .ensures) (not-true _ (c .if2 .taken))
+    ended-still (rowed r) (free r .before .crossed .ensures) (free r .if1 .left) (u .unlike .ensures) (v .unlike2 .ensures) (not-true _ (c .if2 .taken))
 
-transpose-requires-3 : tie.Need-transpose-requires-3
-transpose-requires-3 c κs = search needs
+transpose-requires-2 : tie.Need-transpose-requires-2
+transpose-requires-2 c κs = search needs
 
 either-requires : tie.Need-either-requires
 either-requires c κs = search needs
@@ -98,12 +91,12 @@ returns-3 c =
     let v = i .before in
     let u = v .before in
     let r = u .before in
-    ended-more (rowed r) (crossing (cross r)) (r .before .before .before .before .if1 .left) (u .unlike .ensures) (v .unlike2 .ensures)
+    ended-more (rowed r) (free r .before .crossed .ensures) (free r .if1 .left) (u .unlike .ensures) (v .unlike2 .ensures)
     (record {
       lines = e1 .either .result;
       orders = e2 .either2 .result;
       both = e3 .either3 .result;
-      is-parent = t .transpose3 .ensures;
+      is-parent = t .transpose2 .ensures;
       is-lines = e1 .either .ensures;
       is-orders = e2 .either2 .ensures;
       is-both = e3 .either3 .ensures;
@@ -116,17 +109,16 @@ pub siblings-spec : {M : Type 1} → statement M
 siblings-spec =
     tie.close
     (tie.spec
-    transpose-requires
     crossed-requires
     returns
     common-requires
     order-rows-requires
-    transpose-requires-2
+    transpose-requires
     child-rows-requires
     unlike-requires
     unlike-requires-2
     returns-2
-    transpose-requires-3
+    transpose-requires-2
     either-requires
     either-requires-2
     either-requires-3
