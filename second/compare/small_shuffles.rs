@@ -33,6 +33,7 @@ impl Comparison {
             &sibling_records(4),
             has_siblings,
         );
+        self.all_numbers_of_third_joins();
         self.all_orders_of_bad_records();
         self.all_small_answers_in_both_orders();
     }
@@ -59,6 +60,25 @@ impl Comparison {
                     }
                 }
             });
+        }
+    }
+
+    /// The order of third joins by y, then a, then x shows where two variables are above y and y has two siblings: of such questions every
+    /// renumbering.
+    fn all_numbers_of_third_joins(&mut self) {
+        let questions: [&[[u8; 4]]; 4] = [
+            &[[2, 1, 2, 0], [3, 2, 0, 0], [9, 0, 3, 0], [9, 0, 4, 0], [9, 2, 3, 0]],
+            &[[2, 1, 2, 0], [2, 2, 0, 0], [9, 0, 3, 0], [9, 4, 0, 0]],
+            &[[2, 1, 2, 0], [3, 0, 2, 0], [2, 4, 2, 0], [9, 0, 3, 0], [9, 2, 3, 0]],
+            &[[1, 0, 1, 0], [2, 2, 1, 0], [9, 3, 4, 0], [2, 1, 3, 0], [2, 2, 4, 0]],
+        ];
+        for question in questions {
+            let file = question.concat();
+            let verdict = second::solve(&file, LEAST_BUFFER, u32::MAX);
+            let solved = Solved { file, allowance: u32::MAX, verdict };
+            for numbers in permutations(5) {
+                self.hold_renumbered("renumberings of questions with third joins", &solved, &numbers);
+            }
         }
     }
 
