@@ -2,3 +2,4 @@ mod Find
 mod First
 mod Siblings
 mod Stages
+mod Lacks

@@ -17,10 +17,10 @@ use Rattle.meaning.proofs.Tests.{clash, and-left, and-right, and-both, or-left,
 use Rattle.theory.specs.Search.{isJoin, firstOf}
 use Rattle.rowbits.specs.Bit.{bit}
 use Rattle.tables.specs.Tables.{row, has, Ready}
-use Rattle.tables.specs.Rows.{Lowest, Union, without}
+use Rattle.tables.specs.Rows.{Lowest, without}
 use Rattle.tables.specs.declared.Facts.{Facts}
-use Rattle.tables.proofs.Bits.{in-both, both-in, or-l, or-r, or-case, without-in, without-out, flip-has, flip-not, none-in}
-use Rattle.joins.specs.Found.{Neither}
+use Rattle.tables.proofs.Bits.{or-l, or-r, or-case, without-in, without-out, none-in}
+use Rattle.joins.specs.Found.{Missing}
 use Rattle.joins.proofs.Find.{firstOf-is-some}
 use Rattle.joins.proofs.First.{NoneBefore, vars-in, vars-out, above-is, below-is}
 
@@ -80,47 +80,39 @@ module _ (n : ℕ) (small : n ≤ 16) (f : Facts) (vars : ℕ) (ev : vars ≡ 2 
   pub none-alone : s ≡ 0 → (S : List Fact) → Ready n S f → (i k : Var) → i < n → k < n → ¬ Yes (isJoin (has f) sibling-join y i k)
   none-alone e S r i k hi hk u = none-in k (subst (λ (j : ℕ). Yes (bit j k)) e (passed-x S r i k hi hk u))
 
-  module _ (missing : List ℕ) (em : Neither (f .above) (f .above) missing) (g : ℕ) (gp : Union missing s g)
-      (a : ℕ) (la : Lowest (bitAnd (without (bitAnd (row (f .above) y) vars) (row (f .below) y)) g) a) where
-    abbrev over : ℕ
-    over = without (bitAnd (row (f .above) y) vars) (row (f .below) y)
+  abbrev over : ℕ
+  over = without (bitAnd (row (f .above) y) vars) (row (f .below) y)
 
-    missing-in : (k i : Var) → k < 16 → i < 16 → ¬ Yes (bit (row (f .above) k) i) → Yes (bit (row missing k) i)
-    missing-in k i hk hi q = subst (λ (j : ℕ). Yes (bit j i)) (sym (em k hk)) (flip-has _ i hi (λ t. ⊎-elim q q (or-case _ _ i t)))
+  module _ (o : ℕ) (is-over : o ≡ over) (g : ℕ) (lacking : Missing (f .above) s o g) (a : ℕ) (la : Lowest g a) where
+    gp : Missing (f .above) s over g
+    gp = subst (λ (k : ℕ). Missing (f .above) s k g) is-over lacking
 
-    missing-out : (k i : Var) → k < 16 → i < 16 → Yes (bit (row missing k) i) → ¬ Yes (bit (row (f .above) k) i)
-    missing-out k i hk hi p t = flip-not _ i hi (subst (λ (j : ℕ). Yes (bit j i)) (em k hk) p) (or-l (row (f .above) k) (row (f .above) k) i t)
-
-    passed-a : (S : List Fact) (r : Ready n S f) (i k : Var) → i < n → k < n → Yes (isJoin (has f) sibling-join y i k) → Yes (bit (bitAnd over g) i)
+    passed-a : (S : List Fact) (r : Ready n S f) (i k : Var) → i < n → k < n → Yes (isJoin (has f) sibling-join y i k) → Yes (bit g i)
     passed-a S r i k hi hk u =
         let p = sibling-parts n small S f r y i k hy hi hk u in
-        both-in over g i (without-in _ _ i (le-trans hi small) (vars-in _ vars n i ev hi (p .above)) (p .not-below))
-        (gp .to k i (passed-x S r i k hi hk u) (missing-in k i (le-trans hk small) (le-trans hi small) (above-not n small S f r y i k hy hi hk (p .not-above))))
+        gp .to k i (passed-x S r i k hi hk u) (without-in _ _ i (le-trans hi small) (vars-in _ vars n i ev hi (p .above)) (p .not-below))
+        (above-not n small S f r y i k hy hi hk (p .not-above))
 
     pub none-missing : 16 ≤ a → (S : List Fact) → Ready n S f → (i k : Var) → i < n → k < n → ¬ Yes (isJoin (has f) sibling-join y i k)
     none-missing l S r i k hi hk u = la .none i (omega arith) (passed-a S r i k hi hk u)
 
     module _ (m : a < 16) (x : ℕ) (lx : Lowest (without s (row (f .below) a)) x) where
-      a-at : Yes (bit over a) × Yes (bit g a)
-      a-at = in-both over g a (la .this m)
-
       a-out : Yes (bit (bitAnd (row (f .above) y) vars) a) × (¬ Yes (bit (row (f .below) y) a))
-      a-out = without-out _ _ a m (a-at .0)
+      a-out = without-out _ _ a m (gp .from a (la .this m) .0)
 
       a-n : Yes (bit (row (f .above) y) a) × (a < n)
       a-n = vars-out _ vars n a ev (a-out .0)
 
       module _ (S : List Fact) (r : Ready n S f) where
         x-16 : x < 16
-        x-16 = go (gp .from a (a-at .1)) (decLt x 16)
+        x-16 = go (gp .from a (la .this m) .1) (decLt x 16)
           where
-            go : (i : ℕ) × Yes (bit s i) × Yes (bit (row missing i) a) → Dec (x < 16) → x < 16
+            go : (i : ℕ) × Yes (bit s i) × (¬ Yes (bit (row (f .above) i) a)) → Dec (x < 16) → x < 16
             go q (yes l) = l
             go q (no l) =
                 let hi : q .0 < n = vars-out (bitOr (row (f .before) y) (row (f .after) y)) vars n (q .0) ev (q .1) .1 in
                 let ki : q .0 < 16 = le-trans hi small in
-                absurd (lx .none (q .0) (omega arith)
-                (without-in s (row (f .below) a) (q .0) ki (q .1) (not-of-above n small S f r y a (q .0) hy (a-n .1) hi (missing-out (q .0) a ki m (q .2)))))
+                absurd (lx .none (q .0) (omega arith) (without-in s (row (f .below) a) (q .0) ki (q .1) (not-of-above n small S f r y a (q .0) hy (a-n .1) hi (q .2))))
 
         x-out : Yes (bit s x) × (¬ Yes (bit (row (f .below) a) x))
         x-out = without-out s (row (f .below) a) x x-16 (lx .this x-16)

@@ -5,6 +5,8 @@ use mathlib.Core.Option.{Option, none, some}
 use Prim.Native.Nat.{ℕ, _<_}
 use lib.Bits.{bitOr, bitXor}
 use Rattle.meaning.specs.Constraint.{Fact}
+use Rattle.meaning.specs.Finite.{Yes}
+use Rattle.rowbits.specs.Bit.{bit}
 use Rattle.meaning.specs.FixedSearch.{JoinKind, parent-join, chain-join, sibling-join, Join, join}
 use Rattle.theory.specs.Search.{isJoin, firstOf, firstJoin}
 use Rattle.tables.specs.Tables.{row, has, Ready}
@@ -26,6 +28,11 @@ joinOf (One k z x y) = some (join (kindOf k) (z .0) (x .0) (y .0))
 -- the rows of what is in neither of two tables
 abbrev pub Neither : List ℕ → List ℕ → List ℕ → Type 0
 Neither s t r = (x : ℕ) → x < 16 → row r x ≡ bitXor (bitOr (row s x) (row t x)) 65535
+
+-- what of a row is missing in one of the rows named
+pub record Missing (t : List ℕ) (rows of r : ℕ) : Type 0 where
+  pub from : (j : ℕ) → Yes (bit r j) → Yes (bit of j) × ((i : ℕ) × Yes (bit rows i) × (¬ Yes (bit (row t i) j)))
+  pub to : (i j : ℕ) → Yes (bit rows i) → Yes (bit of j) → ¬ Yes (bit (row t i) j) → Yes (bit r j)
 
 -- the first join of a kind, or nothing where there is none; so its variables are below n
 abbrev pub StageOf : JoinKind → ℕ → Facts → Found → Type 0

@@ -4,7 +4,7 @@ ghost use mathlib.Core.List.{List};
 ghost use Prim.Native.Nat.{_≤_};
 ghost use Rattle.meaning.specs.Constraint.{Fact};
 ghost use Rattle.tables.specs.Tables.{Ready};
-ghost use Rattle.joins.specs.Found.{Neither, ParentIn, ChainIn, SiblingIn, FoundOf};
+ghost use Rattle.joins.specs.Found.{Neither, Missing, ParentIn, ChainIn, SiblingIn, FoundOf};
 use ids::Var;
 use tables::Facts;
 
@@ -75,6 +75,21 @@ fn chain_join(below: [u16; 16], above: [u16; 16], n: usize) -> Found
     Found::Nothing
 }
 
+// What of a row is missing in one of the rows named.
+fn missing(t: [u16; 16], rows: u16, of: u16) -> u16
+    ensures { λ r. ⌜ Missing t rows of r ⌝ }
+{
+    let mut a: u16 = 0;
+    let mut left = rows;
+    while left != 0 {
+        let x = tables::lowest(left);
+        let v = t[x];
+        a = a | tables::except(of, v);
+        left = tables::rest(left);
+    }
+    a
+}
+
 // The first join of siblings: a is properly above y and missing above x, a sibling of y. Most variables have no siblings.
 fn sibling_join(
     before: [u16; 16],
@@ -87,7 +102,6 @@ fn sibling_join(
     ensures { λ r. ⌜ SiblingIn n before after below above r ⌝ }
 {
     let vars = tables::all(n);
-    let missing = neither(above, above);
     for y in 0..n {
         let p = before[y];
         let q = after[y];
@@ -95,7 +109,7 @@ fn sibling_join(
         if s != 0 {
             let u = above[y];
             let b = below[y];
-            let a = tables::lowest(tables::except(u & vars, b) & tables::union_rows(missing, s));
+            let a = tables::lowest(missing(above, s, tables::except(u & vars, b)));
             if a < 16 {
                 let v = below[a];
                 let x = tables::lowest(tables::except(s, v));

@@ -3,7 +3,6 @@ use mathlib.Core.Path.{subst}
 use mathlib.Core.Logic.{⊎-elim}
 use Prim.Native.Nat.{ℕ, _≤_, _-_}
 use native.Mathlib.Nat.{not-suc-le-zero}
-use lib.Bits.{bitAnd}
 use borrow.Author.Needs.{needs}
 use Rattle.meaning.specs.FixedSearch.{sibling-join}
 use Rattle.tables.specs.Rows.{Lowest}
@@ -15,17 +14,14 @@ use Rattle.joins.proofs.sibling_join.Statement.{statement}
 use Rattle.joins.proofs.sibling_join.Tie as tie
 
 abbrev Inv-loop : tie.InvT-loop
-Inv-loop n before after below above vars missing y₀ y =
+Inv-loop n before after below above vars y₀ y =
     (y ≤ n) × ((f : Facts) → NoneBefore sibling-join n (withBefore before after (withBelow below above f)) y)
 
 abbrev μ-loop : tie.MeasureT-loop
-μ-loop n before after below above vars missing y₀ y = n - y
+μ-loop n before after below above vars y₀ y = n - y
 
 all-requires : tie.Need-all-requires Inv-loop μ-loop
 all-requires c κs = search needs
-
-neither-requires : tie.Need-neither-requires Inv-loop μ-loop
-neither-requires c κs = search needs
 
 loop-holds : tie.Need-loop-holds Inv-loop μ-loop
 loop-holds c = (search needs, λ f S r k x y l. absurd (not-suc-le-zero l))
@@ -57,8 +53,8 @@ array-read-b c = search needs
 except-requires : tie.Need-except-requires Inv-loop μ-loop
 except-requires c κs = search needs
 
-union-rows-requires : tie.Need-union-rows-requires Inv-loop μ-loop
-union-rows-requires c κs = search needs
+missing-requires : tie.Need-missing-requires Inv-loop μ-loop
+missing-requires c κs = search needs
 
 lowest-requires : tie.Need-lowest-requires Inv-loop μ-loop
 lowest-requires c κs = search needs
@@ -75,14 +71,14 @@ except-requires-2 c κs = search needs
 lowest-requires-2 : tie.Need-lowest-requires-2 Inv-loop μ-loop
 lowest-requires-2 c κs = search needs
 
-cast-t45 : tie.Need-cast-t45 Inv-loop μ-loop
-cast-t45 c = search needs
+cast-t42 : tie.Need-cast-t42 Inv-loop μ-loop
+cast-t42 c = search needs
 
-cast-t47 : tie.Need-cast-t47 Inv-loop μ-loop
-cast-t47 c = search needs
+cast-t44 : tie.Need-cast-t44 Inv-loop μ-loop
+cast-t44 c = search needs
 
-cast-t49 : tie.Need-cast-t49 Inv-loop μ-loop
-cast-t49 c = search needs
+cast-t46 : tie.Need-cast-t46 Inv-loop μ-loop
+cast-t46 c = search needs
 
 returns : tie.Need-returns Inv-loop μ-loop
 unfolding joinOf
@@ -91,12 +87,11 @@ returns c =
     let l = t .before in
     let i = l .before .before .before .before in
     let m = i .before .before in
-    let s = m .before .before in
-    let a-is = subst (λ (k : ℕ). Lowest (bitAnd k (l .before .union-rows .result)) (l .lowest .result)) (l .before .before .except .ensures) (l .lowest .ensures) in
+    let s = m .before in
     let x-is = subst (λ (k : ℕ). Lowest k (c .lowest2 .result)) (c .before .except2 .ensures) (c .lowest2 .ensures) in
     λ f.
-    sibling-first _ (s .pre) (withBefore (s .args .t1) (s .args .t2) (withBelow (s .args .t3) (s .args .t4) f)) _ (m .before .all .ensures) _ (i .loop-test .taken) (m .neither .result) (m .neither .ensures)
-    _ (l .before .union-rows .ensures) _ a-is (t .if2 .taken) _ x-is (i .before .loop .inv .1 f)
+    sibling-first _ (s .pre) (withBefore (s .args .t1) (s .args .t2) (withBelow (s .args .t3) (s .args .t4) f)) _ (m .all .ensures) _ (i .loop-test .taken)
+    _ (l .before .before .except .ensures) _ (l .before .missing .ensures) _ (l .lowest .ensures) (t .if2 .taken) _ x-is (i .before .loop .inv .1 f)
 
 add-y : tie.Need-add-y Inv-loop μ-loop
 add-y c = search needs
@@ -108,21 +103,20 @@ loop-again : tie.Need-loop-again Inv-loop μ-loop
 loop-again c =
     let i = c .before in
     let m = i .before .before in
-    let s = m .before .before in (
+    let s = m .before in (
       search needs,
       λ f.
           let g = withBefore (s .args .t1) (s .args .t2) (withBelow (s .args .t3) (s .args .t4) f) in
           none-more sibling-join _ g _ (i .before .loop .inv .1 f)
           (⊎-elim
-          (λ w. none-missing _ (s .pre) g _ (m .before .all .ensures) _ (i .loop-test .taken) (m .neither .result) (m .neither .ensures) _ (w .2 .ensures) _
-          (subst (λ (k : ℕ). Lowest (bitAnd k (w .2 .result)) (w .3 .result)) (w .1 .ensures) (w .3 .ensures)) (w .4 .left))
-          (λ w. none-alone _ (s .pre) g _ (m .before .all .ensures) _ (i .loop-test .taken) (w .left))
+          (λ w. none-missing _ (s .pre) g _ (m .all .ensures) _ (i .loop-test .taken) _ (w .1 .ensures) _ (w .2 .ensures) _ (w .3 .ensures) (w .4 .left))
+          (λ w. none-alone _ (s .pre) g _ (m .all .ensures) _ (i .loop-test .taken) (w .left))
           (c .if1 .came)),
     )
 
 returns-2 : tie.Need-returns-2 Inv-loop μ-loop
 returns-2 c = λ f.
-    let s = c .before .before .before .before in
+    let s = c .before .before .before in
     none-first sibling-join _ (withBefore (s .args .t1) (s .args .t2) (withBelow (s .args .t3) (s .args .t4) f)) _ (c .loop-test .left) (c .before .loop .inv .1 f)
 
 pub sibling-join-spec : {M : Type 1} → statement M
@@ -132,7 +126,6 @@ sibling-join-spec =
     Inv-loop
     μ-loop
     all-requires
-    neither-requires
     loop-holds
     mul-p
     array-read-p
@@ -143,15 +136,15 @@ sibling-join-spec =
     mul-b
     array-read-b
     except-requires
-    union-rows-requires
+    missing-requires
     lowest-requires
     mul-v
     array-read-v
     except-requires-2
     lowest-requires-2
-    cast-t45
-    cast-t47
-    cast-t49
+    cast-t42
+    cast-t44
+    cast-t46
     returns
     add-y
     loop-less
