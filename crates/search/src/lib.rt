@@ -111,6 +111,11 @@ fn line(
     };
     let next = next_step(f, n);
     let Step::Split(first, second) = next else {
+        // Out of f: out of the parameters they would be copied once more at the start of every line.
+        let below = f.below;
+        let above = f.above;
+        let after = f.after;
+        let label = f.label;
         return Searched {
             end: End::Tree,
             count,

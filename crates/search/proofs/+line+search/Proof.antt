@@ -81,9 +81,10 @@ line-enum-told t c = search needs
 
 line-returns : (t : ℕ) → line-lts.Need-returns (claims t) (line-at t) line.Post
 line-returns t c =
-    let next = c .before .before in
+    let told = c .before .before .before .before in
+    let next = told .before .before in
     let start = next .before in
-    λ S w. line-solved _ _ _ S _ w (step-as (start .args .n) (tables t start) (c .enum-told .given .1) (next .next-step .ensures) S w) (start .pre .1 .0 .1) _ refl refl (tables t start, w)
+    λ S w. line-solved _ _ _ S _ w (step-as (start .args .n) (tables t start) (told .enum-told .given .1) (next .next-step .ensures) S w) (start .pre .1 .0 .1) _ refl refl (tables t start, w)
 
 line-without-tree-requires : (t : ℕ) → line-lts.Need-without-tree-requires (claims t) (line-at t) line.Post
 line-without-tree-requires t c κs = search needs
