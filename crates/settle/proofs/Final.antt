@@ -26,7 +26,7 @@ use Rattle.tables.proofs.Loops.{transposed-columns}
 use Rattle.tables.proofs.Labels.{label-has, label-is}
 use Rattle.tables.proofs.Groups as groups
 use Rattle.tables.proofs.Groups.{Twin, One, Two, Order, flip, alone, own, each, turn, embed-in, shared-sharing, shared-least, sharing-same}
-use Rattle.settle.specs.Rows.{GroupsOf, WholeGroups, JoinedOf}
+use Rattle.settle.specs.Rows.{In, GroupsOf, WholeGroups, JoinedOf}
 use Rattle.settle.specs.Shares.{shareAt, Source, ShareOf, GroupClash, two-labels, apart, SharedOf}
 use Rattle.settle.proofs.Weights.{bits-le}
 use Rattle.settle.specs.Steps.{weight, SteppedOf, PassRules}
@@ -35,9 +35,6 @@ use Rattle.settle.specs.declared.Share.{Share}
 use Rattle.settle.specs.declared.Shares.{Shares}
 use Rattle.settle.specs.declared.Shared.{Shared}
 use Rattle.settle.specs.declared.Joined.{Joined}
-
-abbrev In : List ℕ → ℕ → ℕ → Type 0
-In t x y = Yes (bit (row t x) y)
 
 -- the tables that f's groups share
 abbrev pub shares : Facts → Shares

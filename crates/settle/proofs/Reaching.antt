@@ -19,8 +19,8 @@ use Rattle.tables.specs.Rows.{Up, gained}
 use Rattle.tables.proofs.Bits.{or-le, up-self, up-trans, xor-zero, gained-up, gained-has, gained-case, in-row}
 use Rattle.tables.proofs.Loops.{below-cases, Rowing}
 use Rattle.tables.proofs.Tested.{not-eq, eq-not, not-yes}
-use Rattle.settle.specs.Rows.{ChainOf}
-use Rattle.settle.specs.Siblings.{In, Reached, Unlike, Ordered, PassedOn}
+use Rattle.settle.specs.Rows.{In, ChainOf}
+use Rattle.settle.specs.Siblings.{Reached, Unlike, Ordered, PassedOn}
 
 -- ---- reach
 

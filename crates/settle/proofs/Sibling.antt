@@ -24,7 +24,8 @@ use Rattle.tables.proofs.Bits.{or-case, or-l, or-r, in-both, both-in, none-in}
 use Rattle.tables.proofs.Loops.{transposed-columns, zeros}
 use Rattle.tables.proofs.Tested.{or-yes, or-no}
 use Rattle.tables.proofs.Clashes.{crossed-clash, uncrossed-clear}
-use Rattle.settle.specs.Siblings.{In, Unlike, Ordered, PassedOn}
+use Rattle.settle.specs.Rows.{In}
+use Rattle.settle.specs.Siblings.{Unlike, Ordered, PassedOn}
 use Rattle.settle.specs.Steps.{weight, SteppedOf, SiblingRules}
 
 short : (t : List ℕ) (x y : ℕ) → length t ≡ 16 → In t x y → x < 16

@@ -14,6 +14,10 @@ use Rattle.tables.specs.Rows.{Up, gained, Transposed, Common}
 use Rattle.settle.specs.declared.Groups.{Groups}
 use Rattle.settle.specs.declared.Joined.{Joined}
 
+-- y is in row x
+abbrev pub In : List ℕ → ℕ → ℕ → Type 0
+In t x y = Yes (bit (row t x) y)
+
 -- a row of below by the rules that look at no other row: itself, its children, and all if it is a root
 unfoldable pub firstRow : ℕ → ℕ → ℕ → ℕ → ℕ → ℕ
 firstRow b c roots x n = gained (bit roots x) (bitOr (bitOr b c) (2 ^ x)) (2 ^ n - 1)
@@ -36,8 +40,8 @@ pub record Lifted (t : List ℕ) (y : ℕ) (r : List ℕ) : Type 0 where
 pub record ChainOf (n : ℕ) (t r : List ℕ) : Type 0 where
   pub up : (x : ℕ) → Up (row t x) (row r x)
   pub sound : (S : List Fact) (fact : ℕ → ℕ → Fact) → ((x y z : ℕ) → Settled n S (fact x y) → Settled n S (fact y z) → Settled n S (fact x z))
-      → ((x y : ℕ) → Yes (bit (row t x) y) → Settled n S (fact x y)) → (x y : ℕ) → Yes (bit (row r x) y) → Settled n S (fact x y)
-  pub chained : (x y z : ℕ) → x < 16 → y < n → Yes (bit (row r x) y) → Yes (bit (row r y) z) → Yes (bit (row r x) z)
+      → ((x y : ℕ) → In t x y → Settled n S (fact x y)) → (x y : ℕ) → In r x y → Settled n S (fact x y)
+  pub chained : (x y z : ℕ) → x < 16 → y < n → In r x y → In r y z → In r x z
 
 -- the rows of below closed under the rules for itself, child, root and chain, and nothing that is not settled
 pub record Chained (n : ℕ) (t children : List ℕ) (roots : ℕ) (r : List ℕ) : Type 0 where

@@ -4,15 +4,11 @@ use mathlib.Core.Path.{_≡_}
 use mathlib.Core.Logic.{_≢_, _⊎_}
 use mathlib.Core.List.{List}
 use Prim.Native.Nat.{ℕ, _<_}
-use Rattle.meaning.specs.Finite.{Yes}
 use Rattle.meaning.specs.Constraint.{Fact, child, below, before}
 use Rattle.meaning.specs.Settled.{Settled}
-use Rattle.rowbits.specs.Bit.{bit}
 use Rattle.tables.specs.Tables.{row}
 use Rattle.tables.specs.Rows.{Up}
-
-abbrev pub In : List ℕ → ℕ → ℕ → Type 0
-In t x y = Yes (bit (row t x) y)
+use Rattle.settle.specs.Rows.{In}
 
 -- each row of t with what the rows of b hold that the same row of a names
 pub record Reached (t a b r : List ℕ) : Type 0 where

@@ -346,7 +346,8 @@ fn child_rows(child: [u16; 16], before: [u16; 16], after: [u16; 16]) -> [u16; 16
     reach(later, later, after)
 }
 
-// The step for the rules of siblings, where a pass has no more. Where it adds no fact the tables that came in have them.
+// The step for the rules of siblings, where a pass had no more, so that the columns of below are right. Where it adds no fact those rules hold
+// of the tables that came in.
 fn siblings(f: Facts, n: usize) -> Stepped
     requires { ⌜ n ≤ 16 ⌝ }
     requires { ⌜ Columns (f .below) (f .above) ⌝ }
