@@ -129,7 +129,7 @@ fn line(
         return without_tree(End::Spent, count);
     }
     let mut entered = enter::enter_below(f, n, first.upper, first.lower);
-    let ended = search(entered, n, allowance, count + 1);
+    let mut ended = search(entered, n, allowance, count + 1);
     let end = ended.end;
     let End::None = end else {
         return ended;
@@ -139,7 +139,8 @@ fn line(
         return without_tree(End::Spent, used);
     }
     entered = enter::enter_below(f, n, second.upper, second.lower);
-    search(entered, n, allowance, used + 1)
+    ended = search(entered, n, allowance, used + 1);
+    ended
 }
 
 // The search from what settling or entering an alternative answered, with so many alternatives entered before.
