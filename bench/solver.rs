@@ -273,8 +273,7 @@ impl<const K: usize> State<K> {
                     return Join::Chain(x, low(apart));
                 }
             }
-            // what is above these is above the variable just looked at
-            open &= !over;
+            open &= open - 1;
         }
         self.chain_open = 0;
         if K == 0 {
