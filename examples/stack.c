@@ -2,8 +2,7 @@
  * Measures stack. cudreth_solve: in a thread with the header's CUDRETH_STACK bytes, once without a choice, once with 105 alternatives
  * open at the end (15 variables above a sixteenth: one chain join for each pair) and once with 113, of joins of all three kinds. From
  * each of the two it tells what the most that can be open, n * (n - 1) = 240, would need, and fails if CUDRETH_STACK is not enough.
- * cudreth_paths: on the texts of 1,024 bytes that nest deepest or
- * go on longest, and fails if one needs more than CUDRETH_PATHS_STACK.
+ * cudreth_paths: on the texts of 1,024 bytes that nest deepest or go on longest, and fails if one needs more than CUDRETH_PATHS_STACK.
  */
 #define _POSIX_C_SOURCE 200809L
 #include <inttypes.h>

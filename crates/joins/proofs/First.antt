@@ -23,7 +23,7 @@ use Rattle.tables.specs.Rows.{Gathers, Lowest, meets, without}
 use Rattle.tables.specs.declared.Facts.{Facts}
 use Rattle.tables.proofs.Bits.{in-both, both-in, or-l, or-r, or-case, all-is, all-has, without-in, without-out, flip-has, flip-not, meets-in, meets-out}
 use Rattle.tables.proofs.Loops.{below-cases}
-use Rattle.joins.specs.Found.{joinOf, Neither, StageOf}
+use Rattle.joins.specs.Found.{joinOf, Incomparable, StageOf}
 use Rattle.joins.specs.declared.Found.the-variants.{Nothing}
 use Rattle.joins.proofs.Find.{firstOf-is-none, firstOf-is-some}
 
@@ -171,7 +171,7 @@ module _ (n : ℕ) (small : n ≤ 16) (f : Facts) (vars : ℕ) (ev : vars ≡ 2 
 
 -- ---- the chain joins at z
 
-module _ (n : ℕ) (small : n ≤ 16) (f : Facts) (vars : ℕ) (ev : vars ≡ 2 ^ n - 1) (incomparable : List ℕ) (ea : Neither (f .below) (f .above) incomparable) (z : Var) (hz : z < n)
+module _ (n : ℕ) (small : n ≤ 16) (f : Facts) (vars : ℕ) (ev : vars ≡ 2 ^ n - 1) (incomparable : List ℕ) (ea : Incomparable (f .below) (f .above) incomparable) (z : Var) (hz : z < n)
     (g : ℕ) (gp : Gathers (λ k. meets (row incomparable k) (bitAnd (row (f .above) z) vars)) g)
     (x : ℕ) (lx : Lowest (bitAnd (bitAnd (row (f .above) z) vars) g) x) where
   abbrev u : ℕ

@@ -25,9 +25,9 @@ unfoldable pub joinOf : Found → Option Join
 joinOf Nothing = none
 joinOf (One k z x y) = some (join (kindOf k) (z .0) (x .0) (y .0))
 
--- the rows of what is in neither of two tables
-abbrev pub Neither : List ℕ → List ℕ → List ℕ → Type 0
-Neither s t r = (x : ℕ) → x < 16 → row r x ≡ bitXor (bitOr (row s x) (row t x)) 65535
+-- the rows of the variables that are neither above nor below each
+abbrev pub Incomparable : List ℕ → List ℕ → List ℕ → Type 0
+Incomparable below above r = (x : ℕ) → x < 16 → row r x ≡ bitXor (bitOr (row below x) (row above x)) 65535
 
 -- what of a row is missing in one of the rows named
 pub record Missing (t : List ℕ) (rows of r : ℕ) : Type 0 where

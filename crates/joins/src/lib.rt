@@ -4,7 +4,7 @@ ghost use mathlib.Core.List.{List};
 ghost use Prim.Native.Nat.{_≤_};
 ghost use Rattle.meaning.specs.Constraint.{Fact};
 ghost use Rattle.tables.specs.Tables.{Ready};
-ghost use Rattle.joins.specs.Found.{Neither, Missing, ParentIn, ChainIn, SiblingIn, FoundOf};
+ghost use Rattle.joins.specs.Found.{Incomparable, Missing, ParentIn, ChainIn, SiblingIn, FoundOf};
 use ids::Var;
 use tables::Facts;
 
@@ -20,14 +20,14 @@ pub enum Found {
     One(JoinKind, Var, Var, Var),
 }
 
-// What is in neither of two tables, row by row: of below and above, the variables that are incomparable with each.
-fn neither(t: [u16; 16], u: [u16; 16]) -> [u16; 16]
-    ensures { λ r. ⌜ Neither t u r ⌝ }
+// The variables that are neither above nor below each.
+fn incomparable_rows(below: [u16; 16], above: [u16; 16]) -> [u16; 16]
+    ensures { λ r. ⌜ Incomparable below above r ⌝ }
 {
-    let mut a = t;
+    let mut a = below;
     for x in 0usize..16 {
         let v = a[x];
-        let w = u[x];
+        let w = above[x];
         a[x] = (v | w) ^ 65535;
     }
     a
@@ -61,7 +61,7 @@ fn chain_join(below: [u16; 16], above: [u16; 16], n: usize) -> Found
     ensures { λ r. ⌜ ChainIn n below above r ⌝ }
 {
     let vars = tables::all(n);
-    let apart = neither(below, above);
+    let apart = incomparable_rows(below, above);
     for z in 0..n {
         let v = above[z];
         let u = v & vars;

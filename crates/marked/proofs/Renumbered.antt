@@ -7,7 +7,7 @@ use lib.Dec.{eqb}
 use Rattle.meaning.specs.Tree.{Var}
 use Rattle.meaning.specs.Constraint.{named, vars}
 use Rattle.meaning.specs.Finite.{pick, _and_, _or_}
-use Rattle.meaning.specs.Files.{quads, judgePair, judgeRecord, before, judgeRecords, judge}
+use Rattle.meaning.specs.Files.{quads, judgePair, judgeRecord, withRest, judgeRecords, judge}
 use Rattle.meaning.specs.Shuffled.{Renumbering, renumberQuad, Renumbered}
 use Rattle.meaning.proofs.Tests.{pick-yes, pick-no, pick-either, pick-has, is-eq, self-eq}
 use Rattle.marked.specs.Renumbered.{swap, OwnN, Swapped, RowsRenumbered}
@@ -39,7 +39,7 @@ swapped : {n : ℕ} {i j : Var} {file other : List ℕ} → i < n → j < n → 
 swapped {n} {i} {j} k l o r = record { own = o; renumbering = swaps i j n k l; renumbered = r }
 
 pub rows-renumbered : RowsRenumbered
-unfolding quads renumberQuad swap pick _and_ _or_ judge judgeRecords before judgeRecord judgePair vars named
+unfolding quads renumberQuad swap pick _and_ _or_ judge judgeRecords withRest judgeRecord judgePair vars named
 rows-renumbered = record {
   N1-swapped = swapped (omega arith) (omega arith) (_, refl, refl) (record { whole = refl; other-whole = refl; renumbered = refl });
   N2-swapped = swapped (omega arith) (omega arith) (_, refl, refl) (record { whole = refl; other-whole = refl; renumbered = refl });

@@ -12,7 +12,7 @@ use lib.Dec.{leb, eqb}
 use Rattle.meaning.specs.Tree.{Var}
 use Rattle.meaning.specs.Constraint.{Constraint, is-child, is-below, is-strictly-below, is-same, is-differ, is-root, is-leaf, is-label, is-before, named, vars}
 use Rattle.meaning.specs.Finite.{Yes, pick, _and_}
-use Rattle.meaning.specs.Files.{Quad, quad, quads, Whole, quadOf, JudgedRecord, bad, good, judgePair, judgeSingle, judgeLabel, judgeRecord, Judged, refused, accepted, before, judgeRecords, Spells, judge}
+use Rattle.meaning.specs.Files.{Quad, quad, quads, Whole, quadOf, JudgedRecord, bad, good, judgePair, judgeSingle, judgeLabel, judgeRecord, Judged, refused, accepted, withRest, judgeRecords, Spells, judge}
 use Rattle.meaning.proofs.Tests.{and-left, and-right, and-both, pick-yes, pick-no, pick-has, is-eq, eq-yes, is-le, le-yes}
 use Rattle.meaning.proofs.Constraints.{OnLabelOf, vars-least}
 
@@ -162,8 +162,8 @@ abbrev ReadAll : List Quad → Judged → Type 0
 ReadAll qs (refused p) = Number p
 ReadAll qs (accepted cs) = RecordsOf qs cs
 
-before-read : (q : Quad) (qs : List Quad) (r : JudgedRecord) (j : Judged) → Read q r → ReadAll qs j → ReadAll (q ∷ qs) (before r j)
-unfolding before
+before-read : (q : Quad) (qs : List Quad) (r : JudgedRecord) (j : Judged) → Read q r → ReadAll qs j → ReadAll (q ∷ qs) (withRest r j)
+unfolding withRest
 before-read q qs (bad p) j f g = f
 before-read q qs (good c) (refused p) f g = g
 before-read q qs (good c) (accepted cs) f g = record {
@@ -180,7 +180,7 @@ records-read (k ∷ x ∷ y ∷ []) = refl
 records-read (k ∷ x ∷ y ∷ l ∷ bs) = before-read _ (quads bs) _ (judgeRecords bs) (record-read _) (records-read bs)
 
 records-accepted : (bs : List ℕ) (cs : List Constraint) → Whole bs → RecordsOf (quads bs) cs → judgeRecords bs ≡ accepted cs
-unfolding judgeRecords quads before
+unfolding judgeRecords quads withRest
 records-accepted [] [] w r = refl
 records-accepted [] (c ∷ cs) w r = let e = r .records in let z : _≡_ {A = ℕ} 0 1 = cc in absurd (omega arith)
 records-accepted (k ∷ []) cs w r = absurd (omega arith)
@@ -192,8 +192,8 @@ records-accepted (k ∷ x ∷ y ∷ l ∷ bs) (c ∷ cs) w r =
     let h : quadOf c ≡ quad k x y l = cc in
     let t : map quadOf cs ≡ quads bs = cc in
     let s : judgeRecord k x y l ≡ good c = subst (λ (q : Quad). Spells q c) h (spells c (r .askable c (List·Memᴰ·head refl))) in
-    ap (λ (j : JudgedRecord). before j (judgeRecords bs)) s
-    ∙ ap (before (good c)) (records-accepted bs cs (omega arith) (record { records = sym t; askable = λ d m. r .askable d (List·Memᴰ·tail m) }))
+    ap (λ (j : JudgedRecord). withRest j (judgeRecords bs)) s
+    ∙ ap (withRest (good c)) (records-accepted bs cs (omega arith) (record { records = sym t; askable = λ d m. r .askable d (List·Memᴰ·tail m) }))
 
 -- ---- the file
 

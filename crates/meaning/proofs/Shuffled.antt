@@ -12,7 +12,7 @@ use Rattle.meaning.specs.Constraint.{Constraint, is-child, is-below, is-
 use Rattle.meaning.specs.ReadOff.{NodeRecord, treeOf}
 use Rattle.meaning.specs.Demand.{Demand3}
 use Rattle.meaning.specs.Marking.{Mark, met, unmet, kind, further, Marks, all-met, not-met, is-met}
-use Rattle.meaning.specs.Files.{Quad, quads, Whole, quadOf, JudgedRecord, bad, good, judgeRecord, Spells, Judged, refused, accepted, before, judgeRecords, judge, JudgedAnswer, refused-answer, accepted-answer, judgeAnswer, assigned}
+use Rattle.meaning.specs.Files.{Quad, quads, Whole, quadOf, JudgedRecord, bad, good, judgeRecord, Spells, Judged, refused, accepted, withRest, judgeRecords, judge, JudgedAnswer, refused-answer, accepted-answer, judgeAnswer, assigned}
 use Rattle.meaning.specs.Results.{Solved, solver-answers, Marked, marker-refuses, marker-answers, written}
 use Rattle.meaning.specs.Promises.{SolverPromise, MarkerPromise}
 use Rattle.meaning.specs.Shuffled.{Reordered, AnotherOrder, FirstAt, FirstRefused, SameRoom, SameSolved, MetRecord, UnmetRecord, FirstUnmet, SameMarked}
@@ -79,14 +79,14 @@ first-further {P = P} {y = y} h f = record {
 }
 
 first-refused : (bs : List ℕ) (p : ℕ) → Whole bs → judgeRecords bs ≡ refused p → FirstRefused (quads bs) p
-unfolding judgeRecords quads before
+unfolding judgeRecords quads withRest
 first-refused [] p w e = absurd (accepted-not e)
 first-refused (k ∷ []) p w e = absurd (omega arith)
 first-refused (k ∷ x ∷ []) p w e = absurd (omega arith)
 first-refused (k ∷ x ∷ y ∷ []) p w e = absurd (omega arith)
 first-refused (k ∷ x ∷ y ∷ l ∷ bs) p w e = by (judgeRecord k x y l) (judgeRecords bs) refl refl e (λ d. first-refused bs p (omega arith) d)
   where
-    by : (r : JudgedRecord) (j : Judged) → judgeRecord k x y l ≡ r → judgeRecords bs ≡ j → before r j ≡ refused p
+    by : (r : JudgedRecord) (j : Judged) → judgeRecord k x y l ≡ r → judgeRecords bs ≡ j → withRest r j ≡ refused p
         → (judgeRecords bs ≡ refused p → FirstRefused (quads bs) p) → FirstRefused (quads (k ∷ x ∷ y ∷ l ∷ bs)) p
     by (bad q) j d f g h = (0, _, first-here, d ∙ ap bad (number-is g))
     by (good c) (accepted cs) d f g h = absurd (accepted-not g)

@@ -14,7 +14,7 @@ use Rattle.meaning.specs.Closed.{Within}
 use Rattle.meaning.proofs.Finite.{sum-le, one-le}
 use Rattle.meaning.proofs.Least.{settled-within}
 use Rattle.meaning.proofs.Tests.{clash, no-neg}
-use Rattle.tables.specs.Tables.{row, has, Columns}
+use Rattle.tables.specs.Tables.{row, has}
 use Rattle.tables.specs.Rows.{Union, Crossed, Blank}
 use Rattle.tables.specs.declared.Facts.{Facts}
 use Rattle.tables.proofs.Bits.{none-in, in-row}

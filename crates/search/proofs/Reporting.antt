@@ -6,7 +6,6 @@ use native.Mathlib.Decide.{decLe}
 use native.Mathlib.Omega.{arith}
 use Rattle.meaning.specs.Constraint.{Fact}
 use Rattle.meaning.specs.FixedSearch.{Outcome, in-none, in-tree}
-use Rattle.theory.specs.Search.{search}
 use Rattle.theory.proofs.Steps.{EndsAs}
 use Rattle.search.specs.Searching.{withoutTree, TreeRows, Reports, Report}
 use Rattle.search.specs.declared.End.{End}

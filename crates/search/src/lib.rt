@@ -139,6 +139,7 @@ fn line(
         return without_tree(End::Spent, used);
     }
     entered = enter::enter_below(f, n, second.upper, second.lower);
+    // one place for both answers: a second would be 96 bytes more of stack a level
     ended = search(entered, n, allowance, used + 1);
     ended
 }

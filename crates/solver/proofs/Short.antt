@@ -7,7 +7,7 @@ use native.Mathlib.Omega.{arith}
 use lib.ListN.{length}
 use Rattle.meaning.specs.Demand.{a-tree, a-none, a-spent}
 use Rattle.meaning.specs.Files.{Judged, refused, accepted, judge}
-use Rattle.meaning.specs.Results.{Solved, solver-refuses, solver-answers, told}
+use Rattle.meaning.specs.Results.{Solved, solver-refuses, solver-answers}
 use Rattle.theory.specs.Programs.{solver}
 use Rattle.solver.specs.Solving.{verdictOf, SolverOf}
 use Rattle.solver.specs.declared.Verdict.{Verdict}

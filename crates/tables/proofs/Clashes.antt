@@ -17,12 +17,6 @@ use Rattle.tables.specs.declared.Facts.{Facts}
 use Rattle.tables.specs.Free.{Clear, Free}
 use Rattle.tables.proofs.Labels.{label-is}
 
-pub clear-less : {P Q : Fact → Type 0} → ((φ : Fact) → Q φ → P φ) → Clear P → Clear Q
-clear-less to h = record { not-above = λ x y u v. h .not-above x y (to _ u) (to _ v); not-under = λ x y u v. h .not-under x y (to _ u) (to _ v) }
-
-pub free-less : {P Q : Fact → Type 0} → ((φ : Fact) → Q φ → P φ) → Free P → Free Q
-free-less to h = record { apart = λ x u. h .apart x (to _ u); clear = clear-less to (h .clear) }
-
 module _ (n : ℕ) (S : List Fact) (f : Facts) (d : Decides n S (has f)) where
   pub free-clash : Free (λ φ. Yes (has f φ)) → ¬ Clash n S
   free-clash h (differs {x} c) = h .apart x (d .complete c)

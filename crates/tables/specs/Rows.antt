@@ -6,7 +6,7 @@ use mathlib.Core.List.{List}
 use Prim.Native.Nat.{ℕ, _^_, _<_, _≤_}
 use lib.Dec.{eqb}
 use lib.Bits.{bitOr, bitAnd, bitXor}
-use Rattle.meaning.specs.Finite.{Yes, _and_, neg, pick}
+use Rattle.meaning.specs.Finite.{Yes, neg, pick}
 use Rattle.rowbits.specs.Bit.{bit}
 use Rattle.tables.specs.Tables.{row}
 

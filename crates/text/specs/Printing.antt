@@ -3,7 +3,7 @@ use mathlib.Core.Path.{_≡_}
 use mathlib.Core.List.{List, _++_}
 use Prim.Native.Nat.{ℕ}
 use lib.ListN.{length, drop, replicate}
-use Rattle.meaning.specs.Results.{Solved, Marked, written, pathsWrote}
+use Rattle.meaning.specs.Results.{written, pathsWrote}
 use Rattle.meaning.specs.Promises.{SolverPromise, MarkerPromise, PathsPromise}
 use Rattle.meaning.specs.Text.{solvedText, markedText, pathsText}
 use Rattle.theory.specs.Programs.{solver, marker}

@@ -8,14 +8,14 @@ use mir.Syntax.{w16}
 use borrow.Author.Needs.{needs}
 use Rattle.meaning.specs.FixedSearch.{chain-join}
 use Rattle.tables.specs.declared.Facts.{Facts}
-use Rattle.joins.specs.Found.{joinOf, Neither, withBelow}
+use Rattle.joins.specs.Found.{joinOf, Incomparable, withBelow}
 use Rattle.joins.proofs.First.{NoneBefore, none-more, none-first, none-apart, chain-first}
 use Rattle.joins.proofs.chain_join.Statement.{statement}
 use Rattle.joins.proofs.chain_join.Tie as tie
 
 abbrev Inv-loop : tie.InvT-loop
 Inv-loop n above vars incomparable z₀ z =
-    (z ≤ n) × ((below : List ℕ) → Neither below above incomparable → (f : Facts) → NoneBefore chain-join n (withBelow below above f) z)
+    (z ≤ n) × ((below : List ℕ) → Incomparable below above incomparable → (f : Facts) → NoneBefore chain-join n (withBelow below above f) z)
 
 abbrev μ-loop : tie.MeasureT-loop
 μ-loop n above vars incomparable z₀ z = n - z
@@ -23,8 +23,8 @@ abbrev μ-loop : tie.MeasureT-loop
 all-requires : tie.Need-all-requires Inv-loop μ-loop
 all-requires c κs = search needs
 
-neither-requires : tie.Need-neither-requires Inv-loop μ-loop
-neither-requires c κs = search needs
+incomparable-rows-requires : tie.Need-incomparable-rows-requires Inv-loop μ-loop
+incomparable-rows-requires c κs = search needs
 
 loop-holds : tie.Need-loop-holds Inv-loop μ-loop
 loop-holds c = (search needs, λ below a f S r k x y l. absurd (not-suc-le-zero l))
@@ -66,10 +66,10 @@ returns c =
     let i = l .before .before in
     let r = i .before .before in
     let s = r .before in
-    let h : Fits w16 (getD (r .neither .result) (l .lowest .result) 0) = search needs in
+    let h : Fits w16 (getD (r .incomparable-rows .result) (l .lowest .result) 0) = search needs in
     λ f.
-    chain-first _ (s .before .pre) (withBelow (s .before .args .below) (s .before .args .t2) f) _ (s .all .ensures) (r .neither .result) (r .neither .ensures) _ (i .loop-test .taken) _ (l .before .meeting .ensures)
-    _ (l .lowest .ensures) (c .before .if1 .taken) (h .fits) _ (c .lowest2 .ensures) (i .before .loop .inv .1 _ (r .neither .ensures) f)
+    chain-first _ (s .before .pre) (withBelow (s .before .args .below) (s .before .args .t2) f) _ (s .all .ensures) (r .incomparable-rows .result) (r .incomparable-rows .ensures) _ (i .loop-test .taken) _ (l .before .meeting .ensures)
+    _ (l .lowest .ensures) (c .before .if1 .taken) (h .fits) _ (c .lowest2 .ensures) (i .before .loop .inv .1 _ (r .incomparable-rows .ensures) f)
 
 add-z : tie.Need-add-z Inv-loop μ-loop
 add-z c = search needs
@@ -86,11 +86,11 @@ loop-again c =
       search needs,
       λ below a f.
           none-more chain-join _ _ _ (i .before .loop .inv .1 below a f)
-          (none-apart _ (s .before .pre) (withBelow below (s .before .args .t2) f) _ (s .all .ensures) (r .neither .result) a _ (i .loop-test .taken) _ (l .before .meeting .ensures) _ (l .lowest .ensures) (c .if1 .left)),
+          (none-apart _ (s .before .pre) (withBelow below (s .before .args .t2) f) _ (s .all .ensures) (r .incomparable-rows .result) a _ (i .loop-test .taken) _ (l .before .meeting .ensures) _ (l .lowest .ensures) (c .if1 .left)),
     )
 
 returns-2 : tie.Need-returns-2 Inv-loop μ-loop
-returns-2 c = λ f. none-first chain-join _ _ _ (c .loop-test .left) (c .before .loop .inv .1 _ (c .before .before .neither .ensures) f)
+returns-2 c = λ f. none-first chain-join _ _ _ (c .loop-test .left) (c .before .loop .inv .1 _ (c .before .before .incomparable-rows .ensures) f)
 
 pub chain-join-spec : {M : Type 1} → statement M
 chain-join-spec =
@@ -99,7 +99,7 @@ chain-join-spec =
     Inv-loop
     μ-loop
     all-requires
-    neither-requires
+    incomparable-rows-requires
     loop-holds
     mul-v
     array-read-v

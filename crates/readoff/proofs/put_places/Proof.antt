@@ -1,6 +1,6 @@
 -- `readoff::put_places` meets its contract: at x the places of the variables below x are written.
 use mathlib.Core.Path.{refl, ap}
-use mathlib.Core.List.{List, [], _∷_}
+use mathlib.Core.List.{[], _∷_}
 use Prim.Native.Nat.{ℕ, _+_, _≤_, _-_}
 use native.Mathlib.Omega.{arith}
 use Rattle.meaning.specs.ReadOff.{placeBytes}

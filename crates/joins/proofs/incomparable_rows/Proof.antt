@@ -1,4 +1,4 @@
--- `joins::neither` meets its contract: the loop has changed the rows below x.
+-- `joins::incomparable_rows` meets its contract: the loop has changed the rows below x.
 use mathlib.Core.Path.{refl}
 use Prim.Native.Nat.{_≤_, _-_}
 use native.Mathlib.Nat.{le-trans}
@@ -6,8 +6,8 @@ use lib.Bits.{bitOr, bitXor}
 use borrow.Author.Needs.{needs}
 use Rattle.tables.specs.Tables.{row}
 use Rattle.tables.proofs.Loops.{Rowing, rowing-none, rowing-more}
-use Rattle.joins.proofs.neither.Statement.{statement}
-use Rattle.joins.proofs.neither.Tie as tie
+use Rattle.joins.proofs.incomparable_rows.Statement.{statement}
+use Rattle.joins.proofs.incomparable_rows.Tie as tie
 
 abbrev Inv-loop : tie.InvT-loop
 Inv-loop u a₀ x₀ a x = (x ≤ 16) × Rowing (λ k v. bitXor (bitOr v (row u k)) 65535) 16 a₀ x a
@@ -48,8 +48,8 @@ loop-again c = (search needs, rowing-more _ _ _ _ _ _ (search needs) refl (c .be
 returns : tie.Need-returns Inv-loop μ-loop
 returns c = λ x h. c .before .loop .inv .1 .done x (le-trans h (c .loop-test .left))
 
-pub neither-spec : {M : Type 1} → statement M
-neither-spec =
+pub incomparable-rows-spec : {M : Type 1} → statement M
+incomparable-rows-spec =
     tie.close
     (tie.spec
     Inv-loop
