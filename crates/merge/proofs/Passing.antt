@@ -21,7 +21,7 @@ use Rattle.tables.proofs.Groups.{sharing-same, siblings-same}
 use Rattle.tables.proofs.Rises.{rises, raised-out, raised-in, columns-raised}
 use Rattle.tables.proofs.Wider.{Opening, Wider, wide-same, wide-sharing}
 use Rattle.merge.specs.Rows.{In, Kin, own, to-later, to-earlier}
-use Rattle.merge.specs.Merging.{Awaits, held, waits, Held, Pending, Through, Grouped, Passes}
+use Rattle.merge.specs.Merging.{Awaits, held, waits, Held, Pending, Through, Grouped, GivenToFamily}
 use Rattle.merge.proofs.Masks.{union-columns, columns-union}
 use Rattle.merge.proofs.Added.{Across, Added, Adding, added-sharing, added-siblings, added-parents}
 
@@ -102,7 +102,7 @@ module _ (n : ℕ) (T : List Fact) (group parents earlier later : ℕ) (f : Fact
 
   -- ---- the family
 
-  module _ (g : Facts) (q : Passes f group parents earlier later g) where
+  module _ (g : Facts) (q : GivenToFamily f group parents earlier later g) where
     abbrev K : Var → Type 0
     K = Kin (f .before) (f .after) group
 

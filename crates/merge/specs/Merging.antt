@@ -87,7 +87,7 @@ pub record SharesBefore (before after : List ℕ) (group earlier later : ℕ) (b
   pub shared-after : Spread after group earlier later a
 
 -- before chained through the group, and its parents given to its family, by rows
-pub record Passes (f : Facts) (group parents earlier later : ℕ) (r : Facts) : Type 0 where
+pub record GivenToFamily (f : Facts) (group parents earlier later : ℕ) (r : Facts) : Type 0 where
   pub parents-small : parents < 65536
   pub earlier-small : earlier < 65536
   pub later-small : later < 65536
@@ -117,7 +117,7 @@ pub record PassedOf (f : Facts) (group parents : ℕ) (r : Facts) : Type 0 where
   pub b : List ℕ
   pub a : List ℕ
   pub shares : SharesBefore (f .before) (f .after) group earlier later b a
-  pub passes : ((bitOr earlier later ≡ 0) × (r ≡ withSiblings f b a)) ⊎ Passes (withSiblings f b a) group parents earlier later r
+  pub passes : ((bitOr earlier later ≡ 0) × (r ≡ withSiblings f b a)) ⊎ GivenToFamily (withSiblings f b a) group parents earlier later r
 
 -- how many pairs a table lacks
 unfoldable pub lacking : List ℕ → ℕ

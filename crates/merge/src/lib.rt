@@ -5,7 +5,7 @@ ghost use Prim.Native.Nat.{_<_, _≤_, _^_};
 ghost use lib.Bits.{bitOr};
 ghost use Rattle.tables.specs.Rows.{Union};
 ghost use Rattle.merge.specs.Rows.{WithGap, LabelOf, TwoLabels, Painted, Spread, Family};
-ghost use Rattle.merge.specs.Merging.{UnifiedOf, Passes, PassedOf, RoundOf, Joining, MergedOf};
+ghost use Rattle.merge.specs.Merging.{UnifiedOf, GivenToFamily, PassedOf, RoundOf, Joining, MergedOf};
 use ids::Var;
 use tables::Facts;
 use tables::Settled;
@@ -205,8 +205,8 @@ fn family(before: [u16; 16], after: [u16; 16], group: u16) -> u16
 
 // Before chained through the group, and its parents given to its whole family: what is earlier than the group is before what is later, the
 // parents are parents of every member of the family, and so at or above all that is at or below one.
-fn order(f: Facts, group: u16, parents: u16, earlier: u16, later: u16) -> Facts
-    ensures { λ r. ⌜ Passes f group parents earlier later r ⌝ }
+fn to_family(f: Facts, group: u16, parents: u16, earlier: u16, later: u16) -> Facts
+    ensures { λ r. ⌜ GivenToFamily f group parents earlier later r ⌝ }
 {
     let below = f.below;
     let above = f.above;
@@ -256,7 +256,7 @@ fn pass_on(f: Facts, group: u16, parents: u16) -> Facts
     let mut g = f;
     g.before = new_before;
     g.after = new_after;
-    order(g, group, parents, earlier, later)
+    to_family(g, group, parents, earlier, later)
 }
 
 // One round: the variables of x become the same, and the next one is for the parents of their group, if they are not the same. In most sets

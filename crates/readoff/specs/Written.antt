@@ -4,7 +4,10 @@ use mathlib.Core.Logic.{_≢_}
 use mathlib.Core.List.{List, [], _∷_, _++_}
 use Prim.Native.Nat.{ℕ, _+_, _*_, _≤_, _<_}
 use lib.ListN.{length, getD, drop}
+use Rattle.meaning.specs.Constraint.{Fact}
 use Rattle.meaning.specs.ReadOff.{FactSet, NodeRecord, blankRecord, nodeBytes, placeBytes, answerFile}
+use Rattle.tables.specs.Tables.{has, showing, Ready}
+use Rattle.tables.specs.declared.Facts.{Facts}
 
 -- at each of the first k numbers stands its record, and no other record of the buffer changed
 pub record Recorded (number : ℕ → ℕ) (bytes : ℕ → List ℕ) (k : ℕ) (old new : List ℕ) : Type 0 where
@@ -28,3 +31,7 @@ pub record FileWritten (n : ℕ) (h : FactSet) (old : List ℕ) (r : ℕ) (new :
   pub size : r ≡ length (answerFile n h)
   pub bytes : new ≡ answerFile n h ++ drop (length (answerFile n h)) old
   pub most : r ≤ 132
+
+-- so of any settled set whose rows these are
+abbrev pub WrittenOf : (below above after label : List ℕ) → ℕ → List ℕ → ℕ → List ℕ → Type 0
+WrittenOf b a s l n old r new = (S : List Fact) (g : Facts) → Ready n S (showing b a s l g) → FileWritten n (has (showing b a s l g)) old r new

@@ -12,12 +12,12 @@ ghost use Rattle.meaning.specs.Constraint.{Fact};
 ghost use Rattle.meaning.specs.Finite.{_and_, position, tab};
 ghost use Rattle.rowbits.specs.Bit.{bit};
 ghost use Rattle.tables.specs.Rows.{without};
-ghost use Rattle.tables.specs.Tables.{row, has, showing, Ready};
+ghost use Rattle.tables.specs.Tables.{row, showing, Ready};
 ghost use Rattle.tables.specs.declared.Facts.{Facts};
 ghost use Rattle.readoff.specs.Rows.{Gathered, overRow, isLow, inLayer, near};
 ghost use Rattle.readoff.specs.Numbering.{frontOf, numbered, inFront};
 ghost use Rattle.readoff.specs.Listing.{groups, Small, Strict, Earliest, inLine, listed, Listed, Placed, Led, nodeNumbers, placeIn, parentIn, groupRecord};
-ghost use Rattle.readoff.specs.Written.{Recorded, Put, nodeRecord, placeRecord, FileWritten};
+ghost use Rattle.readoff.specs.Written.{Recorded, Put, nodeRecord, placeRecord, WrittenOf};
 use ids::Node;
 use ids::Var;
 
@@ -311,7 +311,7 @@ pub fn read_off(
     answer: &mut [u8],
 ) -> usize
     requires { ⌜ (n ≤ 16) × (132 ≤ length (now answer)) × ((S : List Fact) × (g : Facts) × Ready n S (showing below above after label g)) ⌝ }
-    ensures { λ r. ⌜ ((S : List Fact) (g : Facts) → Ready n S (showing below above after label g) → FileWritten n (has (showing below above after label g)) (now (answer .entry)) r (now (answer .exit))) ⌝ }
+    ensures { λ r. ⌜ WrittenOf below above after label n (now (answer .entry)) r (now (answer .exit)) ⌝ }
 {
     let low = lows(below, above, n);
     let layer = layers(below, above, low, n);

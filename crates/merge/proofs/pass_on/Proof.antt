@@ -38,8 +38,8 @@ spread-requires c κs = search needs
 spread-requires-2 : tie.Need-spread-requires-2
 spread-requires-2 c κs = search needs
 
-order-requires : tie.Need-order-requires
-order-requires c κs = search needs
+to-family-requires : tie.Need-to-family-requires
+to-family-requires c κs = search needs
 
 returns-2 : tie.Need-returns-2
 returns-2 c =
@@ -53,7 +53,7 @@ returns-2 c =
       b = _;
       a = _;
       shares = record { is-earlier = earlier .union-rows2 .ensures; is-later = later .union-rows .ensures; shared-before = before .spread .ensures; shared-after = after .spread2 .ensures };
-      passes = inr (c .order .ensures);
+      passes = inr (c .to-family .ensures);
     }
 
 pub pass-on-spec : {M : Type 1} → statement M
@@ -65,5 +65,5 @@ pass-on-spec =
     returns
     spread-requires
     spread-requires-2
-    order-requires
+    to-family-requires
     returns-2)

@@ -1,8 +1,8 @@
--- `merge::order` meets its contract: what its helpers ensure.
+-- `merge::to_family` meets its contract: what its helpers ensure.
 use mathlib.Core.Path.{refl}
 use borrow.Author.Needs.{needs}
-use Rattle.merge.proofs.order.Statement.{statement}
-use Rattle.merge.proofs.order.Tie as tie
+use Rattle.merge.proofs.to_family.Statement.{statement}
+use Rattle.merge.proofs.to_family.Tie as tie
 
 family-requires : tie.Need-family-requires
 family-requires c κs = search needs
@@ -75,8 +75,8 @@ returns c =
       label = refl;
     }
 
-pub order-spec : {M : Type 1} → statement M
-order-spec =
+pub to-family-spec : {M : Type 1} → statement M
+to-family-spec =
     tie.close
     (tie.spec
     family-requires
