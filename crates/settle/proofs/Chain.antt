@@ -15,7 +15,7 @@ use Rattle.tables.specs.Tables.{row}
 use Rattle.tables.specs.Rows.{Up, gained, without, Gathers, meets}
 use Rattle.tables.proofs.Loops.{below-cases, Rowing}
 use Rattle.tables.proofs.Bits.{or-l, or-r, or-case, up-or, up-self, up-trans, all-is, all-has, gained-up, gained-has, gained-case, one-is, one-has, without-in, in-row, meets-in, meets-out}
-use Rattle.settle.specs.Rows.{Lifted, ChainOf, Chained, WholeGroups, firstRow}
+use Rattle.settle.specs.Rows.{In, Lifted, Path, step, on, ChainOf, Chained, WholeGroups, firstRow}
 
 pub lifted : (t : List ℕ) (y x : ℕ) (r : List ℕ) → 16 ≤ x → x ≤ 16 → Rowing (λ k v. gained (bit v y) v (row t y)) 16 t x r → Lifted t y r
 lifted t y x r h h2 w = record { within = λ k l. w .done k (le-trans l h); beyond = λ k l. w .rest k (le-trans h2 l) }
@@ -41,17 +41,21 @@ first-case b c r x n i t =
 
 -- ---- rows chained
 
+-- what chains and holds of the rows holds of all that they reach
+pub reached-least : {t : List ℕ} (Q : ℕ → ℕ → Type 0) → ((x y z : ℕ) → Q x y → Q y z → Q x z) → ((x y : ℕ) → In t x y → Q x y) → {x y : ℕ} → Path t x y → Q x y
+reached-least Q c h (step u) = h _ _ u
+reached-least Q c h (on p q) = c _ _ _ (reached-least Q c h p) (reached-least Q c h q)
+
 -- Warshall's invariant: through the variables before y the rows are chained
-pub record Lifting (n : ℕ) (t : List ℕ) (y : ℕ) (a : List ℕ) : Type 0 where
+pub record Lifting (t : List ℕ) (y : ℕ) (a : List ℕ) : Type 0 where
   pub up : (x : ℕ) → Up (row t x) (row a x)
-  pub sound : (S : List Fact) (fact : ℕ → ℕ → Fact) → ((x k z : ℕ) → Settled n S (fact x k) → Settled n S (fact k z) → Settled n S (fact x z))
-      → ((x z : ℕ) → Yes (bit (row t x) z) → Settled n S (fact x z)) → (x z : ℕ) → Yes (bit (row a x) z) → Settled n S (fact x z)
+  pub from : (x z : ℕ) → In a x z → Path t x z
   pub chained : (x k z : ℕ) → x < 16 → k < 16 → k < y → Yes (bit (row a x) k) → Yes (bit (row a k) z) → Yes (bit (row a x) z)
 
-pub lifting-none : (n : ℕ) (t : List ℕ) → Lifting n t 0 t
-lifting-none n t = record { up = λ x. up-self _; sound = λ S fact c h. h; chained = λ x k z l i m. absurd (not-suc-le-zero m) }
+pub lifting-none : (t : List ℕ) → Lifting t 0 t
+lifting-none t = record { up = λ x. up-self _; from = λ x z. step; chained = λ x k z l i m. absurd (not-suc-le-zero m) }
 
-module _ (n : ℕ) (t : List ℕ) (y : ℕ) (a b : List ℕ) (hy : y < 16) (w : Lifted a y b) (g : Lifting n t y a) where
+module _ (t : List ℕ) (y : ℕ) (a b : List ℕ) (hy : y < 16) (w : Lifted a y b) (g : Lifting t y a) where
   one-up : (x : ℕ) → Up (row a x) (row b x)
   one-up x = go (decLt x 16)
     where
@@ -62,13 +66,12 @@ module _ (n : ℕ) (t : List ℕ) (y : ℕ) (a b : List ℕ) (hy : y < 16) (w : 
   one-case : (x z : ℕ) → x < 16 → Yes (bit (row b x) z) → Yes (bit (row a x) z) ⊎ (Yes (bit (row a x) y) × Yes (bit (row a y) z))
   one-case x z h u = gained-case _ _ _ z (subst (λ (k : ℕ). Yes (bit k z)) (w .within x h) u)
 
-  one-sound : (S : List Fact) (fact : ℕ → ℕ → Fact) → ((x k z : ℕ) → Settled n S (fact x k) → Settled n S (fact k z) → Settled n S (fact x z))
-      → ((x z : ℕ) → Yes (bit (row a x) z) → Settled n S (fact x z)) → (x z : ℕ) → Yes (bit (row b x) z) → Settled n S (fact x z)
-  one-sound S fact c s x z u = go (decLt x 16)
+  one-from : (x z : ℕ) → In b x z → Path t x z
+  one-from x z u = go (decLt x 16)
     where
-      go : Dec (x < 16) → Settled n S (fact x z)
-      go (yes h) = ⊎-elim (s x z) (λ v. c x y z (s x y (v .0)) (s y z (v .1))) (one-case x z h u)
-      go (no h) = s x z (subst (λ (k : ℕ). Yes (bit k z)) (w .beyond x (omega arith)) u)
+      go : Dec (x < 16) → Path t x z
+      go (yes h) = ⊎-elim (g .from x z) (λ v. on (g .from x y (v .0)) (g .from y z (v .1))) (one-case x z h u)
+      go (no h) = g .from x z (subst (λ (k : ℕ). Yes (bit k z)) (w .beyond x (omega arith)) u)
 
   through : (x z : ℕ) → x < 16 → Yes (bit (row a x) y) → Yes (bit (row a y) z) → Yes (bit (row b x) z)
   through x z h p q = subst (λ (k : ℕ). Yes (bit k z)) (sym (w .within x h)) (gained-has _ _ _ z p q)
@@ -87,15 +90,15 @@ module _ (n : ℕ) (t : List ℕ) (y : ℕ) (a b : List ℕ) (hy : y < 16) (w : 
       (λ u. ⊎-elim (λ v. through x z h (u .0) (g .chained y k z hy hk l (u .1) v)) (λ v. through x z h (u .0) (v .1)) (one-case k z hk q))
       (one-case x k h p)
 
-  pub lifting-more : Lifting n t (y + 1) b
+  pub lifting-more : Lifting t (y + 1) b
   lifting-more = record {
     up = λ x. up-trans (g .up x) (one-up x);
-    sound = λ S fact c s. one-sound S fact c (g .sound S fact c s);
+    from = one-from;
     chained = λ x k z h hk l. one-chained x k z h hk (below-cases l);
   }
 
-pub chain-of : (n : ℕ) → n ≤ 16 → (t : List ℕ) (y : ℕ) (r : List ℕ) → n ≤ y → Lifting n t y r → ChainOf n t r
-chain-of n small t y r hy g = record { up = g .up; sound = g .sound; chained = λ x k z h l. g .chained x k z h (omega arith) (omega arith) }
+pub chain-of : (n : ℕ) → n ≤ 16 → (t : List ℕ) (y : ℕ) (r : List ℕ) → n ≤ y → Lifting t y r → ChainOf n t r
+chain-of n small t y r hy g = record { up = g .up; from = g .from; chained = λ x k z h l. g .chained x k z h (omega arith) (omega arith) }
 
 -- ---- the rows of below
 
@@ -128,7 +131,7 @@ module _ (n : ℕ) (small : n ≤ 16) (t children : List ℕ) (roots x : ℕ) (a
   pub chained-rows : Chained n t children roots r
   chained-rows = record {
     up = λ k. up-trans (firsts-up k) (g .up k);
-    sound = λ S s c d. g .sound S below (λ x y z. chain) (firsts-sound S s c d);
+    sound = λ S s c d x y u. reached-least (λ i j. Settled n S (below i j)) (λ i j k. chain) (firsts-sound S s c d) (g .from x y u);
     itself = λ k h. into k k h (inr (inl refl));
     parent = λ k i h u. into k i h (inl u);
     rooted = λ k i h u l. into k i h (inr (inr (u, l)));

@@ -1,4 +1,4 @@
--- The end of settling: where no step has more to add, the groups of rules of the steps are together all rules, so the tables decide the settled set.
+-- The end of settling: the rules that a pass closed and those of siblings are together all rules, so the tables decide the settled set.
 use mathlib.Core.Path.{_≡_, subst}
 use mathlib.Core.Bool.{Bool, true, false}
 use mathlib.Core.List.{List}
@@ -13,8 +13,9 @@ use Rattle.theory.proofs.Closure.{rules-decide}
 use Rattle.tables.specs.Tables.{row, has, Seeded, Ready}
 use Rattle.tables.specs.declared.Facts.{Facts}
 use Rattle.tables.proofs.Clashes.{free-clash}
-use Rattle.settle.specs.Steps.{weight, SteppedOf, PassRules, SiblingRules}
+use Rattle.settle.specs.Steps.{weight, SteppedOf, PassRules}
 use Rattle.settle.specs.declared.Stepped.{Stepped}
+use Rattle.settle.proofs.Sibling.{SiblingRules}
 
 module _ (n : ℕ) (S : List Fact) (f : Facts) (seed : Seeded n S f) (passed : PassRules n f) (ordered : SiblingRules n f) where
   rules : Rules n (λ φ. Yes (has f φ))

@@ -1,4 +1,4 @@
--- What the helpers of the step of siblings compute, from what their loops know at the end, and what two or three of them make together.
+-- What the helpers for siblings compute, from what their loops know at the end, and what two or three of them make together.
 use mathlib.Core.Path.{_≡_, refl, sym, _∙_, subst}
 use mathlib.Core.Logic.{_≢_, _⊎_, inl, inr, ⊎-elim}
 use mathlib.Core.Bool.{Bool, false, not}
@@ -10,17 +10,18 @@ use native.Mathlib.Omega.{arith}
 use lib.Dec.{eqb}
 use lib.Bits.{bitOr, bitXor, or-add-and, and-le-l, xor-self}
 use lib.ListN.{length}
-use Rattle.meaning.specs.Constraint.{Fact, child, below, before}
+use Rattle.meaning.specs.Constraint.{Fact, below, before}
 use Rattle.meaning.specs.Settled.{Settled, before-chain, before-child, after-child, same-before, same-after}
 use Rattle.rowbits.specs.Bit.{bit}
 use Rattle.meaning.specs.Finite.{Yes}
 use Rattle.tables.specs.Tables.{row}
-use Rattle.tables.specs.Rows.{Up, gained}
-use Rattle.tables.proofs.Bits.{or-le, up-self, up-trans, xor-zero, gained-up, gained-has, gained-case, in-row}
+use Rattle.tables.specs.Rows.{Up, United, gained}
+use Rattle.tables.proofs.Bits.{or-case, or-l, or-r, or-le, none-in, up-self, up-trans, xor-zero, gained-up, gained-has, gained-case, in-row}
 use Rattle.tables.proofs.Loops.{below-cases, Rowing}
 use Rattle.tables.proofs.Tested.{not-eq, eq-not, not-yes}
-use Rattle.settle.specs.Rows.{In, ChainOf}
-use Rattle.settle.specs.Siblings.{Reached, Unlike, Ordered, PassedOn}
+use Rattle.settle.specs.Rows.{In, Grouped, Path, step, on, ChainOf}
+use Rattle.settle.specs.Siblings.{Reached, Unlike, Groupwise, Ordered, PassedOn, Parted}
+use Rattle.settle.proofs.Chain.{reached-least}
 
 -- ---- reach
 
@@ -107,7 +108,45 @@ compared t u x any h l w r e = record {
 
 -- ---- before shared and chained
 
-module _ (n : ℕ) (t same lasts firsts r : List ℕ) (a : Reached t t same lasts) (b : Reached lasts same lasts firsts) (c : ChainOf n firsts r) where
+-- rows that are shared stay so when they are chained
+module _ {n : ℕ} {t r : List ℕ} (small : n ≤ 16) (c : ChainOf n t r) (few : (x y : ℕ) → In t x y → (x < n) × (y < n)) where
+  path-few : {x y : ℕ} → Path t x y → (x < n) × (y < n)
+  path-few (step u) = few _ _ u
+  path-few (on p q) = (path-few p .0, path-few q .1)
+
+  path-in : {x y : ℕ} → Path t x y → In r x y
+  path-in (step u) = c .up _ .kept _ u
+  path-in (on p q) = let h = path-few p in c .chained _ _ _ (le-trans (h .0) small) (h .1) (path-in p) (path-in q)
+
+  path-first : {x y : ℕ} (u : ℕ) → u < 16 → ((z : ℕ) → In t x z → In t u z) → Path t x y → In r u y
+  path-first u h e (step v) = c .up _ .kept _ (e _ v)
+  path-first u h e (on p q) = c .chained _ _ _ h (path-few p .1) (path-first u h e p) (path-in q)
+
+  path-last : {x y : ℕ} (u : ℕ) → ((z : ℕ) → In t z y → In t z u) → Path t x y → In r x u
+  path-last u e (step v) = c .up _ .kept _ (e _ v)
+  path-last u e (on p q) = let h = path-few p in c .chained _ _ _ (le-trans (h .0) small) (h .1) (path-in p) (path-last u e q)
+
+chained-sound : {n : ℕ} {t r : List ℕ} → ChainOf n t r → (S : List Fact) → ((x y : ℕ) → In t x y → Settled n S (before x y)) → (x y : ℕ) → In r x y → Settled n S (before x y)
+chained-sound {n} c S s x y u = reached-least (λ i j. Settled n S (before i j)) (λ i j k. before-chain) s (c .from x y u)
+
+-- where each variable is alone in its group
+pub ordered-alone : {n : ℕ} {t same r : List ℕ} {several : ℕ} → n ≤ 16 → Grouped same several → several ≡ 0 → ChainOf n t r → Ordered n t same r
+ordered-alone {n} {t} {same} {several = several} small g z c = record {
+  up = c .up;
+  sound = λ S s e. chained-sound c S s;
+  firsts = λ w few x y u e v. path-first small c few u (le-trans (w .few u x e .0) small) (λ k. subst (λ (i : ℕ). In t i k) (sym (is w u x e))) (c .from x y v);
+  lasts = λ w few x y u e v. path-last small c few u (λ k. subst (λ (i : ℕ). In t k i) (is w y u e)) (c .from x y v);
+  chained = c .chained;
+}
+  where
+    is : Groupwise n same → (x y : ℕ) → In same x y → x ≡ y
+    is w x y e = go (ℕ-discrete y x)
+      where
+        go : Dec (y ≡ x) → x ≡ y
+        go (yes i) = sym i
+        go (no i) = let h = w .few x y e in none-in y (subst (λ (k : ℕ). Yes (bit k y)) z (g .has x y (le-trans (h .0) small) (le-trans (h .1) small) i e))
+
+module _ {n : ℕ} {t same lasts firsts r : List ℕ} (small : n ≤ 16) (a : Reached t t same lasts) (b : Reached lasts same lasts firsts) (c : ChainOf n firsts r) where
   module _ (S : List Fact) (s : (x y : ℕ) → In t x y → Settled n S (before x y)) (e : (x y : ℕ) → In same x y → Settled n S (below x y) × Settled n S (below y x)) where
     lasts-s : (x y : ℕ) → In lasts x y → Settled n S (before x y)
     lasts-s x y u = ⊎-elim (s x y) (λ w. let q = e (w .0) y (w .2) in same-after (q .0) (q .1) (s x (w .0) (w .1))) (a .from x y u)
@@ -115,26 +154,60 @@ module _ (n : ℕ) (t same lasts firsts r : List ℕ) (a : Reached t t same last
     firsts-s : (x y : ℕ) → In firsts x y → Settled n S (before x y)
     firsts-s x y u = ⊎-elim (lasts-s x y) (λ w. let q = e x (w .0) (w .1) in same-before (q .1) (q .0) (lasts-s (w .0) y (w .2))) (b .from x y u)
 
+  module _ (w : Groupwise n same) (few : (x y : ℕ) → In t x y → (x < n) × (y < n)) where
+    lasts-few : (x y : ℕ) → In lasts x y → (x < n) × (y < n)
+    lasts-few x y u = ⊎-elim (few x y) (λ v. (few x (v .0) (v .1) .0, w .few (v .0) y (v .2) .1)) (a .from x y u)
+
+    firsts-few : (x y : ℕ) → In firsts x y → (x < n) × (y < n)
+    firsts-few x y u = ⊎-elim (lasts-few x y) (λ v. (w .few x (v .0) (v .1) .0, lasts-few (v .0) y (v .2) .1)) (b .from x y u)
+
+    -- the first reach shares the last place, the second the first
+    lasts-last : (x y u : ℕ) → In same y u → In lasts x y → In lasts x u
+    lasts-last x y u e v =
+        let h = le-trans (lasts-few x y v .0) small in
+        ⊎-elim (λ p. a .to x y u h p e) (λ p. a .to x (p .0) u h (p .1) (w .chain (p .0) y u (p .2) e)) (a .from x y v)
+
+    firsts-last : (x y u : ℕ) → In same y u → In firsts x y → In firsts x u
+    firsts-last x y u e v =
+        ⊎-elim (λ p. b .up x .kept u (lasts-last x y u e p))
+        (λ p. b .to x (p .0) u (le-trans (w .few x (p .0) (p .1) .0) small) (p .1) (lasts-last (p .0) y u e (p .2))) (b .from x y v)
+
+    firsts-first : (x y u : ℕ) → In same u x → In firsts x y → In firsts u y
+    firsts-first x y u e v =
+        let h = le-trans (w .few u x e .0) small in
+        ⊎-elim (λ p. b .to u x y h e p) (λ p. b .to u (p .0) y h (w .chain u x (p .0) e (p .1)) (p .2)) (b .from x y v)
+
   pub ordered : Ordered n t same r
   ordered = record {
     up = λ x. up-trans (a .up x) (up-trans (b .up x) (c .up x));
-    sound = λ S s e. c .sound S before (λ x y z. before-chain) (firsts-s S s e);
-    firsts = λ x y u h e v. c .up u .kept y (b .to u x y h e (a .up x .kept y v));
-    lasts = λ x y u h e v. c .up x .kept u (b .up x .kept u (a .to x y u h v e));
+    sound = λ S s e. chained-sound c S (firsts-s S s e);
+    firsts = λ w few x y u e v. path-first small c (firsts-few w few) u (le-trans (w .few u x e .0) small) (λ k. firsts-first w few x k u e) (c .from x y v);
+    lasts = λ w few x y u e v. path-last small c (firsts-few w few) u (λ k. firsts-last w few k y u e) (c .from x y v);
     chained = c .chained;
   }
 
+-- ---- two tables as one
+
+module _ {t more r : List ℕ} (w : United t more r) (x y : ℕ) where
+  joined : In r x y → In t x y ⊎ In more x y
+  joined u = or-case (row t x) (row more x) y (subst (λ (k : ℕ). Yes (bit k y)) (w .rows x) u)
+
+  join : In t x y ⊎ In more x y → In r x y
+  join u = subst (λ (k : ℕ). Yes (bit k y)) (sym (w .rows x)) (⊎-elim (or-l (row t x) (row more x) y) (or-r (row t x) (row more x) y) u)
+
+pub parted : {t rows columns lines r : List ℕ} → United rows columns lines → United t lines r → Parted t rows columns r
+parted a b = record {
+  from = λ x y u. ⊎-elim inl (λ v. inr (joined a x y v)) (joined b x y u);
+  to = λ x y u. join b x y (⊎-elim inl (λ v. inr (join a x y v)) u);
+}
+
 -- ---- child passed on
 
-module _ (t befores afters later r : List ℕ) (a : Reached t t befores later) (b : Reached later later afters r) where
-  later-s : (n : ℕ) (S : List Fact) → ((x y : ℕ) → In t x y → Settled n S (child x y)) → ((x y : ℕ) → In befores x y → Settled n S (before x y))
-      → (x y : ℕ) → In later x y → Settled n S (child x y)
-  later-s n S s e x y u = ⊎-elim (s x y) (λ w. before-child (e (w .0) y (w .2)) (s x (w .0) (w .1))) (a .from x y u)
-
-  pub passed-on : PassedOn t befores afters r
-  passed-on = record {
-    up = λ x. up-trans (a .up x) (b .up x);
-    sound = λ n S s e f x y u. ⊎-elim (later-s n S s e x y) (λ w. after-child (f y (w .0) (w .2)) (later-s n S s e x (w .0) (w .1))) (b .from x y u);
-    later = λ x y u h e v. b .up u .kept y (a .to u x y h v e);
-    earlier = λ x y u h e v. b .to u y x h (a .up u .kept y v) e;
-  }
+pub passed-on : {t befores afters orders r : List ℕ} → United befores afters orders → Reached t t orders r → PassedOn t befores afters r
+passed-on a b = record {
+  up = b .up;
+  sound = λ n S s e f x y u. ⊎-elim (s x y)
+      (λ w. let c = s x (w .0) (w .1) in ⊎-elim (λ v. before-child (e (w .0) y v) c) (λ v. after-child (f y (w .0) v) c) (joined a (w .0) y (w .2))) (b .from x y u);
+  later = λ x y u h e v. b .to u x y h v (join a x y (inl e));
+  earlier = λ x y u h e v. b .to u y x h v (join a y x (inr e));
+}

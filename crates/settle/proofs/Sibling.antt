@@ -1,8 +1,9 @@
--- The step for the rules of siblings: for every S that the tables are to settle from, what it adds is settled, and where it adds nothing those
--- rules hold of the tables that came in.
+-- What settling does for siblings, in two steps: before takes the rows that were shared and chained, then child those that were passed along it, and
+-- differ what each gives. For every S that the tables are to settle from, either step leaves tables to settle S from. What a pass closed stays
+-- closed under the first; where child gained nothing the rules of siblings hold after it, and the second is not made.
 use mathlib.Core.Path.{_≡_, sym, _∙_, subst}
-use mathlib.Core.Logic.{_≢_, _⊎_, ⊎-elim}
-use mathlib.Core.Bool.{Bool, true, false, _||_, false≢true}
+use mathlib.Core.Logic.{inl, inr, ⊎-elim}
+use mathlib.Core.Bool.{Bool, true, false}
 use mathlib.Core.List.{List}
 use Prim.Native.Nat.{ℕ, _<_, _≤_}
 use native.Mathlib.Nat.{le-trans}
@@ -11,281 +12,287 @@ use native.Mathlib.Omega.{arith}
 use lib.ListN.{length, replicate, List·getD-eq-default}
 use Rattle.meaning.specs.Constraint.{Fact, child, below, differ, before, root, leaf, label}
 use Rattle.meaning.specs.Settled.{Settled, Clash, child-differ, differ-back, before-differ}
-use Rattle.meaning.specs.Closed.{Within}
-use Rattle.meaning.specs.Finite.{Yes, sum, pick}
+use Rattle.meaning.specs.Closed.{Within, Siblings}
+use Rattle.meaning.specs.Finite.{Yes}
 use Rattle.meaning.proofs.Finite.{sum-le, sum-lt}
 use Rattle.meaning.proofs.Least.{settled-within}
 use Rattle.rowbits.specs.Bit.{bit}
 use Rattle.tables.specs.Tables.{row, has, Columns, Sound, Seeded}
-use Rattle.tables.specs.Rows.{Up, Transposed, Common, United, Crossed}
+use Rattle.tables.specs.Rows.{Transposed}
 use Rattle.tables.specs.Free.{Clear}
 use Rattle.tables.specs.declared.Facts.{Facts}
-use Rattle.tables.proofs.Bits.{or-case, or-l, or-r, in-both, both-in, none-in}
+use Rattle.tables.proofs.Bits.{in-both, both-in, none-in}
 use Rattle.tables.proofs.Loops.{transposed-columns, zeros}
-use Rattle.tables.proofs.Tested.{or-yes, or-no}
 use Rattle.tables.proofs.Clashes.{crossed-clash, uncrossed-clear}
 use Rattle.settle.specs.Rows.{In}
-use Rattle.settle.specs.Siblings.{Unlike, Ordered, PassedOn}
-use Rattle.settle.specs.Steps.{weight, SteppedOf, SiblingRules}
+use Rattle.settle.specs.Siblings.{Unlike, Groupwise, PassedOn, Parted, OrderOf}
+use Rattle.settle.specs.Steps.{weight, PassRules}
+use Rattle.settle.specs.declared.Order.{Order}
 
-short : (t : List ℕ) (x y : ℕ) → length t ≡ 16 → In t x y → x < 16
-short t x y e u = go (decLt x 16)
+-- the group of rules of siblings; none is above the other
+pub record SiblingRules (n : ℕ) (f : Facts) : Type 0 where
+  pub siblings : Siblings n (λ φ. Yes (has f φ))
+  pub clear : Clear (λ φ. Yes (has f φ))
+
+-- ---- a table and its columns
+
+record Turned (rows columns : List ℕ) : Type 0 where
+  fro : (x y : ℕ) → In columns x y → In rows y x
+  back : (x y : ℕ) → In rows x y → In columns y x
+
+turned-rows : {n : ℕ} {rows columns : List ℕ} → n ≤ 16 → Transposed rows columns → length columns ≡ 16 → ((x y : ℕ) → In rows x y → (x < n) × (y < n)) → Turned rows columns
+turned-rows {rows = rows} {columns = columns} few t long within = record {
+  fro = λ x y u. t .columns x (short x y u (decLt x 16)) .from y u;
+  back = λ x y u. let i = within x y u in t .columns y (le-trans (i .1) few) .to x (le-trans (i .0) few) u;
+}
   where
-    go : Dec (x < 16) → x < 16
-    go (yes h) = h
-    go (no h) = none-in y (subst (λ (k : ℕ). Yes (bit k y)) (List·getD-eq-default t 0 (omega arith)) u)
+    short : (x y : ℕ) → In columns x y → Dec (x < 16) → x < 16
+    short x y u (yes h) = h
+    short x y u (no h) = none-in y (subst (λ (k : ℕ). Yes (bit k y)) (List·getD-eq-default columns 0 (omega arith)) u)
 
--- what the step knows of the tables that come in
-pub record Start (n : ℕ) (f : Facts) : Type 0 where
+-- differ with a table and its columns: what holds of both and turns round
+module _ {t rows columns r : List ℕ} (w : Parted t rows columns r) (m : Turned rows columns) where
+  parted-turned : ((x y : ℕ) → In t x y → In t y x) → (x y : ℕ) → In r x y → In r y x
+  parted-turned h x y u = w .to y x (⊎-elim (λ v. inl (h x y v)) (λ v. inr (⊎-elim (λ a. inr (m .back x y a)) (λ a. inl (m .fro x y a)) v)) (w .from x y u))
+
+  parted-least : (Q : ℕ → ℕ → Type 0) → ((x y : ℕ) → Q x y → Q y x) → ((x y : ℕ) → In t x y → Q x y) → ((x y : ℕ) → In rows x y → Q x y) → (x y : ℕ) → In r x y → Q x y
+  parted-least Q turn a b x y u = ⊎-elim (a x y) (⊎-elim (b x y) (λ v. turn y x (b y x (m .fro x y v)))) (w .from x y u)
+
+-- ---- with the new rows of before
+
+abbrev pub ordering : Facts → Order → List ℕ → Facts
+ordering f r differs = record { child = f .child; parent = f .parent; below = f .below; above = f .above; differ = differs; before = r .before; after = r .after; root = f .root; label = f .label; leaf = f .leaf }
+
+-- what settling knows where it was computed
+pub record Rowed (n : ℕ) (f : Facts) (r : Order) : Type 0 where
   pub few : n ≤ 16
   pub columns : Columns (f .below) (f .above)
+  pub order : OrderOf n (f .before) (f .below) (f .above) r
+  pub after-long : length (r .after) ≡ 16
 
-module _ {n : ℕ} {f : Facts} (o : Start n f) {r : Bool} (t : Crossed (f .before) (f .below) (f .above) r) (S : List Fact) (seed : Seeded n S f) where
-  within : (φ : Fact) → Yes (has f φ) → Within n φ
-  within φ u = settled-within n S (seed .inside) (seed .sound φ u)
+module _ {n : ℕ} {f : Facts} {r : Order} (o : Rowed n f r) (S : List Fact) (seed : Seeded n S f) where
+  in-16 : {x : ℕ} → x < n → x < 16
+  in-16 h = le-trans h (o .few)
 
-  crossed-out : r ≡ true → Clash n S
-  crossed-out e = crossed-clash n (o .few) f (o .columns) within r t S (seed .sound) e
+  abbrev same : List ℕ
+  same = o .order .same
 
-  clear : r ≡ false → Clear (λ φ. Yes (has f φ))
-  clear e = uncrossed-clear n (o .few) f (o .columns) within r t e
+  within : (φ : Fact) → Settled n S φ → Within n φ
+  within φ s = settled-within n S (seed .inside) s
 
--- ---- what the step computed
+  below-s : (x y : ℕ) → In (f .below) x y → Settled n S (below x y)
+  unfolding has
+  below-s x y u = seed .sound (below x y) u
 
-pub record Rowed (n : ℕ) (f : Facts) (same befores afters childs : List ℕ) : Type 0 where
-  pub start : Start n f
-  pub is-same : Common (f .below) (f .above) same
-  pub is-before : Ordered n (f .before) same befores
-  pub is-after : Transposed befores afters
-  pub is-child : PassedOn (f .child) befores afters childs
-  pub after-long : length afters ≡ 16
+  same-out : (x y : ℕ) → In same x y → In (f .below) x y × In (f .below) y x
+  same-out x y u =
+      let q = in-both (row (f .below) x) (row (f .above) x) y (subst (λ (k : ℕ). Yes (bit k y)) (o .order .common .rows x) u) in
+      let i = within (below x y) (below-s x y (q .0)) in
+      (q .0, sym (o .columns y x (in-16 (i .1)) (in-16 (i .0))) ∙ q .1)
 
-module _ {n : ℕ} {f : Facts} {same befores afters childs : List ℕ} (o : Rowed n f same befores afters childs) where
-  after-before : (x y : ℕ) → In afters y x → In befores x y
-  after-before x y u = o .is-after .columns y (short afters y x (o .after-long) u) .from x u
+  same-in : (x y : ℕ) → In (f .below) x y → In (f .below) y x → In same x y
+  same-in x y u v =
+      let i = within (below x y) (below-s x y u) in
+      subst (λ (k : ℕ). Yes (bit k y)) (sym (o .order .common .rows x))
+      (both-in (row (f .below) x) (row (f .above) x) y u (o .columns y x (in-16 (i .1)) (in-16 (i .0)) ∙ v))
 
-  module _ (S : List Fact) (seed : Seeded n S f) where
-    in-16 : {x : ℕ} → x < n → x < 16
-    in-16 h = le-trans h (o .start .few)
+  before-s : (x y : ℕ) → In (r .before) x y → Settled n S (before x y)
+  unfolding has
+  before-s = o .order .ordered .sound S (λ x y. seed .sound (before x y)) (λ x y u. let q = same-out x y u in (below-s x y (q .0), below-s y x (q .1)))
 
-    inside : (φ : Fact) → Settled n S φ → Within n φ
-    inside φ s = settled-within n S (seed .inside) s
+  before-in : (x y : ℕ) → In (r .before) x y → (x < n) × (y < n)
+  before-in x y u = within (before x y) (before-s x y u)
 
-    -- ---- what it adds is settled
+  turned : Turned (r .before) (r .after)
+  turned = turned-rows (o .few) (o .order .columns) (o .after-long) before-in
 
-    below-s : (x y : ℕ) → In (f .below) x y → Settled n S (below x y)
+  sound-with : (differs : List ℕ) → ((x y : ℕ) → In differs x y → Settled n S (differ x y)) → Sound n S (ordering f r differs)
+  unfolding has
+  sound-with t h (child x y) u = seed .sound (child x y) u
+  sound-with t h (below x y) u = seed .sound (below x y) u
+  sound-with t h (differ x y) u = h x y u
+  sound-with t h (before x y) u = before-s x y u
+  sound-with t h (root x) u = seed .sound (root x) u
+  sound-with t h (leaf x) u = seed .sound (leaf x) u
+  sound-with t h (label x l) u = seed .sound (label x l) u
+
+  pub ordered-clash : r .clash ≡ true → Clash n S
+  unfolding has
+  ordered-clash e =
+      let h = sound-with (f .differ) (λ x y. seed .sound (differ x y)) in
+      crossed-clash n (o .few) (ordering f r (f .differ)) (o .columns) (λ φ u. within φ (h φ u)) (r .clash) (o .order .crossed) S h e
+
+  module _ {differs : List ℕ} (d : Parted (f .differ) (r .before) (r .after) differs) where
+    abbrev g : Facts
+    g = ordering f r differs
+
+    sound : Sound n S g
     unfolding has
-    below-s x y u = seed .sound (below x y) u
+    sound = sound-with differs
+        (parted-least d turned (λ i j. Settled n S (differ i j)) (λ i j. differ-back) (λ i j. seed .sound (differ i j)) (λ i j u. before-differ (before-s i j u)))
 
-    same-s : (x y : ℕ) → In same x y → Settled n S (below x y) × Settled n S (below y x)
-    same-s x y u =
-        let q = in-both (row (f .below) x) (row (f .above) x) y (subst (λ (k : ℕ). Yes (bit k y)) (o .is-same .rows x) u) in
-        let a = below-s x y (q .0) in
-        let i = inside (below x y) a in
-        (a, below-s y x (sym (o .start .columns y x (in-16 (i .1)) (in-16 (i .0))) ∙ q .1))
-
-    same-in : (x y : ℕ) → In (f .below) x y → In (f .below) y x → In same x y
-    same-in x y u v =
-        let i = inside (below x y) (below-s x y u) in
-        subst (λ (k : ℕ). Yes (bit k y)) (sym (o .is-same .rows x))
-        (both-in (row (f .below) x) (row (f .above) x) y u (o .start .columns y x (in-16 (i .1)) (in-16 (i .0)) ∙ v))
-
-    before-s : (x y : ℕ) → In befores x y → Settled n S (before x y)
+    keeps : (φ : Fact) → Yes (has f φ) → Yes (has g φ)
     unfolding has
-    before-s = o .is-before .sound S (λ x y. seed .sound (before x y)) same-s
+    keeps (child x y) u = u
+    keeps (below x y) u = u
+    keeps (differ x y) u = d .to x y (inl u)
+    keeps (before x y) u = o .order .ordered .up x .kept y u
+    keeps (root x) u = u
+    keeps (leaf x) u = u
+    keeps (label x l) u = u
 
-    after-s : (x y : ℕ) → In afters y x → Settled n S (before x y)
-    after-s x y u = before-s x y (after-before x y u)
-
-    child-s : (x y : ℕ) → In childs x y → Settled n S (child x y)
+    pub ordered-seeded : Seeded n S g
     unfolding has
-    child-s = o .is-child .sound n S (λ x y. seed .sound (child x y)) before-s after-s
+    ordered-seeded = record {
+      inside = seed .inside;
+      held = λ φ m. keeps φ (seed .held φ m);
+      sound = sound;
+      child-differ = λ x y u. d .to x y (inl (seed .child-differ x y u));
+      before-differ = λ x y u. d .to x y (inr (inl u));
+      turned = parted-turned d turned (seed .turned);
+      parents = seed .parents;
+      siblings = transposed-columns (o .order .columns);
+    }
 
-    siblings-of : (x y : ℕ) → In befores x y → In afters y x
-    siblings-of x y u = let i = inside (before x y) (before-s x y u) in o .is-after .columns y (in-16 (i .1)) .to x (in-16 (i .0)) u
+    module _ (e : r .clash ≡ false) (p : PassRules n f) where
+      clear : Clear (λ φ. Yes (has g φ))
+      clear = uncrossed-clear n (o .few) g (o .columns) (λ φ u. within φ (sound φ u)) (r .clash) (o .order .crossed) e
 
-    -- ---- where it adds nothing
-
-    module _ (no-before : (x : ℕ) → x < 16 → row (f .before) x ≡ row befores x) (no-child : (x : ℕ) → x < 16 → row (f .child) x ≡ row childs x) where
-      was-before : (x y : ℕ) → In befores x y → Yes (has f (before x y))
+      groups : Groupwise n same
       unfolding has
-      was-before x y u = subst (λ (k : ℕ). Yes (bit k y)) (sym (no-before x (in-16 (inside (before x y) (before-s x y u) .0)))) u
-
-      was-child : (x y : ℕ) → In childs x y → Yes (has f (child x y))
-      unfolding has
-      was-child x y u = subst (λ (k : ℕ). Yes (bit k y)) (sym (no-child x (in-16 (inside (child x y) (child-s x y u) .0)))) u
-
-      is-before : (x y : ℕ) → Yes (has f (before x y)) → In befores x y
-      unfolding has
-      is-before x y u = o .is-before .up x .kept y u
-
-      first-in : (φ : Fact) → Yes (has f φ) → Within n φ
-      first-in φ u = inside φ (seed .sound φ u)
-
-      closed : Clear (λ φ. Yes (has f φ)) → SiblingRules n f
-      unfolding has
-      closed k = record {
-        siblings = record {
-          before-chain = λ x y z u v. let i = first-in (before x y) u in was-before x z (o .is-before .chained x y z (in-16 (i .0)) (i .1) (is-before x y u) (is-before y z v));
-          before-differ = seed .before-differ;
-          before-child = λ x y u p q. was-child u y (o .is-child .later x y u (in-16 (first-in (child u x) q .0)) (is-before x y p) q);
-          after-child = λ x y u p q. was-child u x (o .is-child .earlier x y u (in-16 (first-in (child u y) q .0)) (siblings-of x y (is-before x y p)) q);
-          same-before = λ x y u p q c. was-before u y (o .is-before .firsts x y u (in-16 (first-in (below x u) p .1)) (same-in u x q p) c);
-          same-after = λ x y u p q c. was-before x u (o .is-before .lasts x y u (in-16 (first-in (before x y) c .0)) (same-in y u p q) c);
-        };
-        clear = k;
+      groups = record {
+        few = λ x y u. within (below x y) (below-s x y (same-out x y u .0));
+        chain = λ x y z u v. let a = same-out x y u in let b = same-out y z v in same-in x z (p .sharing .chain x y z (a .0) (b .0)) (p .sharing .chain z y x (b .1) (a .1));
       }
 
--- ---- the tables with what it adds
+      first-in : (x y : ℕ) → In (f .before) x y → (x < n) × (y < n)
+      unfolding has
+      first-in x y u = within (before x y) (seed .sound (before x y) u)
 
-pub record Added (f : Facts) (befores afters childs parents differs : List ℕ) : Type 0 where
-  pub lines : List ℕ
-  pub orders : List ℕ
-  pub both : List ℕ
-  pub is-parent : Transposed childs parents
-  pub is-lines : United childs parents lines
-  pub is-orders : United befores afters orders
-  pub is-both : United lines orders both
-  pub is-differ : United (f .differ) both differs
-  pub parent-long : length parents ≡ 16
+      firsts : (x y u : ℕ) → In (f .below) x u → In (f .below) u x → In (r .before) x y → In (r .before) u y
+      firsts x y u a b = o .order .ordered .firsts groups first-in x y u (same-in u x b a)
 
-module _ {t more r : List ℕ} (w : United t more r) (x y : ℕ) where
-  joined : In r x y → In t x y ⊎ In more x y
-  joined u = or-case (row t x) (row more x) y (subst (λ (k : ℕ). Yes (bit k y)) (w .rows x) u)
+      lasts : (x y u : ℕ) → In (f .below) y u → In (f .below) u y → In (r .before) x y → In (r .before) x u
+      lasts x y u a b = o .order .ordered .lasts groups first-in x y u (same-in y u a b)
 
-  join-l : In t x y → In r x y
-  join-l u = subst (λ (k : ℕ). Yes (bit k y)) (sym (w .rows x)) (or-l (row t x) (row more x) y u)
+      same-differ : (x y u : ℕ) → In (f .below) x u → In (f .below) u x → In differs x y → In differs u y
+      unfolding has
+      same-differ x y u a b v = d .to u y (⊎-elim (λ c. inl (p .sharing .same-differ x y u a b c))
+          (λ c. inr (⊎-elim (λ c. inl (firsts x y u a b c)) (λ c. inr (turned .back y u (lasts y x u a b (turned .fro x y c)))) c)) (d .from x y v))
 
-  join-r : In more x y → In r x y
-  join-r u = subst (λ (k : ℕ). Yes (bit k y)) (sym (w .rows x)) (or-r (row t x) (row more x) y u)
+      -- nothing is before itself, since it is below itself
+      no-before : (x : ℕ) → In (r .before) x x → ⊥
+      unfolding has
+      no-before x u = clear .not-above x x u (p .sharing .self-below x (before-in x x u .0))
 
-module _ {n : ℕ} {f : Facts} {same befores afters childs parents differs : List ℕ} (o : Rowed n f same befores afters childs)
-    (a : Added f befores afters childs parents differs) (S : List Fact) (seed : Seeded n S f) where
-  abbrev g : Facts
-  g = record { child = childs; parent = parents; below = f .below; above = f .above; differ = differs; before = befores; after = afters; root = f .root; label = f .label; leaf = f .leaf }
+      pub ordered-passed : PassRules n g
+      unfolding has
+      ordered-passed = record {
+        sharing = record {
+          child-below = p .sharing .child-below;
+          child-differ = λ x y u. d .to x y (inl (p .sharing .child-differ x y u));
+          self-below = p .sharing .self-below;
+          chain = p .sharing .chain;
+          root-below = p .sharing .root-below;
+          leaf-below = p .sharing .leaf-below;
+          differ-back = parted-turned d turned (seed .turned);
+          same-parent = p .sharing .same-parent;
+          same-child = p .sharing .same-child;
+          same-differ = same-differ;
+          same-root = p .sharing .same-root;
+          same-leaf = p .sharing .same-leaf;
+          same-label = p .sharing .same-label;
+        };
+        one-parent = p .one-parent;
+        apart = λ x u. ⊎-elim (p .apart x) (⊎-elim (no-before x) (λ v. no-before x (turned .fro x x v))) (d .from x x u);
+        ancestors = p .ancestors;
+      }
 
-  -- differ, by its parts
-  pub data Apart (x y : ℕ) : Type 0 where
-    was : In (f .differ) x y → Apart x y
-    by-child : In childs x y → Apart x y
-    by-parent : In parents x y → Apart x y
-    by-before : In befores x y → Apart x y
-    by-after : In afters x y → Apart x y
+      -- where child gained nothing
+      pub ordered-closed : {childs : List ℕ} {b : Bool} → PassedOn (f .child) (r .before) (r .after) childs → Unlike (f .child) childs b → b ≡ false → SiblingRules n g
+      unfolding has
+      ordered-closed {childs} c u z = record {
+        siblings = record {
+          before-chain = λ x y z u v. let i = before-in x y u in o .order .ordered .chained x y z (in-16 (i .0)) (i .1) u v;
+          before-differ = λ x y u. d .to x y (inr (inl u));
+          before-child = λ x y u p q. was u y (child-in u x q) (c .later x y u (child-in u x q) p q);
+          after-child = λ x y u p q. was u x (child-in u y q) (c .earlier x y u (child-in u y q) (turned .back x y p) q);
+          same-before = firsts;
+          same-after = lasts;
+        };
+        clear = clear;
+      }
+        where
+          child-in : (x y : ℕ) → In (f .child) x y → x < 16
+          child-in x y v = in-16 (within (child x y) (seed .sound (child x y) v) .0)
 
-  apart-from : (x y : ℕ) → In differs x y → Apart x y
-  apart-from x y u =
-      ⊎-elim was
-      (λ v. ⊎-elim (λ l. ⊎-elim by-child by-parent (joined (a .is-lines) x y l)) (λ l. ⊎-elim by-before by-after (joined (a .is-orders) x y l)) (joined (a .is-both) x y v))
-      (joined (a .is-differ) x y u)
+          was : (x y : ℕ) → x < 16 → In childs x y → In (f .child) x y
+          was x y h v = subst (λ (k : ℕ). Yes (bit k y)) (sym (u .none z x h)) v
 
-  apart-in : (x y : ℕ) → Apart x y → In differs x y
-  apart-in x y (was u) = join-l (a .is-differ) x y u
-  apart-in x y (by-child u) = join-r (a .is-differ) x y (join-l (a .is-both) x y (join-l (a .is-lines) x y u))
-  apart-in x y (by-parent u) = join-r (a .is-differ) x y (join-l (a .is-both) x y (join-r (a .is-lines) x y u))
-  apart-in x y (by-before u) = join-r (a .is-differ) x y (join-r (a .is-both) x y (join-l (a .is-orders) x y u))
-  apart-in x y (by-after u) = join-r (a .is-differ) x y (join-r (a .is-both) x y (join-r (a .is-orders) x y u))
+-- ---- with the new rows of child
 
-  parent-child : (x y : ℕ) → In parents x y → In childs y x
-  parent-child x y u = a .is-parent .columns x (short parents x y (a .parent-long) u) .from y u
+abbrev pub passing : Facts → (childs parents differs : List ℕ) → Facts
+passing f c p d = record { child = c; parent = p; below = f .below; above = f .above; differ = d; before = f .before; after = f .after; root = f .root; label = f .label; leaf = f .leaf }
 
-  child-parent : (x y : ℕ) → In childs x y → In parents y x
-  child-parent x y u = let i = inside o S seed (child x y) (child-s o S seed x y u) in a .is-parent .columns y (in-16 o S seed (i .1)) .to x (in-16 o S seed (i .0)) u
-
-  turn : (x y : ℕ) → Apart x y → Apart y x
+module _ {n : ℕ} {f : Facts} {childs parents differs : List ℕ} (few : n ≤ 16) (c : PassedOn (f .child) (f .before) (f .after) childs) (t : Transposed childs parents)
+    (long : length parents ≡ 16) (after : Turned (f .before) (f .after)) (d : Parted (f .differ) childs parents differs) (S : List Fact) (seed : Seeded n S f) where
+  child-s : (x y : ℕ) → In childs x y → Settled n S (child x y)
   unfolding has
-  turn x y (was u) = was (seed .turned x y u)
-  turn x y (by-child u) = by-parent (child-parent x y u)
-  turn x y (by-parent u) = by-child (parent-child x y u)
-  turn x y (by-before u) = by-after (siblings-of o S seed x y u)
-  turn x y (by-after u) = by-before (after-before o y x u)
+  child-s = c .sound n S (λ x y. seed .sound (child x y)) (λ x y. seed .sound (before x y)) (λ x y u. seed .sound (before x y) (after .fro y x u))
 
-  apart-s : (x y : ℕ) → Apart x y → Settled n S (differ x y)
-  unfolding has
-  apart-s x y (was u) = seed .sound (differ x y) u
-  apart-s x y (by-child u) = child-differ (child-s o S seed x y u)
-  apart-s x y (by-parent u) = differ-back (child-differ (child-s o S seed y x (parent-child x y u)))
-  apart-s x y (by-before u) = before-differ (before-s o S seed x y u)
-  apart-s x y (by-after u) = differ-back (before-differ (after-s o S seed y x u))
+  child-turned : Turned childs parents
+  child-turned = turned-rows few t long (λ x y u. settled-within n S (seed .inside) (child-s x y u))
 
-  sound : Sound n S g
+  passed-sound : Sound n S (passing f childs parents differs)
   unfolding has
-  sound (child x y) u = child-s o S seed x y u
-  sound (below x y) u = seed .sound (below x y) u
-  sound (differ x y) u = apart-s x y (apart-from x y u)
-  sound (before x y) u = before-s o S seed x y u
-  sound (root x) u = seed .sound (root x) u
-  sound (leaf x) u = seed .sound (leaf x) u
-  sound (label x l) u = seed .sound (label x l) u
+  passed-sound (child x y) u = child-s x y u
+  passed-sound (below x y) u = seed .sound (below x y) u
+  passed-sound (differ x y) u = parted-least d child-turned (λ i j. Settled n S (differ i j)) (λ i j. differ-back) (λ i j. seed .sound (differ i j)) (λ i j v. child-differ (child-s i j v)) x y u
+  passed-sound (before x y) u = seed .sound (before x y) u
+  passed-sound (root x) u = seed .sound (root x) u
+  passed-sound (leaf x) u = seed .sound (leaf x) u
+  passed-sound (label x l) u = seed .sound (label x l) u
 
-  keeps : (φ : Fact) → Yes (has f φ) → Yes (has g φ)
+  passed-keeps : (φ : Fact) → Yes (has f φ) → Yes (has (passing f childs parents differs) φ)
   unfolding has
-  keeps (child x y) u = o .is-child .up x .kept y u
-  keeps (below x y) u = u
-  keeps (differ x y) u = apart-in x y (was u)
-  keeps (before x y) u = o .is-before .up x .kept y u
-  keeps (root x) u = u
-  keeps (leaf x) u = u
-  keeps (label x l) u = u
+  passed-keeps (child x y) u = c .up x .kept y u
+  passed-keeps (below x y) u = u
+  passed-keeps (differ x y) u = d .to x y (inl u)
+  passed-keeps (before x y) u = u
+  passed-keeps (root x) u = u
+  passed-keeps (leaf x) u = u
+  passed-keeps (label x l) u = u
 
-  added-seeded : Seeded n S g
+  passed-seeded : Seeded n S (passing f childs parents differs)
   unfolding has
-  added-seeded = record {
+  passed-seeded = record {
     inside = seed .inside;
-    held = λ φ m. keeps φ (seed .held φ m);
-    sound = sound;
-    child-differ = λ x y u. apart-in x y (by-child u);
-    before-differ = λ x y u. apart-in x y (by-before u);
-    turned = λ x y u. apart-in y x (turn x y (apart-from x y u));
-    parents = transposed-columns (a .is-parent);
-    siblings = transposed-columns (o .is-after);
+    held = λ φ m. passed-keeps φ (seed .held φ m);
+    sound = passed-sound;
+    child-differ = λ x y u. d .to x y (inr (inl u));
+    before-differ = λ x y u. d .to x y (inl (seed .before-differ x y u));
+    turned = parted-turned d child-turned (seed .turned);
+    parents = transposed-columns t;
+    siblings = seed .siblings;
   }
 
--- ---- how the step ends
+-- ---- both, and that the tables grew
 
-pub ended-crossed : {n : ℕ} {f : Facts} → Start n f → {r : Bool} → Crossed (f .before) (f .below) (f .above) r → r ≡ true
-    → SteppedOf (λ g. SiblingRules n f) n f (record { clash = true; more = false; facts = f })
-ended-crossed o t e = record {
-  clashes = λ d S seed. crossed-out o t S seed e;
-  seeded = λ d. absurd (false≢true (sym d));
-  closed = λ d. absurd (false≢true (sym d));
-  grown = λ d. absurd (false≢true (sym d));
-}
+module _ {n : ℕ} {f : Facts} {r : Order} {differs childs : List ℕ} (o : Rowed n f r) (d : Parted (f .differ) (r .before) (r .after) differs)
+    (c : PassedOn (f .child) (r .before) (r .after) childs) where
+  pub both-seeded : {parents aparts : List ℕ} → Transposed childs parents → length parents ≡ 16 → Parted differs childs parents aparts → (S : List Fact) → Seeded n S f
+      → Seeded n S (passing (ordering f r differs) childs parents aparts)
+  both-seeded t long e S seed = passed-seeded (o .few) c t long (turned o S seed) e S (ordered-seeded o S seed d)
 
-module _ {n : ℕ} {f : Facts} {same befores afters childs : List ℕ} {r b c : Bool} (o : Rowed n f same befores afters childs)
-    (t : Crossed (f .before) (f .below) (f .above) r) (e : r ≡ false) (u : Unlike (f .before) befores b) (v : Unlike (f .child) childs c) where
-  pub ended-still : (b || c) ≡ false → SteppedOf (λ g. SiblingRules n f) n f (record { clash = false; more = false; facts = f })
-  unfolding pick
-  ended-still z = record {
-    clashes = λ d. absurd (false≢true d);
-    seeded = λ d S seed. seed;
-    closed = λ d m S seed. let q = or-no b c z in closed o S seed (u .none (q .0)) (v .none (q .1)) (clear (o .start) t S seed e);
-    grown = λ d. omega arith;
-  }
+  pub both-grew : (parents aparts : List ℕ) {b : Bool} → Unlike (f .child) childs b → b ≡ true → weight f < weight (passing (ordering f r differs) childs parents aparts)
+  unfolding weight
+  both-grew parents aparts u m =
+      let w = u .some m in
+      let p = sum-lt 16 (row (f .child)) (row childs) (λ k _. c .up k .most) (w .0) (w .1) (let l = c .up (w .0) .most in let q = w .2 in omega arith) in
+      let q = sum-le 16 (row (f .before)) (row (r .before)) (λ k _. o .order .ordered .up k .most) in
+      omega arith
 
-  pub ended-more : {parents differs : List ℕ} → Added f befores afters childs parents differs → (b || c) ≡ true → SteppedOf (λ g. SiblingRules n f) n f (record {
-    clash = false;
-    more = true;
-    facts = record { child = childs; parent = parents; below = f .below; above = f .above; differ = differs; before = befores; after = afters; root = f .root; label = f .label; leaf = f .leaf };
-  })
-  unfolding weight pick
-  ended-more a z = record {
-    clashes = λ d. absurd (false≢true d);
-    seeded = λ d S seed. added-seeded o a S seed;
-    closed = λ d m. absurd (false≢true (sym m));
-    grown = λ d. ⊎-elim (λ m. let p = more (f .before) befores (o .is-before .up) (u .some m) in let q = child-sum in omega arith)
-        (λ m. let p = more (f .child) childs (o .is-child .up) (v .some m) in let q = before-sum in omega arith) (or-yes b c z);
-  }
-    where
-      more : (t r : List ℕ) → ((x : ℕ) → Up (row t x) (row r x)) → (x : ℕ) × (x < 16) × (row t x ≢ row r x) → sum 16 (row t) < sum 16 (row r)
-      more t r h w = sum-lt 16 _ _ (λ k _. h k .most) (w .0) (w .1) (let p = h (w .0) .most in let q = w .2 in omega arith)
-
-      child-sum : sum 16 (row (f .child)) ≤ sum 16 (row childs)
-      child-sum = sum-le 16 _ _ (λ k _. o .is-child .up k .most)
-
-      before-sum : sum 16 (row (f .before)) ≤ sum 16 (row befores)
-      before-sum = sum-le 16 _ _ (λ k _. o .is-before .up k .most)
-
--- ---- tables without a before fact need no step
+-- ---- tables without a before fact need neither
 
 pub no-siblings : {n : ℕ} {S : List Fact} {f : Facts} {r : Bool} → n ≤ 16 → Seeded n S f → Unlike (f .before) (replicate 16 0) r → r ≡ false → SiblingRules n f
 unfolding has

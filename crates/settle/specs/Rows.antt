@@ -36,11 +36,15 @@ pub record Lifted (t : List ℕ) (y : ℕ) (r : List ℕ) : Type 0 where
   pub within : (x : ℕ) → x < 16 → row r x ≡ gained (bit (row t x) y) (row t x) (row t y)
   pub beyond : (x : ℕ) → 16 ≤ x → row r x ≡ row t x
 
--- the rows chained, and nothing that is not settled, whatever fact they are rows of
+-- y is reached from x along the rows
+pub data Path (t : List ℕ) : ℕ → ℕ → Type 0 where
+  step : {x y : ℕ} → In t x y → Path t x y
+  on : {x y z : ℕ} → Path t x y → Path t y z → Path t x z
+
+-- the rows chained, with nothing that the given rows do not reach
 pub record ChainOf (n : ℕ) (t r : List ℕ) : Type 0 where
   pub up : (x : ℕ) → Up (row t x) (row r x)
-  pub sound : (S : List Fact) (fact : ℕ → ℕ → Fact) → ((x y z : ℕ) → Settled n S (fact x y) → Settled n S (fact y z) → Settled n S (fact x z))
-      → ((x y : ℕ) → In t x y → Settled n S (fact x y)) → (x y : ℕ) → In r x y → Settled n S (fact x y)
+  pub from : (x y : ℕ) → In r x y → Path t x y
   pub chained : (x y z : ℕ) → x < 16 → y < n → In r x y → In r y z → In r x z
 
 -- the rows of below closed under the rules for itself, child, root and chain, and nothing that is not settled

@@ -1,4 +1,4 @@
--- Settling goes by steps, one for each group of rules, and a step has one contract, whatever its group.
+-- What a step of settling makes of the tables, with the group of rules of the pass. The rules of siblings are computed table by table (Siblings).
 use mathlib.Core.Path.{_≡_}
 use mathlib.Core.Bool.{true, false}
 use mathlib.Core.List.{List}
@@ -6,10 +6,9 @@ use Prim.Native.Nat.{ℕ, _+_, _≤_}
 use Rattle.meaning.specs.Tree.{Var}
 use Rattle.meaning.specs.Constraint.{Fact, child, below, differ}
 use Rattle.meaning.specs.Settled.{Clash}
-use Rattle.meaning.specs.Closed.{Sharing, Siblings}
+use Rattle.meaning.specs.Closed.{Sharing}
 use Rattle.meaning.specs.Finite.{Yes, sum, pick}
 use Rattle.tables.specs.Tables.{row, has, Columns, Seeded}
-use Rattle.tables.specs.Free.{Clear}
 use Rattle.tables.specs.declared.Facts.{Facts}
 use Rattle.settle.specs.declared.Stepped.{Stepped}
 
@@ -18,7 +17,7 @@ unfoldable pub weight : Facts → ℕ
 weight f = sum 16 (row (f .below)) + sum 16 (row (f .child)) + sum 16 (row (f .before))
 
 -- What a step makes of f, for every S that f is to settle from: a clash of S, or again tables to settle S from. With no more to add they have G,
--- the step's group of rules; else they have grown. A step after the pass has its group of f itself, so that what the pass closed stays closed.
+-- the step's group of rules; else they have grown.
 pub record SteppedOf (G : Facts → Type 0) (n : ℕ) (f : Facts) (r : Stepped) : Type 0 where
   pub clashes : r .clash ≡ true → (S : List Fact) → Seeded n S f → Clash n S
   pub seeded : r .clash ≡ false → (S : List Fact) → Seeded n S f → Seeded n S (r .facts)
@@ -31,8 +30,3 @@ pub record PassRules (n : ℕ) (f : Facts) : Type 0 where
   pub one-parent : (x y z : Var) → Yes (has f (child x z)) → Yes (has f (child y z)) → Yes (has f (below x y))
   pub apart : (x : Var) → ¬ Yes (has f (differ x x))
   pub ancestors : Columns (f .below) (f .above)
-
--- the group of the step of siblings: their rules; none is above the other
-pub record SiblingRules (n : ℕ) (f : Facts) : Type 0 where
-  pub siblings : Siblings n (λ φ. Yes (has f φ))
-  pub clear : Clear (λ φ. Yes (has f φ))

@@ -1,15 +1,15 @@
-// Settling: the tables of rows, closed under the rules of docs/FORMAT.md by passes over x, y and z, and by a step for siblings.
+// Settling: the tables of rows, closed under the rules of docs/FORMAT.md by passes over x, y and z, and by rows of siblings.
 ghost use mathlib.Core.Path.{_≡_};
 ghost use mathlib.Core.List.{List};
 ghost use Rattle.meaning.specs.Constraint.{Fact};
-ghost use Rattle.tables.specs.Tables.{Columns, Seeded};
+ghost use Rattle.tables.specs.Tables.{Seeded};
 ghost use Prim.Native.Nat.{_<_, _≤_};
 ghost use Rattle.meaning.specs.Finite.{pick};
 ghost use lib.Dec.{eqb};
 ghost use Rattle.settle.specs.Rows.{firstRow, Clashing, Grouped, ChainOf, Chained, GroupsOf, WholeGroups, JoinedOf};
 ghost use Rattle.settle.specs.Shares.{WithRows, WithGroup, SharedOf};
-ghost use Rattle.settle.specs.Siblings.{Reached, Unlike, Ordered, PassedOn};
-ghost use Rattle.settle.specs.Steps.{SteppedOf, PassRules, SiblingRules};
+ghost use Rattle.settle.specs.Siblings.{Reached, Unlike, Ordered, PassedOn, Parted, OrderOf};
+ghost use Rattle.settle.specs.Steps.{SteppedOf, PassRules};
 ghost use Rattle.settle.specs.Settling.{SettledOf};
 use tables::Facts;
 use tables::Settled;
@@ -328,11 +328,15 @@ fn unlike(t: [u16; 16], u: [u16; 16]) -> bool
     any != 0
 }
 
-// The rows of before, shared within groups in both places and then chained, which keeps them shared.
+// The rows of before, shared within groups in both places and then chained, which keeps them shared. Where each variable is alone in its
+// group they are shared as they are.
 fn order_rows(before: [u16; 16], same: [u16; 16], n: usize) -> [u16; 16]
     requires { ⌜ n ≤ 16 ⌝ }
     ensures { λ r. ⌜ Ordered n before same r ⌝ }
 {
+    if grouped(same) == 0 {
+        return chain_rows(before, n);
+    }
     let lasts = reach(before, before, same);
     let firsts = reach(lasts, same, lasts);
     chain_rows(firsts, n)
@@ -342,65 +346,40 @@ fn order_rows(before: [u16; 16], same: [u16; 16], n: usize) -> [u16; 16]
 fn child_rows(child: [u16; 16], before: [u16; 16], after: [u16; 16]) -> [u16; 16]
     ensures { λ r. ⌜ PassedOn child before after r ⌝ }
 {
-    let later = reach(child, child, before);
-    reach(later, later, after)
+    reach(child, child, tables::either(before, after))
 }
 
-// The step for the rules of siblings, where a pass had no more, so that the columns of below are right. Where it adds no fact those rules hold
-// of the tables that came in.
-fn siblings(f: Facts, n: usize) -> Stepped
-    requires { ⌜ n ≤ 16 ⌝ }
-    requires { ⌜ Columns (f .below) (f .above) ⌝ }
-    ensures { λ r. ⌜ SteppedOf (λ g. SiblingRules n f) n f r ⌝ }
+// The rows of differ, with those of a table whose facts give differ, and with its columns.
+fn differ_rows(differ: [u16; 16], rows: [u16; 16], columns: [u16; 16]) -> [u16; 16]
+    ensures { λ r. ⌜ Parted differ rows columns r ⌝ }
 {
-    let below = f.below;
-    let befores = f.before;
-    let childs = f.child;
-    let differs = f.differ;
-    let label = f.label;
-    let above = f.above;
-    if tables::crossed(befores, below, above) {
-        return Stepped {
-            clash: true,
-            more: false,
-            facts: f,
-        };
-    }
+    tables::either(differ, tables::either(rows, columns))
+}
+
+// The rows of before, shared and chained, their columns, and whether a sibling is above another one.
+struct Order {
+    clash: bool,
+    before: [u16; 16],
+    after: [u16; 16],
+}
+
+fn find_order(start: [u16; 16], below: [u16; 16], above: [u16; 16], n: usize) -> Order
+    requires { ⌜ n ≤ 16 ⌝ }
+    ensures { λ r. ⌜ OrderOf n start below above r ⌝ }
+{
     let same = tables::common(below, above);
-    let before = order_rows(befores, same, n);
+    let before = order_rows(start, same, n);
     let after = tables::transpose(before);
-    let child = child_rows(childs, before, after);
-    if !(unlike(befores, before) | unlike(childs, child)) {
-        return Stepped {
-            clash: false,
-            more: false,
-            facts: f,
-        };
-    }
-    let parent = tables::transpose(child);
-    let lines = tables::either(child, parent);
-    let orders = tables::either(before, after);
-    let differ = tables::either(differs, tables::either(lines, orders));
-    Stepped {
-        clash: false,
-        more: true,
-        facts: Facts {
-            child,
-            parent,
-            below,
-            above,
-            differ,
-            before,
-            after,
-            root: f.root,
-            label,
-            leaf: f.leaf,
-        },
+    Order {
+        clash: tables::crossed(before, below, above),
+        before,
+        after,
     }
 }
 
-// The tables settled: passes until none has more, then the step for siblings, unless there are none, until that has no more. With a clash the
-// tables are those that came in.
+// The tables settled. Passes until none has more; then, unless no variable is before another, the rules of siblings: the rows of before are
+// shared and chained, and those of child passed along them. Where child gains nothing by that all rules hold, else rounds go on. With a clash
+// the tables are those that came in.
 pub fn settle(f: Facts, n: usize) -> Settled
     requires { ⌜ n ≤ 16 ⌝ }
     requires { ⌜ ((S : List Fact) × Seeded n S f) ⌝ }
@@ -419,26 +398,41 @@ pub fn settle(f: Facts, n: usize) -> Settled
         if p.more {
             continue;
         }
-        let before = g.before;
-        if !unlike(before, [0; 16]) {
+        let start = g.before;
+        if !unlike(start, [0; 16]) {
             return Settled {
                 clash: false,
                 facts: g,
             };
         }
-        let s = siblings(g, n);
-        if s.clash {
+        let below = g.below;
+        let above = g.above;
+        let o = find_order(start, below, above, n);
+        if o.clash {
             return Settled {
                 clash: true,
                 facts: f,
             };
         }
-        if !s.more {
+        let before = o.before;
+        let after = o.after;
+        let differs = g.differ;
+        let differ = differ_rows(differs, before, after);
+        g.before = before;
+        g.after = after;
+        g.differ = differ;
+        let childs = g.child;
+        let child = child_rows(childs, before, after);
+        if !unlike(childs, child) {
             return Settled {
                 clash: false,
                 facts: g,
             };
         }
-        g = s.facts;
+        let parent = tables::transpose(child);
+        let apart = differ_rows(differ, child, parent);
+        g.child = child;
+        g.parent = parent;
+        g.differ = apart;
     }
 }

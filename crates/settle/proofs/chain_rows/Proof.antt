@@ -17,13 +17,13 @@ abbrev μ-loop2 : tie.MeasureT-loop2
 μ-loop2 n a₀ y by x₀ a x = 16 - x
 
 abbrev Inv-loop : tie.InvT-loop
-Inv-loop n a₀ y₀ a y = (y ≤ n) × (length a ≡ 16) × Lifting n a₀ y a
+Inv-loop n a₀ y₀ a y = (y ≤ n) × (length a ≡ 16) × Lifting a₀ y a
 
 abbrev μ-loop : tie.MeasureT-loop
 μ-loop n a₀ y₀ a y = n - y
 
 loop-holds : tie.Need-loop-holds Inv-loop2 μ-loop2 Inv-loop μ-loop
-loop-holds c = (search needs, search needs, lifting-none _ _)
+loop-holds c = (search needs, search needs, lifting-none _)
 
 mul-by : tie.Need-mul-by Inv-loop2 μ-loop2 Inv-loop μ-loop
 mul-by c = search needs
@@ -68,7 +68,7 @@ loop-less : tie.Need-loop-less Inv-loop2 μ-loop2 Inv-loop μ-loop
 loop-less c = search needs
 
 loop-again : tie.Need-loop-again Inv-loop2 μ-loop2 Inv-loop μ-loop
-loop-again c = (search needs, c .before .loop2 .inv .1 .long, lifting-more _ _ _ _ _ (search needs) (lifted _ _ _ _ (search needs) (c .before .loop2 .inv .0) (c .before .loop2 .inv .1)) (c .before .before .before .loop .inv .2))
+loop-again c = (search needs, c .before .loop2 .inv .1 .long, lifting-more _ _ _ _ (search needs) (lifted _ _ _ _ (search needs) (c .before .loop2 .inv .0) (c .before .loop2 .inv .1)) (c .before .before .before .loop .inv .2))
 
 returns : tie.Need-returns Inv-loop2 μ-loop2 Inv-loop μ-loop
 returns c = chain-of _ (search needs) _ _ _ (search needs) (c .before .loop .inv .2)

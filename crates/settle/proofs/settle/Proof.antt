@@ -1,10 +1,10 @@
 -- `settle::settle` meets its contract. The rounds end because the tables grow with each that has more; the last one leaves tables that are settled.
-use mathlib.Core.Path.{refl, sym}
+use mathlib.Core.Path.{_≡_, refl, sym}
 use mathlib.Core.Bool.{false≢true}
 use mathlib.Core.List.{List}
 use Prim.Native.Nat.{ℕ, _-_, _<_}
 use native.Mathlib.Omega.{arith}
-use lib.ListN.{getD}
+use lib.ListN.{length, getD}
 use mir.Val.{Fits}
 use mir.Syntax.{w16}
 use borrow.Author.Needs.{needs}
@@ -12,7 +12,7 @@ use borrow.Author.Tests.{not-true, not-false}
 use Rattle.meaning.specs.Constraint.{Fact}
 use Rattle.tables.specs.Tables.{row, Seeded}
 use Rattle.settle.specs.Steps.{weight, PassRules}
-use Rattle.settle.proofs.Sibling.{no-siblings}
+use Rattle.settle.proofs.Sibling.{Rowed, ordering, passing, ordered-clash, ordered-seeded, ordered-passed, ordered-closed, both-seeded, both-grew, no-siblings}
 use Rattle.settle.proofs.Ending.{ready, grew, no-less, weight-most}
 use Rattle.settle.proofs.settle.Statement.{statement}
 use Rattle.settle.proofs.settle.Tie as tie
@@ -88,53 +88,92 @@ returns-2 c =
           ready _ S _ g (closes m S s) (no-siblings (start e .pre .0) g (c .before .unlike .ensures) (not-true _ (c .if3 .taken)));
     }
 
-siblings-requires : tie.Need-siblings-requires Inv-loop μ-loop
-siblings-requires c κs = let m = passed (c .before) in let s = start (m .before .before) .pre in (s .0, closes m (s .1 .0) (s .1 .1) .ancestors)
+-- where before was shared and chained
+abbrev ends : tie.After-find-order Inv-loop μ-loop → tie.Else2 Inv-loop μ-loop
+ends c = passed (c .before .before .before .before)
+
+find-order-requires : tie.Need-find-order-requires Inv-loop μ-loop
+find-order-requires c κs = search needs
+
+rowed : (c : tie.After-find-order Inv-loop μ-loop) → let e = ends c .before .before in Rowed (start e .args .n) (p e .pass .result .facts) (c .find-order .result)
+rowed c =
+    let m = ends c in
+    let s = start (m .before .before) .pre in
+    record { few = s .0; columns = closes m (s .1 .0) (s .1 .1) .ancestors; order = c .find-order .ensures; after-long = search needs }
 
 returns-3 : tie.Need-returns-3 Inv-loop μ-loop
-returns-3 c =
-    let e = passed (c .before .before .before) .before .before in
-    record {
-      clashes = λ d S s. c .before .siblings .ensures .clashes (c .if4 .taken) S (seeds e S s);
-      kept = λ d. refl;
-      settles = λ d. absurd (false≢true (sym d));
-    }
+returns-3 c = record {
+  clashes = λ d S s. ordered-clash (rowed (c .before)) S (seeds (ends (c .before) .before .before) S s) (c .if4 .taken);
+  kept = λ d. refl;
+  settles = λ d. absurd (false≢true (sym d));
+}
+
+differ-rows-requires : tie.Need-differ-rows-requires Inv-loop μ-loop
+differ-rows-requires c κs = search needs
+
+child-rows-requires : tie.Need-child-rows-requires Inv-loop μ-loop
+child-rows-requires c κs = search needs
+
+unlike-requires-2 : tie.Need-unlike-requires-2 Inv-loop μ-loop
+unlike-requires-2 c κs = search needs
+
+-- and child passed along it
+abbrev differing : tie.After-unlike2 Inv-loop μ-loop → tie.After-differ-rows Inv-loop μ-loop
+differing c = c .before .before .before
+
+abbrev free : tie.After-unlike2 Inv-loop μ-loop → tie.Else4 Inv-loop μ-loop
+free c = differing c .before .before .before .before
 
 returns-4 : tie.Need-returns-4 Inv-loop μ-loop
 returns-4 c =
-    let f = c .before .before in
-    let m = passed (f .before .before .before) in
-    let e = m .before .before in
+    let u = c .before in
+    let h = free u in
+    let m = ends (h .before) in
+    let o = rowed (h .before) in
+    let d = differing u .differ-rows .ensures in
     record {
       clashes = λ d. absurd (false≢true d);
       kept = λ d. absurd (false≢true d);
-      settles = λ d S s. let g = seeds e S s in ready _ S _ g (closes m S s) (f .before .siblings .ensures .closed (f .if4 .left) (not-true _ (c .if5 .taken)) S g);
+      settles = λ z S s.
+          let g = seeds (m .before .before) S s in
+          let a = closes m S s in
+          ready _ S _ (ordered-seeded o S g d) (ordered-passed o S g d (h .if4 .left) a)
+          (ordered-closed o S g d (h .if4 .left) a (u .before .child-rows .ensures) (u .unlike2 .ensures) (not-true _ (c .if5 .taken)));
     }
 
-below-small-2 : (c : tie.After-siblings Inv-loop μ-loop) (i : ℕ) → row (c .siblings .result .facts .below) i < 65536
-below-small-2 c i = let h : Fits w16 (getD (c .siblings .result .facts .below) i 0) = search needs in h .fits
+transpose-requires : tie.Need-transpose-requires Inv-loop μ-loop
+transpose-requires c κs = search needs
 
-child-small-2 : (c : tie.After-siblings Inv-loop μ-loop) (i : ℕ) → row (c .siblings .result .facts .child) i < 65536
-child-small-2 c i = let h : Fits w16 (getD (c .siblings .result .facts .child) i 0) = search needs in h .fits
+differ-rows-requires-2 : tie.Need-differ-rows-requires-2 Inv-loop μ-loop
+differ-rows-requires-2 c κs = search needs
 
-before-small-2 : (c : tie.After-siblings Inv-loop μ-loop) (i : ℕ) → row (c .siblings .result .facts .before) i < 65536
-before-small-2 c i = let h : Fits w16 (getD (c .siblings .result .facts .before) i 0) = search needs in h .fits
+parent-long : (c : tie.After-transpose Inv-loop μ-loop) → length (c .transpose .result) ≡ 16
+parent-long c = search needs
+
+child-small-2 : (c : tie.After-child-rows Inv-loop μ-loop) (i : ℕ) → row (c .child-rows .result) i < 65536
+child-small-2 c i = let h : Fits w16 (getD (c .child-rows .result) i 0) = search needs in h .fits
+
+before-small-2 : (c : tie.After-find-order Inv-loop μ-loop) (i : ℕ) → row (c .find-order .result .before) i < 65536
+before-small-2 c i = let h : Fits w16 (getD (c .find-order .result .before) i 0) = search needs in h .fits
 
 loop-less-2 : tie.Need-loop-less-2 Inv-loop μ-loop
 loop-less-2 c =
-    let f = c .before .before .before in
-    let s = f .before in
-    let e = passed (s .before .before) .before .before in
+    let u = c .before .before .before in
+    let h = free u .before in
+    let e = ends h .before .before in
+    let t = differing u in
     let l = no-less (p e .pass .ensures) (e .if1 .left) in
-    let a = grew (s .siblings .ensures) (f .if4 .left) (not-false _ (c .before .if5 .left)) in
-    let b = weight-most (s .siblings .result .facts) (below-small-2 s) (child-small-2 s) (before-small-2 s) in
+    let a = both-grew (rowed h) (t .differ-rows .ensures) (u .before .child-rows .ensures) (c .before .transpose .result) (c .differ-rows2 .result) (u .unlike2 .ensures) (not-false _ (c .before .before .if5 .left)) in
+    let b = weight-most (passing (ordering (p e .pass .result .facts) (h .find-order .result) (t .differ-rows .result)) (u .before .child-rows .result) (c .before .transpose .result) (c .differ-rows2 .result))
+    (below-small (p e)) (child-small-2 (u .before)) (before-small-2 h) in
     omega (arith, l, a, b)
 
 loop-again-2 : tie.Need-loop-again-2 Inv-loop μ-loop
 loop-again-2 c S s =
-    let f = c .before .before .before in
-    let e = passed (f .before .before .before) .before .before in
-    f .before .siblings .ensures .seeded (f .if4 .left) S (seeds e S s)
+    let u = c .before .before .before in
+    let h = free u .before in
+    both-seeded (rowed h) (differing u .differ-rows .ensures) (u .before .child-rows .ensures) (c .before .transpose .ensures) (parent-long (c .before)) (c .differ-rows2 .ensures)
+    S (seeds (ends h .before .before) S s)
 
 pub settle-spec : {M : Type 1} → statement M
 settle-spec =
@@ -149,8 +188,13 @@ settle-spec =
     loop-again
     unlike-requires
     returns-2
-    siblings-requires
+    find-order-requires
     returns-3
+    differ-rows-requires
+    child-rows-requires
+    unlike-requires-2
     returns-4
+    transpose-requires
+    differ-rows-requires-2
     loop-less-2
     loop-again-2)
