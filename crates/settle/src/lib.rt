@@ -1,4 +1,4 @@
-// Settling: the tables of rows, closed under the rules of docs/FORMAT.md by passes over x, y and z, and by rows of siblings.
+// Settling: the tables of rows, closed under the rules of docs/FORMAT.md by passes over x, y and z, and for siblings by rows of before and of child.
 ghost use mathlib.Core.Path.{_≡_};
 ghost use mathlib.Core.List.{List};
 ghost use Rattle.meaning.specs.Constraint.{Fact};
