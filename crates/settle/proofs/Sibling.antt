@@ -9,7 +9,7 @@ use Prim.Native.Nat.{ℕ, _<_, _≤_}
 use native.Mathlib.Nat.{le-trans}
 use native.Mathlib.Decide.{decLt}
 use native.Mathlib.Omega.{arith}
-use lib.ListN.{length, replicate, List·getD-eq-default}
+use lib.ListN.{length, List·getD-eq-default}
 use Rattle.meaning.specs.Constraint.{Fact, child, below, differ, before, root, leaf, label}
 use Rattle.meaning.specs.Settled.{Settled, Clash, child-differ, differ-back, before-differ}
 use Rattle.meaning.specs.Closed.{Within, Siblings}
@@ -18,11 +18,11 @@ use Rattle.meaning.proofs.Finite.{sum-le, sum-lt}
 use Rattle.meaning.proofs.Least.{settled-within}
 use Rattle.rowbits.specs.Bit.{bit}
 use Rattle.tables.specs.Tables.{row, has, Columns, Sound, Seeded}
-use Rattle.tables.specs.Rows.{Transposed}
+use Rattle.tables.specs.Rows.{Blank, Transposed}
 use Rattle.tables.specs.Free.{Clear}
 use Rattle.tables.specs.declared.Facts.{Facts}
 use Rattle.tables.proofs.Bits.{in-both, both-in, none-in}
-use Rattle.tables.proofs.Loops.{transposed-columns, zeros}
+use Rattle.tables.proofs.Loops.{transposed-columns}
 use Rattle.tables.proofs.Clashes.{crossed-clash, uncrossed-clear}
 use Rattle.settle.specs.Rows.{In}
 use Rattle.settle.specs.Siblings.{Unlike, Groupwise, PassedOn, Parted, OrderOf}
@@ -294,7 +294,7 @@ module _ {n : ℕ} {f : Facts} {r : Order} {differs childs : List ℕ} (o : Rowe
 
 -- ---- tables without a before fact need neither
 
-pub no-siblings : {n : ℕ} {S : List Fact} {f : Facts} {r : Bool} → n ≤ 16 → Seeded n S f → Unlike (f .before) (replicate 16 0) r → r ≡ false → SiblingRules n f
+pub no-siblings : {n : ℕ} {S : List Fact} {f : Facts} {r : Bool} → n ≤ 16 → Seeded n S f → Blank (f .before) r → r ≡ true → SiblingRules n f
 unfolding has
 no-siblings {n} {S} {f} few seed w e = record {
   siblings = record {
@@ -311,4 +311,4 @@ no-siblings {n} {S} {f} few seed w e = record {
     none : (x y : ℕ) {A : Type 0} → Yes (has f (before x y)) → A
     none x y u =
         let h = settled-within n S (seed .inside) (seed .sound (before x y) u) .0 in
-        none-in y (subst (λ (k : ℕ). Yes (bit k y)) (w .none e x (le-trans h few) ∙ zeros 16 x) u)
+        absurd (w .none e x y (le-trans h few) u)

@@ -399,7 +399,7 @@ pub fn settle(f: Facts, n: usize) -> Settled
             continue;
         }
         let start = g.before;
-        if !unlike(start, [0; 16]) {
+        if tables::blank(start) {
             return Settled {
                 clash: false,
                 facts: g,

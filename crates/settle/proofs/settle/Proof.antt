@@ -35,7 +35,7 @@ module _ (c : tie.Else1 Inv-loop μ-loop) where
   seeds S s = p .pass .ensures .seeded (c .if1 .left) S (p .before .loop .inv S s)
 
 -- and with no more
-abbrev passed : tie.After-unlike Inv-loop μ-loop → tie.Else2 Inv-loop μ-loop
+abbrev passed : tie.After-blank Inv-loop μ-loop → tie.Else2 Inv-loop μ-loop
 passed c = c .before .before
 
 closes : (c : tie.Else2 Inv-loop μ-loop) (S : List Fact) → let e = c .before .before in Seeded (start e .args .n) S (start e .args .f) → PassRules (start e .args .n) (p e .pass .result .facts)
@@ -73,8 +73,8 @@ loop-less c =
 loop-again : tie.Need-loop-again Inv-loop μ-loop
 loop-again c S s = seeds (c .before .before) S s
 
-unlike-requires : tie.Need-unlike-requires Inv-loop μ-loop
-unlike-requires c κs = search needs
+blank-requires : tie.Need-blank-requires Inv-loop μ-loop
+blank-requires c κs = search needs
 
 returns-2 : tie.Need-returns-2 Inv-loop μ-loop
 returns-2 c =
@@ -85,7 +85,7 @@ returns-2 c =
       kept = λ d. absurd (false≢true d);
       settles = λ d S s.
           let g = seeds e S s in
-          ready _ S _ g (closes m S s) (no-siblings (start e .pre .0) g (c .before .unlike .ensures) (not-true _ (c .if3 .taken)));
+          ready _ S _ g (closes m S s) (no-siblings (start e .pre .0) g (c .before .blank .ensures) (c .if3 .taken));
     }
 
 -- where before was shared and chained
@@ -114,14 +114,14 @@ differ-rows-requires c κs = search needs
 child-rows-requires : tie.Need-child-rows-requires Inv-loop μ-loop
 child-rows-requires c κs = search needs
 
-unlike-requires-2 : tie.Need-unlike-requires-2 Inv-loop μ-loop
-unlike-requires-2 c κs = search needs
+unlike-requires : tie.Need-unlike-requires Inv-loop μ-loop
+unlike-requires c κs = search needs
 
 -- and child passed along it
-abbrev differing : tie.After-unlike2 Inv-loop μ-loop → tie.After-differ-rows Inv-loop μ-loop
+abbrev differing : tie.After-unlike Inv-loop μ-loop → tie.After-differ-rows Inv-loop μ-loop
 differing c = c .before .before .before
 
-abbrev free : tie.After-unlike2 Inv-loop μ-loop → tie.Else4 Inv-loop μ-loop
+abbrev free : tie.After-unlike Inv-loop μ-loop → tie.Else4 Inv-loop μ-loop
 free c = differing c .before .before .before .before
 
 returns-4 : tie.Need-returns-4 Inv-loop μ-loop
@@ -138,7 +138,7 @@ returns-4 c =
           let g = seeds (m .before .before) S s in
           let a = closes m S s in
           ready _ S _ (ordered-seeded o S g d) (ordered-passed o S g d (h .if4 .left) a)
-          (ordered-closed o S g d (h .if4 .left) a (u .before .child-rows .ensures) (u .unlike2 .ensures) (not-true _ (c .if5 .taken)));
+          (ordered-closed o S g d (h .if4 .left) a (u .before .child-rows .ensures) (u .unlike .ensures) (not-true _ (c .if5 .taken)));
     }
 
 transpose-requires : tie.Need-transpose-requires Inv-loop μ-loop
@@ -163,7 +163,7 @@ loop-less-2 c =
     let e = ends h .before .before in
     let t = differing u in
     let l = no-less (p e .pass .ensures) (e .if1 .left) in
-    let a = both-grew (rowed h) (t .differ-rows .ensures) (u .before .child-rows .ensures) (c .before .transpose .result) (c .differ-rows2 .result) (u .unlike2 .ensures) (not-false _ (c .before .before .if5 .left)) in
+    let a = both-grew (rowed h) (t .differ-rows .ensures) (u .before .child-rows .ensures) (c .before .transpose .result) (c .differ-rows2 .result) (u .unlike .ensures) (not-false _ (c .before .before .if5 .left)) in
     let b = weight-most (passing (ordering (p e .pass .result .facts) (h .find-order .result) (t .differ-rows .result)) (u .before .child-rows .result) (c .before .transpose .result) (c .differ-rows2 .result))
     (below-small (p e)) (child-small-2 (u .before)) (before-small-2 h) in
     omega (arith, l, a, b)
@@ -186,13 +186,13 @@ settle-spec =
     returns
     loop-less
     loop-again
-    unlike-requires
+    blank-requires
     returns-2
     find-order-requires
     returns-3
     differ-rows-requires
     child-rows-requires
-    unlike-requires-2
+    unlike-requires
     returns-4
     transpose-requires
     differ-rows-requires-2
