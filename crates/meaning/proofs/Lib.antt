@@ -34,3 +34,5 @@ pub mod Reordered
 pub mod Shuffled
 pub mod Unnamed
 pub mod Renumbered
+-- one pass: what is kept between two records
+pub mod OnePass
