@@ -115,8 +115,25 @@ kind-most (is-leaf x) = omega arith
 kind-most (is-label x l) = omega arith
 kind-most (is-before x y) = omega arith
 
+-- a record that passes is that of the constraint it spells, which can be asked
+pub spelt : (q : Quad) {c : Constraint} → Spells q c → (q ≡ quadOf c) × Askable c
+spelt q {c} e = subst (Read q) e (record-read q)
+
 pub spells-kind : (q : Quad) {c : Constraint} → Spells q c → q .first ≤ 9
-spells-kind q {c} e = let r : Read q (good c) = subst (Read q) e (record-read q) in subst (λ (p : Quad). p .first ≤ 9) (sym (r .0)) (kind-most c)
+spells-kind q {c} e = subst (λ (p : Quad). p .first ≤ 9) (sym (spelt q e .0)) (kind-most c)
+
+-- whatever its kind, since an unused byte is 0
+pub named-record : (c : Constraint) → named c ≡ suc (max (quadOf c .second) (quadOf c .third))
+unfolding named
+named-record (is-child x y) = refl
+named-record (is-below x y) = refl
+named-record (is-strictly-below x y) = refl
+named-record (is-same x y) = refl
+named-record (is-differ x y) = refl
+named-record (is-root x) = omega arith
+named-record (is-leaf x) = omega arith
+named-record (is-label x l) = omega arith
+named-record (is-before x y) = refl
 
 -- and the record of a constraint that can be asked spells it
 pair-good : (k : Var → Var → Constraint) (x y : Var) → suc (max x y) ≤ 16 → judgePair k x y 0 ≡ good (k x y)

@@ -7,58 +7,35 @@ use native.Mathlib.Omega.{arith}
 use Rattle.meaning.specs.Constraint.{Constraint, is-child, is-below, is-strictly-below, is-same, is-differ, is-root, is-leaf, is-label, is-before, named, Fact, child, below, differ, before, root, leaf, label, facts, factsOf}
 use Rattle.meaning.specs.Marking.{kind}
 use Rattle.meaning.specs.Finite.{pick}
+use Rattle.meaning.specs.Files.{quadOf}
 use Rattle.meaning.proofs.Constraints.{fact-in, fact-from}
 use Rattle.meaning.proofs.Facts.{in-one, in-two}
 use Rattle.constraints.specs.Record.{kindOf, constraintAs}
 
 abbrev pub left : Constraint → ℕ
-left (is-child x y) = x
-left (is-below x y) = x
-left (is-strictly-below x y) = x
-left (is-same x y) = x
-left (is-differ x y) = x
-left (is-root x) = x
-left (is-leaf x) = x
-left (is-label x l) = x
-left (is-before x y) = x
+left c = quadOf c .second
 
 -- 0 where it names one variable
 abbrev pub right : Constraint → ℕ
-right (is-child x y) = y
-right (is-below x y) = y
-right (is-strictly-below x y) = y
-right (is-same x y) = y
-right (is-differ x y) = y
-right (is-root x) = 0
-right (is-leaf x) = 0
-right (is-label x l) = 0
-right (is-before x y) = y
+right c = quadOf c .third
 
 abbrev pub name : Constraint → ℕ
-name (is-child x y) = 0
-name (is-below x y) = 0
-name (is-strictly-below x y) = 0
-name (is-same x y) = 0
-name (is-differ x y) = 0
-name (is-root x) = 0
-name (is-leaf x) = 0
-name (is-label x l) = l
-name (is-before x y) = 0
+name c = quadOf c .fourth
 
-spelt : (c : Constraint) → c ≡ constraintAs (kindOf (kind c)) (left c) (right c) (name c)
+in-codes : (c : Constraint) → c ≡ constraintAs (kindOf (kind c)) (left c) (right c) (name c)
 unfolding kind constraintAs kindOf pick
-spelt (is-child x y) = refl
-spelt (is-below x y) = refl
-spelt (is-strictly-below x y) = refl
-spelt (is-same x y) = refl
-spelt (is-differ x y) = refl
-spelt (is-root x) = refl
-spelt (is-leaf x) = refl
-spelt (is-label x l) = refl
-spelt (is-before x y) = refl
+in-codes (is-child x y) = refl
+in-codes (is-below x y) = refl
+in-codes (is-strictly-below x y) = refl
+in-codes (is-same x y) = refl
+in-codes (is-differ x y) = refl
+in-codes (is-root x) = refl
+in-codes (is-leaf x) = refl
+in-codes (is-label x l) = refl
+in-codes (is-before x y) = refl
 
 pub spelt-as : (c : Constraint) {k x y : ℕ} → kind c ≡ k → left c ≡ x → right c ≡ y → c ≡ constraintAs (kindOf k) x y (name c)
-spelt-as c a b d = rw (sym a, sym b, sym d) (spelt c)
+spelt-as c a b d = rw (sym a, sym b, sym d) (in-codes c)
 
 pub variables-named : (c : Constraint) → (left c < named c) × (right c < named c)
 unfolding named
