@@ -1,39 +1,45 @@
 -- The loop of `constraints::judge` is the meaning's pass: where it reads the record at the byte `at`, its variables are n of the records before.
 use mathlib.Core.Path.{_≡_, refl, sym, ap, _∙_}
-use mathlib.Core.List.{List, []}
-use Prim.Native.Nat.{ℕ, max, _+_, _≤_, _<_, _%_}
+use mathlib.Core.Logic.{_⊎_, inl, inr, _≢_, ⊎-elim}
+use mathlib.Core.Bool.{true}
+use mathlib.Core.List.{List, [], _∷_}
+use Prim.Native.Nat.{ℕ, suc, max, _+_, _≤_, _<_, _%_}
 use native.Mathlib.Omega.{arith}
 use lib.ListN.{length, getD, take, drop, take-append-drop}
 use lib.Seq.{length-take-le, take-all, take-add}
-use Rattle.meaning.specs.Constraint.{named, vars}
+use Rattle.meaning.specs.Constraint.{vars}
 use Rattle.meaning.specs.Finite.{pick}
-use Rattle.meaning.specs.Files.{Quad, quad, quads, Whole, JudgedRecord, bad, good, judgeRecords, judge}
-use Rattle.meaning.specs.OnePass.{Kept, number, so-far, keptOf, counting, keep, onwards, FromHere}
+use Rattle.meaning.specs.Files.{quads, Whole, bad, judgeRecords, judge}
+use Rattle.meaning.specs.OnePass.{so-far, keptOf, counting, keep, onwards, FromHere}
 use Rattle.meaning.proofs.OnePass.{onwards-refused, one-pass}
-use Rattle.constraints.specs.Judgement.{recordJudgement, judgementOf, judgement}
-use Rattle.constraints.specs.declared.RecordJudgement.the-variants.{Names, Bad}
+use Rattle.constraints.specs.Judgement.{isGood, judgementOf, judgement}
 use Rattle.constraints.specs.declared.Judgement.the-variants.{Accepted, Refused}
+use Rattle.constraints.proofs.Passing.{keeps}
 use Rattle.constraints.proofs.Records.{here, drop-four}
 
 -- the records before the byte `at` are accepted, and n of them is this
-abbrev pub ReadSoFar : List ℕ → ℕ → ℕ → Type 0
+abbrev ReadSoFar : List ℕ → ℕ → ℕ → Type 0
 ReadSoFar file at n = keptOf (judge (take at file)) ≡ so-far n
 
-pub none-read : keptOf (judge []) ≡ so-far 0
+-- n is one more than the highest variable, and 0 before the first record
+abbrev OneMore : ℕ → ℕ → ℕ → Type 0
+OneMore at highest n = ((at ≡ 0) × (highest ≡ 0) × (n ≡ 0)) ⊎ (n ≡ suc highest)
+
+-- what the loop keeps of the records before `at` is n
+pub record Keeps (file : List ℕ) (at highest : ℕ) : Type 0 where
+  pub n : ℕ
+  pub read : ReadSoFar file at n
+  pub one-more : OneMore at highest n
+  pub low : highest ≤ 15
+
+pub none-read : (file : List ℕ) → Keeps file 0 0
 unfolding judge judgeRecords keptOf vars pick
-none-read = refl
+none-read file = record { n = 0; read = refl; one-more = inl (refl, refl, refl); low = omega arith }
 
--- ---- one record
-
-counting-bad : (n q : ℕ) (r : JudgedRecord) → recordJudgement r ≡ Bad q → counting n r ≡ number q
-unfolding recordJudgement counting
-counting-bad n q (bad p) e = let d : p ≡ q = cc in rw d
-counting-bad n q (good c) e = let z : _≡_ {A = ℕ} 0 1 = cc in absurd (omega arith)
-
-counting-named : (n m : ℕ) (r : JudgedRecord) → recordJudgement r ≡ Names m → counting n r ≡ so-far (max n m)
-unfolding recordJudgement counting
-counting-named n m (bad p) e = let z : _≡_ {A = ℕ} 0 1 = cc in absurd (omega arith)
-counting-named n m (good c) e = let d : named c ≡ m = cc in rw d
+pub no-records : (file : List ℕ) → length file ≡ 0 → judgement file ≡ Accepted 0
+unfolding judgement judgementOf judge judgeRecords keptOf vars pick
+no-records [] e = refl
+no-records (b ∷ bs) e = absurd (omega arith)
 
 module _ (file : List ℕ) (short : length file ≤ 1024) (whole : Whole file) where
   from-here : (at : ℕ) → at ≤ length file → at % 4 ≡ 0 → FromHere (take at file) (drop at file)
@@ -45,24 +51,37 @@ module _ (file : List ℕ) (short : length file ≤ 1024) (whole : Whole file) w
       one-pass (take (at + 4) file) .from-any-record (omega arith) (omega (arith, w)) (take-add at 4 file) (ap (λ (k : ℕ). k % 4) (length-take-le at file (omega arith)) ∙ w)
 
   -- the record at `at` is refused: so is the file, whatever comes after it
-  pub refused-here : (at n q : ℕ) → at + 3 < length file → at % 4 ≡ 0 → ReadSoFar file at n → recordJudgement (here file at) ≡ Bad q
-      → judgement file ≡ Refused q
-  unfolding judgement judgementOf onwards keep quads
-  refused-here at n q l w s e =
-      let kept : keptOf (judge file) ≡ onwards (counting n (here file at)) (quads (drop (at + 4) file)) =
-      ap (λ (bs : List ℕ). keptOf (judge bs)) (sym (take-append-drop at file)) ∙ sym (from-here at (omega arith) w .gives) ∙ rw (s, drop-four file at l)
+  pub refused-here : (at highest q : ℕ) → at + 3 < length file → at % 4 ≡ 0 → Keeps file at highest → here file at ≡ bad q → judgement file ≡ Refused q
+  unfolding judgement judgementOf onwards keep counting quads
+  refused-here at highest q l w s e =
+      let kept : keptOf (judge file) ≡ onwards (counting (s .n) (here file at)) (quads (drop (at + 4) file)) =
+      ap (λ (bs : List ℕ). keptOf (judge bs)) (sym (take-append-drop at file)) ∙ sym (from-here at (omega arith) w .gives) ∙ rw (s .read, drop-four file at l)
       in
-      rw (kept, counting-bad n q (here file at) e, onwards-refused q (quads (drop (at + 4) file)))
+      rw (kept, e, onwards-refused q (quads (drop (at + 4) file)))
 
-  -- it is accepted, and names variables below m
-  pub one-read : (at n m : ℕ) → at + 3 < length file → at % 4 ≡ 0 → ReadSoFar file at n → recordJudgement (here file at) ≡ Names m
-      → ReadSoFar file (at + 4) (max n m)
+  counted : (at n : ℕ) → at + 3 < length file → at % 4 ≡ 0 → ReadSoFar file at n → keptOf (judge (take (at + 4) file)) ≡ counting n (here file at)
   unfolding onwards keep quads
-  one-read at n m l w s e =
-      let next : onwards (so-far n) (quads (take 4 (drop at file))) ≡ so-far (max n m) = rw (drop-four file at l) (counting-named n m (here file at) e) in
-      ap (λ (bs : List ℕ). keptOf (judge bs)) (take-add at 4 file) ∙ sym (from-next at (omega arith) w .gives) ∙ rw s next
+  counted at n l w s =
+      ap (λ (bs : List ℕ). keptOf (judge bs)) (take-add at 4 file) ∙ sym (from-next at (omega arith) w .gives) ∙ rw (s, drop-four file at l)
+
+  -- it passes: its x and y are counted too
+  pub one-read : (at highest : ℕ) → at + 3 < length file → at % 4 ≡ 0 → Keeps file at highest → isGood (here file at) ≡ true
+      → Keeps file (at + 4) (max (max highest (getD file (at + 1) 0)) (getD file (at + 2) 0))
+  one-read at highest l w s e =
+      let x = getD file (at + 1) 0 in
+      let y = getD file (at + 2) 0 in
+      let k = keeps (s .n) _ _ _ _ e in
+      record {
+        n = max (s .n) (suc (max x y));
+        read = counted at (s .n) l w (s .read) ∙ k .counts;
+        one-more = inr (⊎-elim (λ z. omega (arith, z .1, z .2)) (λ z. omega (arith, z)) (s .one-more));
+        low = omega (arith, s .low, k .low-x, k .low-y);
+      }
 
 -- no record is left
-pub all-read : (file : List ℕ) (at n : ℕ) → length file ≤ at → ReadSoFar file at n → judgement file ≡ Accepted n
+pub all-read : (file : List ℕ) (at highest : ℕ) → length file ≤ at → length file ≢ 0 → Keeps file at highest → judgement file ≡ Accepted (suc highest)
 unfolding judgement judgementOf
-all-read file at n l s = let e : keptOf (judge file) ≡ so-far n = rw (take-all at file l) at s in rw e
+all-read file at highest l some s = ⊎-elim (λ z. absurd (some (omega (arith, l, z .0)))) (λ z. ap judgementOf (kept ∙ ap so-far z)) (s .one-more)
+  where
+    kept : keptOf (judge file) ≡ so-far (s .n)
+    kept = rw (take-all at file l) at (s .read)
