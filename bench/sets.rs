@@ -114,6 +114,25 @@ pub fn day(seed: u64, sets: usize, often: &[u8]) -> Vec<Vec<u8>> {
     day
 }
 
+// Sheets of 256 records, each of any kind.
+pub fn full_sheets(seed: u64, sheets: usize) -> Vec<Vec<u8>> {
+    let mut rng = Rng(seed);
+    (0..sheets).map(|_| free(&mut rng, 16, 256, &[1, 2, 3, 4, 5, 6, 7, 8, 9])).collect()
+}
+
+// The same with a record at some place that one of questions 3 to 6 refuses.
+pub fn bad_sheets(seed: u64, sheets: &[Vec<u8>]) -> Vec<Vec<u8>> {
+    let mut rng = Rng(seed);
+    let bad = [[10, 0, 0, 0], [0, 0, 0, 0], [1, 16, 0, 0], [9, 0, 16, 0], [8, 0, 0, 0], [6, 0, 16, 0], [2, 0, 0, 1]];
+    let damaged = |sheet: &Vec<u8>| {
+        let mut file = sheet.clone();
+        let at = 4 * rng.below(file.len() / 4);
+        file[at..at + 4].copy_from_slice(&bad[rng.below(bad.len())]);
+        file
+    };
+    sheets.iter().map(damaged).collect()
+}
+
 // Sets to compare solvers on: free and planted ones of any size, some damaged.
 pub fn trial(rng: &mut Rng) -> Vec<u8> {
     let n = 1 + rng.below(16);

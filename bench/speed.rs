@@ -278,19 +278,45 @@ fn time_marker() {
     }
 }
 
-fn time_gate(inputs: &[Input]) {
-    head("    gate alone, 256 records, ns");
+// Questions 1 to 6 of each of the files: one byte stops the marker at 8, and a buffer of 131 the solver at 7.
+fn gates(name: &str, files: &[&[u8]]) {
+    for file in files {
+        let refused = MARKERS.map(|mark| mark(file, &[1]));
+        assert!(refused[0] >> 48 == 3 && refused == [refused[0]; 3], "{name}: {refused:x?}");
+        assert_eq!(both(file, 131, 9, 0) >> 48, 3);
+    }
+    let mut answers = [[0; 131]; 2];
+    let [a, b] = &mut answers;
+    let marked = |mark: Marker| files.iter().fold(0u64, |sum, file| sum.wrapping_add(mark(black_box(file), &[1])));
+    let solved = |solve: Solver, answer: &mut [u8]| {
+        files.iter().fold(0u64, |sum, file| sum.wrapping_add(solve(black_box(file), answer, 9)))
+    };
+    let (mut proved, mut by_solver) = (|| solved(proved_solve, a), || solved(solver::solve, b));
+    let times = rounds(31, [&mut || marked(proved_mark), &mut proved, &mut || marked(plain::mark), &mut by_solver]);
+    for (program, i) in [("marker", 0), ("solver", 1)] {
+        // beside the faster of the two plain gates
+        let times: Vec<[f64; 2]> = times.iter().map(|r| [r[i], r[2].min(r[3])]).collect();
+        bounded(&format!("{name}, {program}"), Times::of(&times, files.len() as f64), 1.2);
+    }
+}
+
+// Different sheets, of which no branch can be learnt by heart; and one file again and again, where it can.
+fn time_gate(inputs: &[Input], days: [&[Vec<u8>]; 2]) {
+    head("    gate alone, 40,000 different sheets, ns a sheet");
+    let full = sets::full_sheets(20_261_117, 40_000);
+    let bad = sets::bad_sheets(20_261_118, &full);
+    let sheets = [
+        ("ordinary sets", days[0]),
+        ("ordinary sets with before", days[1]),
+        ("256 records of all kinds", &full[..]),
+        ("256 records of all kinds, one of them bad", &bad[..]),
+    ];
+    for (name, files) in sheets {
+        gates(name, &files.iter().map(Vec::as_slice).collect::<Vec<_>>());
+    }
+    head("    gate alone, one file of 256 records again and again, ns");
     for input in inputs.iter().filter(|i| i.file.len() == 1024) {
-        let (name, file) = (input.name.trim_end_matches(".bin"), &input.file[..]);
-        let one = [1u8];
-        assert_eq!(MARKERS.map(|mark| mark(file, &one)), [3 << 48 | 8; 3]);
-        let marked = |mark: Marker| mark(black_box(file), black_box(&one));
-        let times = rounds(31, [&mut || marked(proved_mark), &mut || marked(plain::mark)]);
-        bounded(&format!("{name}, then question 8 of the marker"), Times::of(&times, 1.0), 1.5);
-        assert_eq!(both(file, 131, 9, 0), 3 << 48 | 7);
-        let solved = |solve: Solver| solve(black_box(file), &mut [0; 131], 9);
-        let times = rounds(31, [&mut || solved(proved_solve), &mut || solved(solver::solve)]);
-        bounded(&format!("{name}, then question 7 of the solver"), Times::of(&times, 1.0), 1.5);
+        gates(input.name.trim_end_matches(".bin"), &[&input.file]);
     }
 }
 
@@ -330,7 +356,7 @@ fn main() {
     time_day("(b) a day of 40,000 ordinary sets, ns", &day);
     time_day("    a day of 40,000 ordinary sets with before, ns", &ordered);
     time_marker();
-    time_gate(&inputs);
+    time_gate(&inputs, [&day, &ordered]);
     time_growth();
     readers::time();
 }

@@ -1,4 +1,4 @@
--- The loop of `constraints::judge` is the meaning's pass: where it reads the record at the byte `at`, its variables are n of the records before.
+-- The loop of `constraints::judge` is the meaning's pass: where it reads the record at the byte `at`, what it keeps is n of the records before.
 use mathlib.Core.Path.{_≡_, refl, sym, ap, _∙_}
 use mathlib.Core.Logic.{_⊎_, inl, inr, _≢_, ⊎-elim}
 use mathlib.Core.Bool.{true}
@@ -14,7 +14,7 @@ use Rattle.meaning.specs.OnePass.{so-far, keptOf, counting, keep, onwards, From
 use Rattle.meaning.proofs.OnePass.{onwards-refused, one-pass}
 use Rattle.constraints.specs.Judgement.{isGood, judgementOf, judgement}
 use Rattle.constraints.specs.declared.Judgement.the-variants.{Accepted, Refused}
-use Rattle.constraints.proofs.Passing.{keeps}
+use Rattle.constraints.proofs.Passing.{passed}
 use Rattle.constraints.proofs.Records.{here, drop-four}
 
 -- the records before the byte `at` are accepted, and n of them is this
@@ -70,7 +70,7 @@ module _ (file : List ℕ) (short : length file ≤ 1024) (whole : Whole file) w
   one-read at highest l w s e =
       let x = getD file (at + 1) 0 in
       let y = getD file (at + 2) 0 in
-      let k = keeps (s .n) _ _ _ _ e in
+      let k = passed (s .n) _ _ _ _ e in
       record {
         n = max (s .n) (suc (max x y));
         read = counted at (s .n) l w (s .read) ∙ k .counts;
@@ -79,9 +79,9 @@ module _ (file : List ℕ) (short : length file ≤ 1024) (whole : Whole file) w
       }
 
 -- no record is left
-pub all-read : (file : List ℕ) (at highest : ℕ) → length file ≤ at → length file ≢ 0 → Keeps file at highest → judgement file ≡ Accepted (suc highest)
+pub all-read : (file : List ℕ) (at highest : ℕ) → length file ≤ at → length file ≢ 0 → Keeps file at highest → judgement file ≡ Accepted (highest + 1)
 unfolding judgement judgementOf
-all-read file at highest l some s = ⊎-elim (λ z. absurd (some (omega (arith, l, z .0)))) (λ z. ap judgementOf (kept ∙ ap so-far z)) (s .one-more)
+all-read file at highest l some s = ⊎-elim (λ z. absurd (some (omega (arith, l, z .0)))) (λ z. let e : s .n ≡ highest + 1 = omega (arith, z) in ap judgementOf (kept ∙ ap so-far e)) (s .one-more)
   where
     kept : keptOf (judge file) ≡ so-far (s .n)
     kept = rw (take-all at file l) at (s .read)

@@ -139,19 +139,19 @@ module _ (k x y l : ℕ) where
                 let d : judgeRecord k x y l ≡ pick (eqb y 0) (good (is-label x l)) (bad 6) = rw (e, le-leb x 15 low, is-labelled l, ne-eqb l 0 (g (omega arith) n)) in
                 d ∙ left-over (eqb y 0) (is-label x l) 6 (rw d at not-good)
 
--- ---- what is kept of a record that passes
+-- ---- a record that passes
 
--- its x and y are variables: an unused y is 0
-pub record Kept (n k x y l : ℕ) : Type 0 where
+-- its x and y are variables, and it names those up to the higher: an unused y is 0
+pub record Passed (n k x y l : ℕ) : Type 0 where
   pub low-x : x ≤ 15
   pub low-y : y ≤ 15
   pub counts : counting n (judgeRecord k x y l) ≡ so-far (max n (suc (max x y)))
 
-pub keeps : (n k x y l : ℕ) → isGood (judgeRecord k x y l) ≡ true → Kept n k x y l
+pub passed : (n k x y l : ℕ) → isGood (judgeRecord k x y l) ≡ true → Passed n k x y l
 unfolding isGood counting
-keeps n k x y l e = go (judgeRecord k x y l) refl e
+passed n k x y l e = go (judgeRecord k x y l) refl e
   where
-    go : (j : JudgedRecord) → judgeRecord k x y l ≡ j → isGood j ≡ true → Kept n k x y l
+    go : (j : JudgedRecord) → judgeRecord k x y l ≡ j → isGood j ≡ true → Passed n k x y l
     go (bad q) d z = absurd (false≢true z)
     go (good c) d z =
         let s = spelt (quad k x y l) d in
