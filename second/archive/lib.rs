@@ -5,6 +5,7 @@
 mod cudreth;
 
 use cudreth::{cudreth_mark, cudreth_paths, cudreth_solve};
+use second::one_pass::NumberOrN;
 use second::verdict::{hex, MarkerVerdict, PathsVerdict, SolverVerdict};
 use second::Refusal;
 
@@ -132,6 +133,34 @@ pub fn hold_paths(text: &[u8], buffer: usize, expected: &PathsVerdict) -> Result
         }
     }
     Ok(())
+}
+
+/// The archive's own number of a file or its own n, by its answers alone. The solver without a buffer tells the number, or 7 where it has
+/// none. Of one node with 0 to 17 places the marker refuses all with 12 but the answer that has n.
+pub fn number_or_n(file: &[u8]) -> Result<NumberOrN, Disagreement> {
+    let refused = |question| number(3, 0, question);
+    let solved = unsafe { cudreth_solve(file.as_ptr(), file.len(), [].as_mut_ptr(), 0, 0) };
+    if let Some(question) = (1..=6).find(|&question| solved == refused(question as u64)) {
+        return Ok(Err(Refusal(question)));
+    }
+    let marked = |answer: &[u8]| unsafe { cudreth_mark(file.as_ptr(), file.len(), answer.as_ptr(), answer.len()) };
+    let not_12: Vec<usize> = (0..=17).filter(|&places| marked(&one_node(places)) != refused(12)).collect();
+    match not_12.as_slice() {
+        &[n] if solved == refused(7) => Ok(Ok(n)),
+        _ => Err(Disagreement(format!(
+            "neither a number nor one n\nconstraints {}\nsolver without a buffer {solved:#x}\nmarker on one node, not 12 with so many places: {not_12:?}",
+            hex(file)
+        ))),
+    }
+}
+
+/// An answer of one node with so many variables on it.
+pub fn one_node(places: usize) -> Vec<u8> {
+    let mut answer = vec![1, 0, 0, 0];
+    for variable in 0..places {
+        answer.extend([2, variable as u8, 0, 0]);
+    }
+    answer
 }
 
 /// Every result is verdict · 2^48 + middle · 2^32 + low.

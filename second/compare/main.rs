@@ -4,6 +4,7 @@
 //! usage: compare [--seconds N] [--seed S]
 
 mod brothers;
+mod one_pass;
 mod path_rounds;
 mod path_sorts;
 mod paths;
@@ -13,9 +14,11 @@ mod rounds;
 mod selection;
 mod shuffled;
 mod small;
+mod small_passes;
 mod small_shuffles;
 
 use brothers::Brothers;
+use one_pass::Passes;
 use path_sorts::PathSorts;
 use questions::Random;
 use second::constraint::{self, number_of_variables, Constraint};
@@ -38,6 +41,7 @@ struct Comparison {
     against_all_small_trees: u64,
     brothers: Brothers,
     shuffles: Shuffles,
+    passes: Passes,
     path_sorts: PathSorts,
     selections: Selections,
     small_trees: SmallTrees,
@@ -67,6 +71,7 @@ fn main() {
         against_all_small_trees: 0,
         brothers: Brothers::default(),
         shuffles: Shuffles::default(),
+        passes: Passes::default(),
         path_sorts: PathSorts::default(),
         selections: Selections::default(),
         small_trees: SmallTrees::default(),
@@ -77,6 +82,7 @@ fn main() {
     comparison.all_small_questions();
     comparison.all_small_answers();
     comparison.all_small_shuffles();
+    comparison.all_small_passes();
     comparison.all_small_paths();
     let deadline = Instant::now() + Duration::from_secs(seconds);
     while Instant::now() < deadline {
@@ -187,7 +193,7 @@ impl Comparison {
             .chain(["tree", "none", "spent", "met", "paths written"].map(String::from));
         let not_seen = must_be_seen.into_iter().find(|verdict| !self.seen.contains_key(verdict));
         let not_seen = not_seen.or_else(|| self.brother_not_seen()).or_else(|| self.shuffle_not_seen());
-        if let Some(sort) = not_seen.or_else(|| self.path_sort_not_seen()) {
+        if let Some(sort) = not_seen.or_else(|| self.pass_not_seen()).or_else(|| self.path_sort_not_seen()) {
             println!("compare: '{sort}' never came up; a longer run is needed");
             std::process::exit(1);
         }
@@ -200,6 +206,8 @@ impl Comparison {
         println!("compare: brothers in order: {}", brothers.join(", "));
         let shuffles: Vec<String> = self.shuffles.iter().map(|(what, times)| format!("{what} {times}")).collect();
         println!("compare: shuffled papers: {}", shuffles.join(", "));
+        let passes: Vec<String> = self.passes.iter().map(|(what, times)| format!("{what} {times}")).collect();
+        println!("compare: one pass: {}", passes.join(", "));
         let Selections { trees, nones, tree_by_tree } = self.selections;
         println!(
             "compare: paths against definition 2.3: variable 0 selected in {trees} trees found; {nones} times none, and no tree of up to \
