@@ -8,7 +8,7 @@ use lib.Dec.{eqb, leb}
 use borrow.Author.Tests.{lt-leb, le-leb, eq-eqb, ne-eqb}
 use Rattle.meaning.specs.Constraint.{Constraint, is-label, named}
 use Rattle.meaning.specs.Finite.{pick, _and_}
-use Rattle.meaning.specs.Files.{Quad, quad, quadOf, JudgedRecord, bad, good, judgePair, judgeSingle, judgeLabel, judgeRecord}
+use Rattle.meaning.specs.Files.{Quad, quad, JudgedRecord, bad, good, judgePair, judgeSingle, judgeLabel, judgeRecord}
 use Rattle.meaning.specs.OnePass.{so-far, counting}
 use Rattle.meaning.proofs.Records.{spelt, named-record}
 use Rattle.constraints.specs.Judgement.{roomOf, isGood}

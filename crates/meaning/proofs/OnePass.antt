@@ -2,15 +2,32 @@
 use mathlib.Core.Path.{_≡_, refl, sym, ap, _∙_, subst}
 use mathlib.Core.Bool.{Bool, true, false}
 use mathlib.Core.List.{List, [], _∷_, _++_}
-use Prim.Native.Nat.{ℕ, max, _≤_, _%_}
+use Prim.Native.Nat.{ℕ, max, _≤_}
 use native.Mathlib.Omega.{arith}
 use lib.ListN.{length, length-append}
-use lib.Dec.{eqb, leb}
 use Rattle.meaning.specs.Constraint.{named, vars}
-use Rattle.meaning.specs.Finite.{Yes, pick}
-use Rattle.meaning.specs.Files.{Quad, quad, quads, Whole, JudgedRecord, bad, good, judgeQuad, Judged, refused, accepted, withRest, judgeRecords, judge}
+use Rattle.meaning.specs.Finite.{Yes, pick, _and_}
+use Rattle.meaning.specs.Files.{Quad, quad, quads, Whole, JudgedRecord, bad, good, judgePair, judgeSingle, judgeRecord, Judged, refused, accepted, withRest, judgeRecords, judge}
 use Rattle.meaning.specs.OnePass.{Kept, number, so-far, keptOf, counting, keep, onwards, FromHere, OnePass}
 use Rattle.meaning.proofs.Tests.{pick-yes, le-yes, is-eq, eq-yes}
+
+-- ---- docs/FORMAT.md's example, by computing
+
+first-read : onwards (so-far 0) (quad 7 3 0 0 ∷ []) ≡ so-far 4
+unfolding onwards keep counting judgeRecord judgeSingle named pick _and_
+first-read = refl
+
+not-higher : onwards (so-far 4) (quad 1 0 1 0 ∷ []) ≡ so-far 4
+unfolding onwards keep counting judgeRecord judgePair named pick _and_
+not-higher = refl
+
+refused-6 : onwards (so-far 4) (quad 6 0 16 0 ∷ []) ≡ number 6
+unfolding onwards keep counting judgeRecord judgeSingle pick _and_
+refused-6 = refl
+
+still-6 : onwards (number 6) (quad 0 0 0 0 ∷ quad 7 15 0 0 ∷ []) ≡ number 6
+unfolding onwards keep counting judgeRecord judgeSingle named pick _and_
+still-6 = refl
 
 -- ---- the pass
 

@@ -1,7 +1,6 @@
 -- `constraints::passes` meets its contract: whatever the kind, x is a variable, y has room, and there is a label exactly in kind 8.
 use mathlib.Core.Path.{sym}
 use borrow.Author.Needs.{needs}
-use native.Mathlib.Omega.{arith}
 use Rattle.constraints.proofs.Passing.{high-x, no-room, with-room}
 use Rattle.constraints.proofs.passes.Statement.{statement}
 use Rattle.constraints.proofs.passes.Tie as tie
