@@ -7,12 +7,8 @@ use second::search::{Join, Trace};
 use second::tree::{Node, Tree};
 use second::verdict::SolverVerdict;
 use second::{answer, Refusal};
-use std::collections::BTreeMap;
 
-/// What came up, and how often.
-pub type Brothers = BTreeMap<String, u64>;
-
-const MUST_COME_UP: [&str; 8] = [
+pub const BROTHERS: [&str; 8] = [
     "a tree by the first alternative of a third join",
     "a tree by the second alternative of a third join",
     "before(x,y) with below(x,y)",
@@ -27,39 +23,28 @@ impl Comparison {
     pub fn note_brothers(&mut self, file: &[u8], verdict: &SolverVerdict, trace: &Trace) {
         for &clash in &trace.clashes {
             match clash {
-                Clash::LaterSiblingBelow => self.note_brother("before(x,y) with below(x,y)"),
-                Clash::EarlierSiblingBelow => self.note_brother("before(x,y) with below(y,x)"),
+                Clash::LaterSiblingBelow => self.brothers.note("before(x,y) with below(x,y)"),
+                Clash::EarlierSiblingBelow => self.brothers.note("before(x,y) with below(y,x)"),
                 Clash::DiffersFromItself | Clash::TwoLabels => {}
             }
         }
         for (join, alternative) in &trace.line {
             match (join, alternative) {
-                (Join::Sibling { .. }, 0) => self.note_brother("a tree by the first alternative of a third join"),
-                (Join::Sibling { .. }, _) => self.note_brother("a tree by the second alternative of a third join"),
+                (Join::Sibling { .. }, 0) => self.brothers.note("a tree by the first alternative of a third join"),
+                (Join::Sibling { .. }, _) => self.brothers.note("a tree by the second alternative of a third join"),
                 _ => {}
             }
         }
         match verdict {
             SolverVerdict::Tree { answer, .. } if !is_by_lowest_variable(answer) => {
-                self.note_brother("at one depth another order than by lowest variable");
+                self.brothers.note("at one depth another order than by lowest variable");
             }
             SolverVerdict::Refused(Refusal(question @ 3..=6)) => {
                 let bad = file.chunks(4).find(|record| constraint::read(record).is_err()).expect("a bad record");
-                self.note_brother(&format!("kind {} refused with {question}", bad[0]));
+                self.brothers.note_if_asked_for(&format!("kind {} refused with {question}", bad[0]));
             }
             _ => {}
         }
-    }
-
-    fn note_brother(&mut self, what: &str) {
-        if MUST_COME_UP.contains(&what) {
-            *self.brothers.entry(what.to_string()).or_default() += 1;
-        }
-    }
-
-    /// What must have come up, or a longer run is needed.
-    pub fn brother_not_seen(&self) -> Option<String> {
-        MUST_COME_UP.into_iter().find(|&what| !self.brothers.contains_key(what)).map(String::from)
     }
 }
 

@@ -4,6 +4,7 @@
 //! usage: compare [--seconds N] [--seed S]
 
 mod brothers;
+mod came_up;
 mod one_pass;
 mod path_rounds;
 mod path_sorts;
@@ -17,15 +18,16 @@ mod small;
 mod small_passes;
 mod small_shuffles;
 
-use brothers::Brothers;
-use one_pass::Passes;
+use brothers::BROTHERS;
+use came_up::CameUp;
+use one_pass::PASSES;
 use path_sorts::PathSorts;
 use questions::Random;
 use second::constraint::{self, number_of_variables, Constraint};
 use second::verdict::{hex, MarkerVerdict, SolverVerdict};
 use second::{answer, brute, Refusal};
 use selection::{Selections, SmallTrees};
-use shuffled::Shuffles;
+use shuffled::SHUFFLES;
 use std::collections::{BTreeMap, BTreeSet};
 use std::time::{Duration, Instant};
 
@@ -39,9 +41,9 @@ struct Comparison {
     counts: BTreeMap<usize, u64>,
     /// How many verdicts of the second solver were held against every small tree.
     against_all_small_trees: u64,
-    brothers: Brothers,
-    shuffles: Shuffles,
-    passes: Passes,
+    brothers: CameUp,
+    shuffles: CameUp,
+    passes: CameUp,
     path_sorts: PathSorts,
     selections: Selections,
     small_trees: SmallTrees,
@@ -69,9 +71,9 @@ fn main() {
         seen: BTreeMap::new(),
         counts: BTreeMap::new(),
         against_all_small_trees: 0,
-        brothers: Brothers::default(),
-        shuffles: Shuffles::default(),
-        passes: Passes::default(),
+        brothers: CameUp::new(&BROTHERS),
+        shuffles: CameUp::new(&SHUFFLES),
+        passes: CameUp::new(&PASSES),
         path_sorts: PathSorts::default(),
         selections: Selections::default(),
         small_trees: SmallTrees::default(),
@@ -192,8 +194,9 @@ impl Comparison {
             .chain([7, 13, 14].map(|question| format!("paths refused {question}")))
             .chain(["tree", "none", "spent", "met", "paths written"].map(String::from));
         let not_seen = must_be_seen.into_iter().find(|verdict| !self.seen.contains_key(verdict));
-        let not_seen = not_seen.or_else(|| self.brother_not_seen()).or_else(|| self.shuffle_not_seen());
-        if let Some(sort) = not_seen.or_else(|| self.pass_not_seen()).or_else(|| self.path_sort_not_seen()) {
+        let came_up = [&self.brothers, &self.shuffles, &self.passes];
+        let not_seen = not_seen.or_else(|| came_up.into_iter().find_map(CameUp::missing));
+        if let Some(sort) = not_seen.or_else(|| self.path_sort_not_seen()) {
             println!("compare: '{sort}' never came up; a longer run is needed");
             std::process::exit(1);
         }
@@ -202,12 +205,9 @@ impl Comparison {
         let counts: Vec<String> = self.counts.iter().map(|(digits, times)| format!("{digits} in {times}")).collect();
         println!("compare: digits of the count of choices in random questions: {}", counts.join(", "));
         println!("compare: {} verdicts of the second solver agree with all small trees", self.against_all_small_trees);
-        let brothers: Vec<String> = self.brothers.iter().map(|(what, times)| format!("{what} {times}")).collect();
-        println!("compare: brothers in order: {}", brothers.join(", "));
-        let shuffles: Vec<String> = self.shuffles.iter().map(|(what, times)| format!("{what} {times}")).collect();
-        println!("compare: shuffled papers: {}", shuffles.join(", "));
-        let passes: Vec<String> = self.passes.iter().map(|(what, times)| format!("{what} {times}")).collect();
-        println!("compare: one pass: {}", passes.join(", "));
+        println!("compare: brothers in order: {}", self.brothers);
+        println!("compare: shuffled papers: {}", self.shuffles);
+        println!("compare: one pass: {}", self.passes);
         let Selections { trees, nones, tree_by_tree } = self.selections;
         println!(
             "compare: paths against definition 2.3: variable 0 selected in {trees} trees found; {nones} times none, and no tree of up to \

@@ -9,12 +9,8 @@ use second::constraint::{self, number_of_variables};
 use second::one_pass::{self, onwards, step, NumberOrN, Record, NOTHING_READ};
 use second::verdict::{hex, MarkerVerdict, SolverVerdict};
 use second::{Refusal, LEAST_BUFFER};
-use std::collections::BTreeMap;
 
-/// What came up, and how often.
-pub type Passes = BTreeMap<String, u64>;
-
-const MUST_COME_UP: [&str; 21] = [
+pub const PASSES: [&str; 21] = [
     "refused 3, then good records",
     "refused 4, then good records",
     "refused 5, then good records",
@@ -78,7 +74,7 @@ impl Comparison {
             disagree(sort, &format!("the archive's own\nfirst {first}\nother {other}\nlater {}", hex(&later.concat())));
         }
         self.hold_number_or_n(sort, &others_and_later.concat(), first[1]);
-        self.note_pass_if(others != read, "others of which the same is kept");
+        self.passes.note_if(others != read, "others of which the same is kept");
     }
 
     /// As far as the archive's answers tell it: the number by the solver and the marker, n by the places that question 12 wants. Both ways of
@@ -124,7 +120,7 @@ impl Comparison {
         let expected = one_pass::number_or_n(file);
         self.hold_number_or_n(sort, file, expected);
         if let (Err(Refusal(number)), Err(_)) = (expected, onwards(NOTHING_READ, &one_pass::records(file))) {
-            self.note_pass(&format!("refused {number} by the length, with a bad record"));
+            self.passes.note(&format!("refused {number} by the length, with a bad record"));
         }
     }
 
@@ -153,57 +149,42 @@ impl Comparison {
     }
 
     fn note_split(&mut self, records: &[Record], at: usize) {
-        self.note_pass("splits");
+        self.passes.note("splits");
         let (read, later) = records.split_at(at);
         let kept = onwards(NOTHING_READ, read);
         match (kept, onwards(kept, later)) {
             (Err(number), _) => self.note_number_kept(number, later),
             (Ok(_), Err(number)) => self.note_refused_later(number, records),
             (Ok(n), Ok(whole)) => {
-                self.note_pass_if(whole > n, "n higher by later records");
-                self.note_pass_if(whole == n && n > 0 && !later.is_empty(), "n not higher by later records");
-                self.note_pass_if(read.is_empty() && !later.is_empty(), "n 0 before the first record");
-                self.note_pass_if(whole == 16, "n 16");
+                self.passes.note_if(whole > n, "n higher by later records");
+                self.passes.note_if(whole == n && n > 0 && !later.is_empty(), "n not higher by later records");
+                self.passes.note_if(read.is_empty() && !later.is_empty(), "n 0 before the first record");
+                self.passes.note_if(whole == 16, "n 16");
             }
         }
     }
 
     fn note_number_kept(&mut self, Refusal(number): Refusal, later: &[Record]) {
         match onwards(NOTHING_READ, later) {
-            Ok(_) if !later.is_empty() => self.note_pass(&format!("refused {number}, then good records")),
+            Ok(_) if !later.is_empty() => self.passes.note(&format!("refused {number}, then good records")),
             Err(Refusal(other)) if other != number => {
-                self.note_pass(&format!("refused {number}, then another number"));
+                self.passes.note(&format!("refused {number}, then another number"));
             }
             _ => {}
         }
     }
 
     fn note_refused_later(&mut self, Refusal(number): Refusal, records: &[Record]) {
-        self.note_pass(&format!("refused {number} by a later record"));
+        self.passes.note(&format!("refused {number} by a later record"));
         let is_bad = |&record: &Record| step(NOTHING_READ, record).is_err();
         let at = records.iter().position(is_bad).expect("a bad record");
         let [kind, x, y, _] = records[at];
         let highest = if (6..=8).contains(&kind) { x } else { x.max(y) };
         // With 5 and 6 the variables are in range.
         let is_higher = number >= 5 && onwards(NOTHING_READ, &records[..at]).is_ok_and(|n| highest as usize >= n);
-        self.note_pass_if(is_higher, "a refused record that names a higher variable");
+        self.passes.note_if(is_higher, "a refused record that names a higher variable");
         let is_root = at > 0 && records[at] == [6, 0, 16, 0] && number == 6;
-        self.note_pass_if(is_root, "06001000 refused with 6 after other records");
-    }
-
-    fn note_pass(&mut self, what: &str) {
-        *self.passes.entry(what.to_string()).or_default() += 1;
-    }
-
-    fn note_pass_if(&mut self, holds: bool, what: &str) {
-        if holds {
-            self.note_pass(what);
-        }
-    }
-
-    /// What must have come up, or a longer run is needed.
-    pub fn pass_not_seen(&self) -> Option<String> {
-        MUST_COME_UP.into_iter().find(|&what| !self.passes.contains_key(what)).map(String::from)
+        self.passes.note_if(is_root, "06001000 refused with 6 after other records");
     }
 }
 

@@ -39,23 +39,23 @@ impl Comparison {
             return false;
         };
         let other_variables = number_of_variables(&constraints);
-        self.note_shuffle_if(other_variables < variables, "renumbered with another n");
+        self.shuffles.note_if(other_variables < variables, "renumbered with another n");
         other_variables <= variables
             && match (&first.verdict, &other.verdict) {
                 (SolverVerdict::Tree { count, answer }, SolverVerdict::Tree { count: other, answer: other_answer }) => {
-                    self.note_shuffle("renumbered tree");
-                    self.note_shuffle_if(count != other, "renumbered tree with another count");
-                    self.note_shuffle_if(answer != other_answer, "renumbered with another answer");
+                    self.shuffles.note("renumbered tree");
+                    self.shuffles.note_if(count != other, "renumbered tree with another count");
+                    self.shuffles.note_if(answer != other_answer, "renumbered with another answer");
                     true
                 }
                 (SolverVerdict::None { count }, SolverVerdict::None { count: other }) => {
-                    self.note_shuffle("renumbered none");
-                    self.note_shuffle_if(count != other, "renumbered none with another count");
+                    self.shuffles.note("renumbered none");
+                    self.shuffles.note_if(count != other, "renumbered none with another count");
                     true
                 }
                 (SolverVerdict::Spent { .. }, SolverVerdict::Spent { .. }) => true,
                 (SolverVerdict::Spent { .. }, _) | (_, SolverVerdict::Spent { .. }) => {
-                    self.note_shuffle("renumbered, one of them spent");
+                    self.shuffles.note("renumbered, one of them spent");
                     true
                 }
                 _ => false,

@@ -50,7 +50,7 @@ impl Comparison {
             SolverVerdict::Spent { .. } => "reordered spent",
             SolverVerdict::Refused(_) => return,
         };
-        self.note_shuffle_if(other != solved.file, what);
+        self.shuffles.note_if(other != solved.file, what);
     }
 
     /// `first` is the number in the first order. 1 stays 1; another number is that of the first record that is refused alone.
@@ -66,7 +66,7 @@ impl Comparison {
             let said = format!("{}, {}, marker {marked}", solved[0], solved[1]);
             disagree(sort, &format!("{said}, expected {refused}\nconstraints {}", hex(other)));
         }
-        self.note_shuffle(match first {
+        self.shuffles.note(match first {
             Refusal(1) => "reordered and still too long",
             _ if now == first => "reordered and refused with the same number",
             _ => "reordered and refused with another number",
@@ -87,11 +87,11 @@ impl Comparison {
         }
         match (first, now) {
             (MarkerVerdict::Unmet { position, kind }, MarkerVerdict::Unmet { position: other, kind: other_kind }) => {
-                self.note_shuffle_if(position != other, "reordered and unmet at another position");
-                self.note_shuffle_if(kind != other_kind, "reordered and unmet of another kind");
+                self.shuffles.note_if(position != other, "reordered and unmet at another position");
+                self.shuffles.note_if(kind != other_kind, "reordered and unmet of another kind");
             }
-            (MarkerVerdict::Met, _) => self.note_shuffle_if(file != other, "reordered and met"),
-            _ => self.note_shuffle_if(file != other, "reordered, the answer refused"),
+            (MarkerVerdict::Met, _) => self.shuffles.note_if(file != other, "reordered and met"),
+            _ => self.shuffles.note_if(file != other, "reordered, the answer refused"),
         }
     }
 }

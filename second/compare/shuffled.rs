@@ -1,12 +1,6 @@
-//! Shuffled papers (document 02, request (ii)): what came up in them, and what must.
+//! Shuffled papers (document 02, request (ii)): what must come up in them.
 
-use crate::Comparison;
-use std::collections::BTreeMap;
-
-/// What came up, and how often.
-pub type Shuffles = BTreeMap<&'static str, u64>;
-
-const MUST_COME_UP: [&str; 17] = [
+pub const SHUFFLES: [&str; 17] = [
     "reordered tree",
     "reordered none",
     "reordered spent",
@@ -25,20 +19,3 @@ const MUST_COME_UP: [&str; 17] = [
     "renumbered with another n",
     "renumbered with another answer",
 ];
-
-impl Comparison {
-    pub fn note_shuffle(&mut self, what: &'static str) {
-        *self.shuffles.entry(what).or_default() += 1;
-    }
-
-    pub fn note_shuffle_if(&mut self, holds: bool, what: &'static str) {
-        if holds {
-            self.note_shuffle(what);
-        }
-    }
-
-    /// What must have come up, or a longer run is needed.
-    pub fn shuffle_not_seen(&self) -> Option<String> {
-        MUST_COME_UP.into_iter().find(|what| !self.shuffles.contains_key(what)).map(String::from)
-    }
-}
