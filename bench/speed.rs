@@ -291,8 +291,9 @@ fn gates(name: &str, files: &[&[u8]]) {
     let solved = |solve: Solver, answer: &mut [u8]| {
         files.iter().fold(0u64, |sum, file| sum.wrapping_add(solve(black_box(file), answer, 9)))
     };
-    let (mut proved, mut by_solver) = (|| solved(proved_solve, a), || solved(solver::solve, b));
-    let times = rounds(31, [&mut || marked(proved_mark), &mut proved, &mut || marked(plain::mark), &mut by_solver]);
+    let (mut proved_solver, mut plain_solver) = (|| solved(proved_solve, a), || solved(solver::solve, b));
+    let times =
+        rounds(31, [&mut || marked(proved_mark), &mut proved_solver, &mut || marked(plain::mark), &mut plain_solver]);
     for (program, i) in [("marker", 0), ("solver", 1)] {
         // beside the faster of the two plain gates
         let times: Vec<[f64; 2]> = times.iter().map(|r| [r[i], r[2].min(r[3])]).collect();

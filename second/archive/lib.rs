@@ -135,16 +135,31 @@ pub fn hold_paths(text: &[u8], buffer: usize, expected: &PathsVerdict) -> Result
     Ok(())
 }
 
+fn refused(question: u64) -> u64 {
+    number(3, 0, question)
+}
+
+fn solved_without_a_buffer(file: &[u8]) -> u64 {
+    unsafe { cudreth_solve(file.as_ptr(), file.len(), [].as_mut_ptr(), 0, 0) }
+}
+
+fn marked(file: &[u8], answer: &[u8]) -> u64 {
+    unsafe { cudreth_mark(file.as_ptr(), file.len(), answer.as_ptr(), answer.len()) }
+}
+
+/// Is this the file's number, by the solver without a buffer and by the marker with an answer of one byte? Those of an accepted file are 7 and 8.
+pub fn is_refused(file: &[u8], by_solver: u8, by_marker: u8) -> bool {
+    solved_without_a_buffer(file) == refused(by_solver as u64) && marked(file, &[1]) == refused(by_marker as u64)
+}
+
 /// The archive's own number of a file or its own n, by its answers alone. The solver without a buffer tells the number, or 7 where it has
 /// none. Of one node with 0 to 17 places the marker refuses all with 12 but the answer that has n.
 pub fn number_or_n(file: &[u8]) -> Result<NumberOrN, Disagreement> {
-    let refused = |question| number(3, 0, question);
-    let solved = unsafe { cudreth_solve(file.as_ptr(), file.len(), [].as_mut_ptr(), 0, 0) };
+    let solved = solved_without_a_buffer(file);
     if let Some(question) = (1..=6).find(|&question| solved == refused(question as u64)) {
         return Ok(Err(Refusal(question)));
     }
-    let marked = |answer: &[u8]| unsafe { cudreth_mark(file.as_ptr(), file.len(), answer.as_ptr(), answer.len()) };
-    let not_12: Vec<usize> = (0..=17).filter(|&places| marked(&one_node(places)) != refused(12)).collect();
+    let not_12: Vec<usize> = (0..=17).filter(|&places| marked(file, &one_node(places)) != refused(12)).collect();
     match not_12.as_slice() {
         &[n] if solved == refused(7) => Ok(Ok(n)),
         _ => Err(Disagreement(format!(

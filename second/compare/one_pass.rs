@@ -10,7 +10,7 @@ use second::one_pass::{self, onwards, step, NumberOrN, Record, NOTHING_READ};
 use second::verdict::{hex, MarkerVerdict, SolverVerdict};
 use second::{Refusal, LEAST_BUFFER};
 
-pub const PASSES: [&str; 21] = [
+pub const PASSES: [&str; 26] = [
     "refused 3, then good records",
     "refused 4, then good records",
     "refused 5, then good records",
@@ -32,23 +32,46 @@ pub const PASSES: [&str; 21] = [
     "refused 1 by the length, with a bad record",
     "refused 2 by the length, with a bad record",
     "others of which the same is kept",
+    "a random question split",
+    "a damaged question split, n kept",
+    "a damaged question split, a number kept",
+    "a damaged question refused with 1 by its length",
+    "a damaged question refused with 2 by its length",
 ];
 
 impl Comparison {
-    /// A random question, or a damaged one, at so many random splits.
-    pub fn split_at_random(&mut self, file: &[u8], splits: usize) {
+    /// A random question at three random splits.
+    pub fn split_question(&mut self, file: &[u8]) {
+        for _ in 0..3 {
+            let kept = self.split_at_random(file);
+            self.passes.note_if(kept.is_ok(), "a random question split");
+        }
+    }
+
+    /// A damaged question at a random split, or its number where its length refuses it.
+    pub fn split_damaged(&mut self, file: &[u8]) {
+        if let Err(Refusal(number @ 1..=2)) = one_pass::number_or_n(file) {
+            self.hold_length("damaged questions refused by length", file, number);
+            return self.passes.note(&format!("a damaged question refused with {number} by its length"));
+        }
+        let kept = self.split_at_random(file);
+        self.passes.note(if kept.is_ok() {
+            "a damaged question split, n kept"
+        } else {
+            "a damaged question split, a number kept"
+        });
+    }
+
+    /// What the archive keeps of the records read.
+    fn split_at_random(&mut self, file: &[u8]) -> NumberOrN {
         const SORT: &str = "questions split at random";
-        if file.len() > 1024 || file.len() % 4 != 0 {
-            return self.hold_length("damaged questions refused by length", file);
-        }
         let records = one_pass::records(file);
-        for _ in 0..splits {
-            let at = self.random.below(records.len() + 1);
-            self.hold_split(SORT, &records, at);
-            let kept = own_number_or_n(SORT, &records[..at]);
-            let others = self.others(kept, 256 - (records.len() - at));
-            self.hold_alone(SORT, &records, at, &others);
-        }
+        let at = self.random.below(records.len() + 1);
+        self.hold_split(SORT, &records, at);
+        let kept = own_number_or_n(SORT, &records[..at]);
+        let others = self.others(kept, 256 - (records.len() - at));
+        self.hold_alone(SORT, &records, at, &others);
+        kept
     }
 
     /// The records before `at` are read, and a file of their own too; those from `at` on are to come.
@@ -116,22 +139,18 @@ impl Comparison {
     }
 
     /// A file that is too long or ends within a record.
-    pub fn hold_length(&mut self, sort: &'static str, file: &[u8]) {
-        let expected = one_pass::number_or_n(file);
-        self.hold_number_or_n(sort, file, expected);
-        if let (Err(Refusal(number)), Err(_)) = (expected, onwards(NOTHING_READ, &one_pass::records(file))) {
-            self.passes.note(&format!("refused {number} by the length, with a bad record"));
-        }
+    pub fn hold_length(&mut self, sort: &'static str, file: &[u8], number: u8) {
+        self.hold_number_or_n(sort, file, Err(Refusal(number)));
+        let has_bad_record = onwards(NOTHING_READ, &one_pass::records(file)).is_err();
+        self.passes.note_if(has_bad_record, &format!("refused {number} by the length, with a bad record"));
     }
 
     /// Random records of which this is kept, at most so many.
     fn others(&mut self, kept: NumberOrN, most: usize) -> Vec<Record> {
-        let mut others = shortest(kept);
+        let bad = RECORDS.iter().filter(|(_, alone)| alone.is_err() && *alone == kept);
+        let bad: Vec<Record> = bad.map(|(record, _)| *record).collect();
+        let mut others = if bad.is_empty() { shortest(kept) } else { vec![self.random.pick(&bad)] };
         let mix = Mix::random(&mut self.random);
-        if kept.is_err() {
-            let bad = RECORDS.iter().filter(|(_, alone)| *alone == kept).map(|(record, _)| *record);
-            others = vec![self.random.pick(&bad.collect::<Vec<_>>())];
-        }
         while !others.is_empty() && others.len() < most && !self.random.one_in(8) {
             match kept {
                 Ok(n) => {

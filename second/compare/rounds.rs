@@ -59,7 +59,7 @@ impl Comparison {
         self.doubled(&solved, &constraints);
         self.solved_in_another_order(&solved);
         self.solved_with_other_numbers(&solved, number_of_variables(&constraints));
-        self.split_at_random(&solved.file, 3);
+        self.split_question(&solved.file);
         self.damaged(&solved);
         self.answers(&solved, &constraints, &tree, &assignment);
     }
@@ -135,7 +135,7 @@ impl Comparison {
             if let SolverVerdict::Refused(refusal @ Refusal(1 | 3..=6)) = verdict {
                 self.refused_in_another_order(&file, refusal);
             }
-            self.split_at_random(&file, 1);
+            self.split_damaged(&file);
             let answer_file = match &solved.verdict {
                 SolverVerdict::Tree { answer, .. } => answer.clone(),
                 _ => vec![1, 0, 0, 0],

@@ -98,8 +98,7 @@ impl Comparison {
         for (length, number) in not_whole.into_iter().chain(too_long) {
             for (record, _) in RECORDS {
                 let file: Vec<u8> = record.into_iter().cycle().take(length).collect();
-                self.hold_number_or_n(SORT, &file, Err(Refusal(number)));
-                self.hold_length(SORT, &file);
+                self.hold_length(SORT, &file, number);
             }
         }
     }

@@ -1,24 +1,11 @@
 //! Every record there is, 4,294,967,296 of them, alone in a file: the archive's number by the solver and by the marker, and its n where it is
-//! accepted, against the second side's one pass. Some 50 s; `.ci/second` builds it and does not run it.
+//! accepted, against the second side's one pass. About a minute; `.ci/second` builds it and does not run it.
 //!
 //! usage: every_record
 
-#[path = "../../include/cudreth.rs"]
-#[allow(dead_code)]
-mod cudreth;
-
-use cudreth::{cudreth_mark, cudreth_solve};
 use second::one_pass::{step, NOTHING_READ};
 use second::verdict::hex;
 use second::Refusal;
-
-/// What the solver says without a buffer, and the marker to an answer of one byte: the file's number, or else 7 and 8.
-fn said(file: &[u8]) -> [u64; 2] {
-    let answer = [1u8];
-    let solved = unsafe { cudreth_solve(file.as_ptr(), file.len(), [].as_mut_ptr(), 0, 0) };
-    let marked = unsafe { cudreth_mark(file.as_ptr(), file.len(), answer.as_ptr(), answer.len()) };
-    [solved, marked]
-}
 
 fn main() {
     let mut refused = [0u64; 7];
@@ -26,13 +13,12 @@ fn main() {
     for number in 0..=u32::MAX {
         let file = number.to_le_bytes();
         let expected = step(NOTHING_READ, file);
-        let numbers = match expected {
-            Err(Refusal(question)) => [question, question],
-            Ok(_) => [7, 8],
+        let is_so = match expected {
+            Err(Refusal(question)) => archive::is_refused(&file, question, question),
+            Ok(_) => archive::is_refused(&file, 7, 8) && archive::number_or_n(&file).is_ok_and(|own| own == expected),
         };
-        let own = expected.is_err() || archive::number_or_n(&file).is_ok_and(|own| own == expected);
-        if said(&file) != numbers.map(|question| 3 << 48 | question as u64) || !own {
-            println!("DISAGREEMENT: {} should be {expected:?}, the archive says {:x?}", hex(&file), said(&file));
+        if !is_so {
+            println!("DISAGREEMENT: {} should be {expected:?}", hex(&file));
             std::process::exit(1);
         }
         match expected {

@@ -14,7 +14,7 @@ use Rattle.meaning.specs.OnePass.{so-far, keptOf, counting, keep, onwards, From
 use Rattle.meaning.proofs.OnePass.{onwards-refused, one-pass}
 use Rattle.constraints.specs.Judgement.{isGood, judgementOf, judgement}
 use Rattle.constraints.specs.declared.Judgement.the-variants.{Accepted, Refused}
-use Rattle.constraints.proofs.Passing.{passed}
+use Rattle.constraints.proofs.Passing.{good-record}
 use Rattle.constraints.proofs.Records.{here, drop-four}
 
 -- the records before the byte `at` are accepted, and n of them is this
@@ -42,11 +42,11 @@ no-records [] e = refl
 no-records (b ∷ bs) e = absurd (omega arith)
 
 module _ (file : List ℕ) (short : length file ≤ 1024) (whole : Whole file) where
-  from-here : (at : ℕ) → at ≤ length file → at % 4 ≡ 0 → FromHere (take at file) (drop at file)
-  from-here at l w = one-pass file .from-any-record short whole (sym (take-append-drop at file)) (ap (λ (k : ℕ). k % 4) (length-take-le at file l) ∙ w)
+  split-here : (at : ℕ) → at ≤ length file → at % 4 ≡ 0 → FromHere (take at file) (drop at file)
+  split-here at l w = one-pass file .from-any-record short whole (sym (take-append-drop at file)) (ap (λ (k : ℕ). k % 4) (length-take-le at file l) ∙ w)
 
-  from-next : (at : ℕ) → at + 4 ≤ length file → at % 4 ≡ 0 → FromHere (take at file) (take 4 (drop at file))
-  from-next at l w =
+  split-next : (at : ℕ) → at + 4 ≤ length file → at % 4 ≡ 0 → FromHere (take at file) (take 4 (drop at file))
+  split-next at l w =
       let e = length-take-le (at + 4) file l in
       one-pass (take (at + 4) file) .from-any-record (omega arith) (omega (arith, w)) (take-add at 4 file) (ap (λ (k : ℕ). k % 4) (length-take-le at file (omega arith)) ∙ w)
 
@@ -55,14 +55,14 @@ module _ (file : List ℕ) (short : length file ≤ 1024) (whole : Whole file) w
   unfolding judgement judgementOf onwards keep counting quads
   refused-here at highest q l w s e =
       let kept : keptOf (judge file) ≡ onwards (counting (s .n) (here file at)) (quads (drop (at + 4) file)) =
-      ap (λ (bs : List ℕ). keptOf (judge bs)) (sym (take-append-drop at file)) ∙ sym (from-here at (omega arith) w .gives) ∙ rw (s .read, drop-four file at l)
+      ap (λ (bs : List ℕ). keptOf (judge bs)) (sym (take-append-drop at file)) ∙ sym (split-here at (omega arith) w .gives) ∙ rw (s .read, drop-four file at l)
       in
       rw (kept, e, onwards-refused q (quads (drop (at + 4) file)))
 
   counted : (at n : ℕ) → at + 3 < length file → at % 4 ≡ 0 → ReadSoFar file at n → keptOf (judge (take (at + 4) file)) ≡ counting n (here file at)
   unfolding onwards keep quads
   counted at n l w s =
-      ap (λ (bs : List ℕ). keptOf (judge bs)) (take-add at 4 file) ∙ sym (from-next at (omega arith) w .gives) ∙ rw (s, drop-four file at l)
+      ap (λ (bs : List ℕ). keptOf (judge bs)) (take-add at 4 file) ∙ sym (split-next at (omega arith) w .gives) ∙ rw (s, drop-four file at l)
 
   -- it passes: its x and y are counted too
   pub one-read : (at highest : ℕ) → at + 3 < length file → at % 4 ≡ 0 → Keeps file at highest → isGood (here file at) ≡ true
@@ -70,7 +70,7 @@ module _ (file : List ℕ) (short : length file ≤ 1024) (whole : Whole file) w
   one-read at highest l w s e =
       let x = getD file (at + 1) 0 in
       let y = getD file (at + 2) 0 in
-      let k = passed (s .n) _ _ _ _ e in
+      let k = good-record (s .n) _ _ _ _ e in
       record {
         n = max (s .n) (suc (max x y));
         read = counted at (s .n) l w (s .read) ∙ k .counts;
@@ -81,7 +81,10 @@ module _ (file : List ℕ) (short : length file ≤ 1024) (whole : Whole file) w
 -- no record is left
 pub all-read : (file : List ℕ) (at highest : ℕ) → length file ≤ at → length file ≢ 0 → Keeps file at highest → judgement file ≡ Accepted (highest + 1)
 unfolding judgement judgementOf
-all-read file at highest l some s = ⊎-elim (λ z. absurd (some (omega (arith, l, z .0)))) (λ z. let e : s .n ≡ highest + 1 = omega (arith, z) in ap judgementOf (kept ∙ ap so-far e)) (s .one-more)
+all-read file at highest l some s = ⊎-elim (λ z. absurd (some (omega (arith, l, z .0)))) (λ z. answer (omega (arith, z))) (s .one-more)
   where
     kept : keptOf (judge file) ≡ so-far (s .n)
     kept = rw (take-all at file l) at (s .read)
+
+    answer : s .n ≡ highest + 1 → judgementOf (keptOf (judge file)) ≡ Accepted (highest + 1)
+    answer e = ap judgementOf (kept ∙ ap so-far e)

@@ -35,13 +35,13 @@ is-labelled : (l : ℕ) → leb 1 l ≡ not (eqb l 0)
 is-labelled zero = refl
 is-labelled (suc l) = rw (ne-eqb (suc l) 0 (λ e. omega arith)) (le-leb 1 (suc l) (omega arith))
 
-negated : (b : Bool) → not (Bool·beq false b) ≡ b
-negated true = refl
-negated false = refl
+unequal-false : (b : Bool) → not (Bool·beq false b) ≡ b
+unequal-false true = refl
+unequal-false false = refl
 
-kept : (b : Bool) → not (Bool·beq true b) ≡ not b
-kept true = refl
-kept false = refl
+unequal-true : (b : Bool) → not (Bool·beq true b) ≡ not b
+unequal-true true = refl
+unequal-true false = refl
 
 module _ (k x y l : ℕ) where
   -- ---- `passes`
@@ -73,10 +73,10 @@ module _ (k x y l : ℕ) where
       where
         go : Judges k x y l → not (Bool·beq (eqb k 8) (eqb l 0)) ≡ isGood (judgeRecord k x y l)
         go (no-kind r e) = absurd (omega arith)
-        go (by-pair c r n e) = rw (e, ne-eqb k 8 n, le-leb x 15 low, le-leb y 15 (omega arith)) (negated (eqb l 0) ∙ sym (is-tested (eqb l 0) _ 6))
-        go (by-single c r n e) = rw (e, ne-eqb k 8 n, le-leb x 15 low, eq-eqb y 0 (omega arith)) (negated (eqb l 0) ∙ sym (is-tested (eqb l 0) _ 6))
+        go (by-pair c r n e) = rw (e, ne-eqb k 8 n, le-leb x 15 low, le-leb y 15 (omega arith)) (unequal-false (eqb l 0) ∙ sym (is-tested (eqb l 0) _ 6))
+        go (by-single c r n e) = rw (e, ne-eqb k 8 n, le-leb x 15 low, eq-eqb y 0 (omega arith)) (unequal-false (eqb l 0) ∙ sym (is-tested (eqb l 0) _ 6))
         go (by-label r n e) =
-            rw (e, eq-eqb k 8 n, le-leb x 15 low, eq-eqb y 0 (omega arith)) (kept (eqb l 0) ∙ sym (is-labelled l) ∙ sym (is-tested (leb 1 l) _ 5))
+            rw (e, eq-eqb k 8 n, le-leb x 15 low, eq-eqb y 0 (omega arith)) (unequal-true (eqb l 0) ∙ sym (is-labelled l) ∙ sym (is-tested (leb 1 l) _ 5))
 
   -- ---- `question`
 
@@ -142,16 +142,16 @@ module _ (k x y l : ℕ) where
 -- ---- a record that passes
 
 -- its x and y are variables, and it names those up to the higher: an unused y is 0
-pub record Passed (n k x y l : ℕ) : Type 0 where
+pub record GoodRecord (n k x y l : ℕ) : Type 0 where
   pub low-x : x ≤ 15
   pub low-y : y ≤ 15
   pub counts : counting n (judgeRecord k x y l) ≡ so-far (max n (suc (max x y)))
 
-pub passed : (n k x y l : ℕ) → isGood (judgeRecord k x y l) ≡ true → Passed n k x y l
+pub good-record : (n k x y l : ℕ) → isGood (judgeRecord k x y l) ≡ true → GoodRecord n k x y l
 unfolding isGood counting
-passed n k x y l e = go (judgeRecord k x y l) refl e
+good-record n k x y l e = go (judgeRecord k x y l) refl e
   where
-    go : (j : JudgedRecord) → judgeRecord k x y l ≡ j → isGood j ≡ true → Passed n k x y l
+    go : (j : JudgedRecord) → judgeRecord k x y l ≡ j → isGood j ≡ true → GoodRecord n k x y l
     go (bad q) d z = absurd (false≢true z)
     go (good c) d z =
         let s = spelt (quad k x y l) d in

@@ -8,7 +8,8 @@ use lib.ListN.{length, length-append}
 use Rattle.meaning.specs.Constraint.{named, vars}
 use Rattle.meaning.specs.Finite.{Yes, pick, _and_}
 use Rattle.meaning.specs.Files.{Quad, quad, quads, Whole, JudgedRecord, bad, good, judgePair, judgeSingle, judgeRecord, Judged, refused, accepted, withRest, judgeRecords, judge}
-use Rattle.meaning.specs.OnePass.{Kept, number, so-far, keptOf, counting, keep, onwards, FromHere, OnePass}
+use Rattle.meaning.specs.OnePass.{NumberOrN, number-refused, so-far, keptOf, counting, keep, onwards, FromHere, OnePass}
+use Rattle.meaning.proofs.Records.{quads-append}
 use Rattle.meaning.proofs.Tests.{pick-yes, le-yes, is-eq, eq-yes}
 
 -- ---- docs/FORMAT.md's example, by computing
@@ -21,30 +22,30 @@ not-higher : onwards (so-far 4) (quad 1 0 1 0 ∷ []) ≡ so-far 4
 unfolding onwards keep counting judgeRecord judgePair named pick _and_
 not-higher = refl
 
-refused-6 : onwards (so-far 4) (quad 6 0 16 0 ∷ []) ≡ number 6
+refused-6 : onwards (so-far 4) (quad 6 0 16 0 ∷ []) ≡ number-refused 6
 unfolding onwards keep counting judgeRecord judgeSingle pick _and_
 refused-6 = refl
 
-still-6 : onwards (number 6) (quad 0 0 0 0 ∷ quad 7 15 0 0 ∷ []) ≡ number 6
+still-6 : onwards (number-refused 6) (quad 0 0 0 0 ∷ quad 7 15 0 0 ∷ []) ≡ number-refused 6
 unfolding onwards keep counting judgeRecord judgeSingle named pick _and_
 still-6 = refl
 
 -- ---- the pass
 
-pub onwards-append : (k : Kept) (rs ss : List Quad) → onwards (onwards k rs) ss ≡ onwards k (rs ++ ss)
+onwards-append : (k : NumberOrN) (rs ss : List Quad) → onwards (onwards k rs) ss ≡ onwards k (rs ++ ss)
 unfolding onwards
 onwards-append k [] ss = refl
 onwards-append k (r ∷ rs) ss = onwards-append (keep k r) rs ss
 
 -- a number, once refused, is kept
-pub onwards-refused : (q : ℕ) (rs : List Quad) → onwards (number q) rs ≡ number q
+pub onwards-refused : (q : ℕ) (rs : List Quad) → onwards (number-refused q) rs ≡ number-refused q
 unfolding onwards keep
 onwards-refused q [] = refl
 onwards-refused q (r ∷ rs) = onwards-refused q rs
 
 -- what the later records give where n variables were counted before
-unfoldable from : ℕ → Judged → Kept
-from n (refused q) = number q
+unfoldable from : ℕ → Judged → NumberOrN
+from n (refused q) = number-refused q
 from n (accepted cs) = so-far (max n (vars cs))
 
 from-rest : (n : ℕ) (r : JudgedRecord) (rs : List Quad) (j : Judged) → ((m : ℕ) → onwards (so-far m) rs ≡ from m j) → onwards (counting n r) rs ≡ from n (withRest r j)
@@ -70,40 +71,32 @@ from-start (accepted cs) = let e : max 0 (vars cs) ≡ vars cs = omega arith in 
 
 -- ---- of a file
 
-quads-append : (bs cs : List ℕ) → Whole bs → quads (bs ++ cs) ≡ quads bs ++ quads cs
-unfolding quads
-quads-append [] cs w = refl
-quads-append (a ∷ []) cs w = absurd (omega arith)
-quads-append (a ∷ b ∷ []) cs w = absurd (omega arith)
-quads-append (a ∷ b ∷ c ∷ []) cs w = absurd (omega arith)
-quads-append (a ∷ b ∷ c ∷ d ∷ bs) cs w = ap (λ (qs : List Quad). quad a b c d ∷ qs) (quads-append bs cs (omega arith))
-
 -- the file's number or n, where questions 1 and 2 are passed
-pub passed-over : (file : List ℕ) → length file ≤ 1024 → Whole file → onwards (so-far 0) (quads file) ≡ keptOf (judge file)
+pass-of-file : (file : List ℕ) → length file ≤ 1024 → Whole file → onwards (so-far 0) (quads file) ≡ keptOf (judge file)
 unfolding judge
-passed-over file l w =
+pass-of-file file l w =
     onwards-from 0 file w ∙ from-start (judgeRecords file) ∙ ap keptOf (sym (pick-yes _ _ (le-yes l) ∙ pick-yes _ _ (eq-yes w)))
 
-from-here : (read coming : List ℕ) → length (read ++ coming) ≤ 1024 → Whole (read ++ coming) → Whole read → FromHere read coming
-from-here read coming l w v = record {
+split-here : (read coming : List ℕ) → length (read ++ coming) ≤ 1024 → Whole (read ++ coming) → Whole read → FromHere read coming
+split-here read coming l w v = record {
   kept = kept read l v;
   gives = gives read l v;
-  alone = λ others u m e. sym (gives others m u) ∙ ap (λ (k : Kept). onwards k (quads coming)) e ∙ gives read l v;
+  alone = λ others u m e. sym (gives others m u) ∙ ap (λ (k : NumberOrN). onwards k (quads coming)) e ∙ gives read l v;
 }
   where
     kept : (front : List ℕ) → length (front ++ coming) ≤ 1024 → Whole front → onwards (so-far 0) (quads front) ≡ keptOf (judge front)
-    kept front m u = let a = length-append front coming in passed-over front (omega arith) u
+    kept front m u = let a = length-append front coming in pass-of-file front (omega arith) u
 
     gives : (front : List ℕ) → length (front ++ coming) ≤ 1024 → Whole front → onwards (keptOf (judge front)) (quads coming) ≡ keptOf (judge (front ++ coming))
     gives front m u =
         let a = length-append read coming in
         let b = length-append front coming in
-        ap (λ (k : Kept). onwards k (quads coming)) (sym (kept front m u))
+        ap (λ (k : NumberOrN). onwards k (quads coming)) (sym (kept front m u))
         ∙ onwards-append (so-far 0) (quads front) (quads coming)
         ∙ ap (onwards (so-far 0)) (sym (quads-append front coming u))
-        ∙ passed-over (front ++ coming) m (omega (arith, w, u, v))
+        ∙ pass-of-file (front ++ coming) m (omega (arith, w, u, v))
 
-asked : (b : Bool) (j : Judged) (k : Kept) (q : ℕ) → (Yes b → keptOf j ≡ k) → keptOf (pick b j (refused q)) ≡ pick b k (number q)
+asked : (b : Bool) (j : Judged) (k : NumberOrN) (q : ℕ) → (Yes b → keptOf j ≡ k) → keptOf (pick b j (refused q)) ≡ pick b k (number-refused q)
 unfolding pick keptOf
 asked true j k q f = f refl
 asked false j k q f = refl
@@ -112,5 +105,5 @@ pub one-pass : (file : List ℕ) → OnePass file
 unfolding judge
 one-pass file = record {
   is-pass = asked _ _ _ 1 (λ l. asked _ _ _ 2 (λ w. sym (onwards-from 0 file (is-eq w) ∙ from-start (judgeRecords file))));
-  from-any-record = λ l w {read} {coming} e v. from-here read coming (subst (λ (bs : List ℕ). length bs ≤ 1024) e l) (subst Whole e w) v;
+  from-any-record = λ l w {read} {coming} e v. split-here read coming (subst (λ (bs : List ℕ). length bs ≤ 1024) e l) (subst Whole e w) v;
 }

@@ -3,7 +3,7 @@
 use mathlib.Core.Path.{_≡_, refl, sym, ap, _∙_, subst}
 use mathlib.Core.Logic.{⊎-elim}
 use mathlib.Core.Bool.{Bool, true, false}
-use mathlib.Core.List.{List, [], _∷_, map, List·Memᴰ, List·Memᴰ·head, List·Memᴰ·tail, List·Memᴰ·cases-cons, List·Memᴰ·not-nil}
+use mathlib.Core.List.{List, [], _∷_, _++_, map, List·Memᴰ, List·Memᴰ·head, List·Memᴰ·tail, List·Memᴰ·cases-cons, List·Memᴰ·not-nil}
 use Prim.Native.Nat.{ℕ, suc, max, _*_, _%_, _≤_, _<_}
 use native.Mathlib.Decide.{decLe}
 use native.Mathlib.Omega.{arith}
@@ -11,6 +11,7 @@ use lib.ListN.{length, length-map}
 use lib.Dec.{leb, eqb}
 use Rattle.meaning.specs.Tree.{Var}
 use Rattle.meaning.specs.Constraint.{Constraint, is-child, is-below, is-strictly-below, is-same, is-differ, is-root, is-leaf, is-label, is-before, named, vars}
+use Rattle.meaning.specs.Marking.{kind}
 use Rattle.meaning.specs.Finite.{Yes, pick, _and_}
 use Rattle.meaning.specs.Files.{Quad, quad, quads, Whole, quadOf, JudgedRecord, bad, good, judgePair, judgeSingle, judgeLabel, judgeRecord, Judged, refused, accepted, withRest, judgeRecords, Spells, judge}
 use Rattle.meaning.proofs.Tests.{and-left, and-right, and-both, pick-yes, pick-no, pick-has, is-eq, eq-yes, is-le, le-yes}
@@ -104,7 +105,7 @@ record-read q =
     (pick-has (Read q) _ _ _ (λ t. label-read q _ _ _ (λ a h y. (quad-eq (is-eq t) refl y refl, record { few = omega arith; labelled = h })))
     (pick-has (Read q) _ _ _ (λ t. pair-read q is-before _ _ _ (λ a b z. (quad-eq (is-eq t) refl refl z, record { few = omega arith; labelled = tt }))) refl))))))))
 
-kind-most : (c : Constraint) → quadOf c .first ≤ 9
+pub kind-most : (c : Constraint) → quadOf c .first ≤ 9
 kind-most (is-child x y) = omega arith
 kind-most (is-below x y) = omega arith
 kind-most (is-strictly-below x y) = omega arith
@@ -115,14 +116,20 @@ kind-most (is-leaf x) = omega arith
 kind-most (is-label x l) = omega arith
 kind-most (is-before x y) = omega arith
 
--- a record that passes is that of the constraint it spells, which can be asked
-pub spelt : (q : Quad) {c : Constraint} → Spells q c → (q ≡ quadOf c) × Askable c
-spelt q {c} e = subst (Read q) e (record-read q)
+-- it begins with the constraint's kind
+pub kind-first : (c : Constraint) → kind c ≡ quadOf c .first
+unfolding kind
+kind-first (is-child x y) = refl
+kind-first (is-below x y) = refl
+kind-first (is-strictly-below x y) = refl
+kind-first (is-same x y) = refl
+kind-first (is-differ x y) = refl
+kind-first (is-root x) = refl
+kind-first (is-leaf x) = refl
+kind-first (is-label x l) = refl
+kind-first (is-before x y) = refl
 
-pub spells-kind : (q : Quad) {c : Constraint} → Spells q c → q .first ≤ 9
-spells-kind q {c} e = subst (λ (p : Quad). p .first ≤ 9) (sym (spelt q e .0)) (kind-most c)
-
--- whatever its kind, since an unused byte is 0
+-- it names the variables up to the higher of its second and third byte: an unused one is 0
 pub named-record : (c : Constraint) → named c ≡ suc (max (quadOf c .second) (quadOf c .third))
 unfolding named
 named-record (is-child x y) = refl
@@ -134,6 +141,13 @@ named-record (is-root x) = omega arith
 named-record (is-leaf x) = omega arith
 named-record (is-label x l) = omega arith
 named-record (is-before x y) = refl
+
+-- a record that passes is that of the constraint it spells, which can be asked
+pub spelt : (q : Quad) {c : Constraint} → Spells q c → (q ≡ quadOf c) × Askable c
+spelt q {c} e = subst (Read q) e (record-read q)
+
+pub spells-kind : (q : Quad) {c : Constraint} → Spells q c → q .first ≤ 9
+spells-kind q {c} e = subst (λ (p : Quad). p .first ≤ 9) (sym (spelt q e .0)) (kind-most c)
 
 -- and the record of a constraint that can be asked spells it
 pair-good : (k : Var → Var → Constraint) (x y : Var) → suc (max x y) ≤ 16 → judgePair k x y 0 ≡ good (k x y)
@@ -169,6 +183,14 @@ quads-length (a ∷ []) w = absurd (omega arith)
 quads-length (a ∷ b ∷ []) w = absurd (omega arith)
 quads-length (a ∷ b ∷ c ∷ []) w = absurd (omega arith)
 quads-length (a ∷ b ∷ c ∷ d ∷ bs) w = let e = quads-length bs (omega arith) in omega arith
+
+pub quads-append : (bs cs : List ℕ) → Whole bs → quads (bs ++ cs) ≡ quads bs ++ quads cs
+unfolding quads
+quads-append [] cs w = refl
+quads-append (a ∷ []) cs w = absurd (omega arith)
+quads-append (a ∷ b ∷ []) cs w = absurd (omega arith)
+quads-append (a ∷ b ∷ c ∷ []) cs w = absurd (omega arith)
+quads-append (a ∷ b ∷ c ∷ d ∷ bs) cs w = ap (λ (qs : List Quad). quad a b c d ∷ qs) (quads-append bs cs (omega arith))
 
 -- these are the records of cs
 pub record RecordsOf (qs : List Quad) (cs : List Constraint) : Type 0 where

@@ -8,7 +8,7 @@ use native.Mathlib.Decide.{decLe}
 use native.Mathlib.Omega.{arith}
 use lib.ListN.{length}
 use Rattle.meaning.specs.Tree.{Node, Assignment, Tree}
-use Rattle.meaning.specs.Constraint.{Constraint, is-child, is-below, is-strictly-below, is-same, is-differ, is-root, is-leaf, is-label, is-before, Meets, vars}
+use Rattle.meaning.specs.Constraint.{Constraint, Meets, vars}
 use Rattle.meaning.specs.ReadOff.{NodeRecord, treeOf}
 use Rattle.meaning.specs.Demand.{Demand3}
 use Rattle.meaning.specs.Marking.{Mark, met, unmet, kind, further, Marks, all-met, not-met, is-met}
@@ -16,7 +16,7 @@ use Rattle.meaning.specs.Files.{Quad, quads, Whole, quadOf, JudgedRecord
 use Rattle.meaning.specs.Results.{Solved, solver-answers, Marked, marker-refuses, marker-answers, written}
 use Rattle.meaning.specs.Promises.{SolverPromise, MarkerPromise}
 use Rattle.meaning.specs.Shuffled.{Reordered, AnotherOrder, FirstAt, FirstRefused, SameRoom, SameSolved, MetRecord, UnmetRecord, FirstUnmet, SameMarked}
-use Rattle.meaning.proofs.Records.{Askable, spells, FileOf, quads-length, accepted-file, file-accepted, long-refused, refused-long, refused-records}
+use Rattle.meaning.proofs.Records.{Askable, kind-first, spells, FileOf, quads-length, accepted-file, file-accepted, long-refused, refused-long, refused-records}
 use Rattle.meaning.proofs.SameAnswer.{SameConstraints, same-vars, same-answer}
 use Rattle.meaning.proofs.Reordered.{reordered-back, reordered-length, reordered-in, reordered-map}
 
@@ -139,19 +139,6 @@ same-solved p = record {
 }
 
 -- ---- the first unmet record
-
--- a constraint's record begins with its kind
-kind-first : (c : Constraint) → kind c ≡ quadOf c .first
-unfolding kind
-kind-first (is-child x y) = refl
-kind-first (is-below x y) = refl
-kind-first (is-strictly-below x y) = refl
-kind-first (is-same x y) = refl
-kind-first (is-differ x y) = refl
-kind-first (is-root x) = refl
-kind-first (is-leaf x) = refl
-kind-first (is-label x l) = refl
-kind-first (is-before x y) = refl
 
 spells-one : (q : Quad) {c d : Constraint} → Spells q c → Spells q d → c ≡ d
 spells-one q {c} {d} e f = let g : good c ≡ good d = sym e ∙ f in cc

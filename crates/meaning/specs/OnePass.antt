@@ -8,26 +8,28 @@ use Rattle.meaning.specs.Constraint.{named, vars}
 use Rattle.meaning.specs.Finite.{pick}
 use Rattle.meaning.specs.Files.{Quad, quads, Whole, JudgedRecord, bad, good, judgeQuad, Judged, refused, accepted, judge}
 
-pub data Kept : Type 0 where
-  number : ℕ → Kept
-  so-far : ℕ → Kept
+-- all that is kept between two records
+pub data NumberOrN : Type 0 where
+  number-refused : ℕ → NumberOrN
+  so-far : ℕ → NumberOrN
 
 -- a file's number or n
-unfoldable pub keptOf : Judged → Kept
-keptOf (refused q) = number q
+unfoldable pub keptOf : Judged → NumberOrN
+keptOf (refused q) = number-refused q
 keptOf (accepted cs) = so-far (vars cs)
 
--- one record more
-unfoldable pub counting : ℕ → JudgedRecord → Kept
-counting n (bad q) = number q
+-- what a record's questions leave of it
+unfoldable pub counting : ℕ → JudgedRecord → NumberOrN
+counting n (bad q) = number-refused q
 counting n (good c) = so-far (max n (named c))
 
-unfoldable pub keep : Kept → Quad → Kept
-keep (number q) r = number q
+-- one record more
+unfoldable pub keep : NumberOrN → Quad → NumberOrN
+keep (number-refused q) r = number-refused q
 keep (so-far n) r = counting n (judgeQuad r)
 
--- the later records, from what is kept
-unfoldable pub onwards : Kept → List Quad → Kept
+-- the later records, from what is kept: a left fold
+unfoldable pub onwards : NumberOrN → List Quad → NumberOrN
 onwards k [] = k
 onwards k (r ∷ rs) = onwards (keep k r) rs
 
@@ -43,6 +45,6 @@ pub record FromHere (read coming : List ℕ) : Type 0 where
 
 pub record OnePass (file : List ℕ) : Type 0 where
   -- of any bytes: 1 and 2 are told by the length, all else by one pass
-  pub is-pass : keptOf (judge file) ≡ pick (leb (length file) 1024) (pick (eqb (length file % 4) 0) (onwards (so-far 0) (quads file)) (number 2)) (number 1)
+  pub is-pass : keptOf (judge file) ≡ pick (leb (length file) 1024) (pick (eqb (length file % 4) 0) (onwards (so-far 0) (quads file)) (number-refused 2)) (number-refused 1)
   -- "from any record on, these and the later records alone give the file's number or n", where 1 and 2 are passed
   pub from-any-record : length file ≤ 1024 → Whole file → {read coming : List ℕ} → file ≡ read ++ coming → Whole read → FromHere read coming

@@ -6,11 +6,12 @@ use Prim.Native.Nat.{ℕ, _<_}
 use native.Mathlib.Omega.{arith}
 use Rattle.meaning.specs.Constraint.{Constraint, is-child, is-below, is-strictly-below, is-same, is-differ, is-root, is-leaf, is-label, is-before, named, Fact, child, below, differ, before, root, leaf, label, facts, factsOf}
 use Rattle.meaning.specs.Marking.{kind}
-use Rattle.meaning.specs.Finite.{pick}
 use Rattle.meaning.specs.Files.{quadOf}
 use Rattle.meaning.proofs.Constraints.{fact-in, fact-from}
 use Rattle.meaning.proofs.Facts.{in-one, in-two}
-use Rattle.constraints.specs.Record.{kindOf, constraintAs}
+use Rattle.meaning.proofs.Records.{kind-first, named-record}
+use Rattle.constraints.specs.Record.{kindOf, constraintAs, constraintOf, recordOf}
+use Rattle.constraints.proofs.ByKind.{constraint-again}
 
 abbrev pub left : Constraint → ℕ
 left c = quadOf c .second
@@ -22,32 +23,12 @@ right c = quadOf c .third
 abbrev pub name : Constraint → ℕ
 name c = quadOf c .fourth
 
-in-codes : (c : Constraint) → c ≡ constraintAs (kindOf (kind c)) (left c) (right c) (name c)
-unfolding kind constraintAs kindOf pick
-in-codes (is-child x y) = refl
-in-codes (is-below x y) = refl
-in-codes (is-strictly-below x y) = refl
-in-codes (is-same x y) = refl
-in-codes (is-differ x y) = refl
-in-codes (is-root x) = refl
-in-codes (is-leaf x) = refl
-in-codes (is-label x l) = refl
-in-codes (is-before x y) = refl
-
 pub spelt-as : (c : Constraint) {k x y : ℕ} → kind c ≡ k → left c ≡ x → right c ≡ y → c ≡ constraintAs (kindOf k) x y (name c)
-spelt-as c a b d = rw (sym a, sym b, sym d) (in-codes c)
+unfolding constraintOf recordOf
+spelt-as c a b d = rw (sym a, sym b, sym d, kind-first c) (sym (constraint-again c))
 
 pub variables-named : (c : Constraint) → (left c < named c) × (right c < named c)
-unfolding named
-variables-named (is-child x y) = (omega arith, omega arith)
-variables-named (is-below x y) = (omega arith, omega arith)
-variables-named (is-strictly-below x y) = (omega arith, omega arith)
-variables-named (is-same x y) = (omega arith, omega arith)
-variables-named (is-differ x y) = (omega arith, omega arith)
-variables-named (is-root x) = (omega arith, omega arith)
-variables-named (is-leaf x) = (omega arith, omega arith)
-variables-named (is-label x l) = (omega arith, omega arith)
-variables-named (is-before x y) = (omega arith, omega arith)
+variables-named c = let e = named-record c in (omega arith, omega arith)
 
 -- ---- a fact's constraints
 

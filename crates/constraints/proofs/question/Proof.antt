@@ -35,13 +35,15 @@ returns-6 : tie.Need-returns-6
 returns-6 c =
     let p = c .before .before .before .before .before in
     let e = sym (p .room .ensures) in
-    asks-6 _ _ _ _ (rw e (c .before .before .before .before .if1 .left)) (c .before .before .before .if2 .left) (p .before .pre) (λ r. absurd (omega (arith, e, c .before .before .if3 .left))) (λ r s. c .if6 .left)
+    let low = c .before .before .before .if2 .left in
+    asks-6 _ _ _ _ (rw e (c .before .before .before .before .if1 .left)) low (p .before .pre) (λ r. absurd (omega (arith, e, c .before .before .if3 .left))) (λ r s. c .if6 .left)
 
 returns-7 : tie.Need-returns-7
 returns-7 c =
     let p = c .before .before .before .before in
     let e = sym (p .room .ensures) in
-    asks-6 _ _ _ _ (rw e (c .before .before .before .if1 .left)) (c .before .before .if2 .left) (p .before .pre) (λ r. absurd (omega (arith, e, c .before .if3 .left))) (λ r s. absurd (c .if5 .left s))
+    let low = c .before .before .if2 .left in
+    asks-6 _ _ _ _ (rw e (c .before .before .before .if1 .left)) low (p .before .pre) (λ r. absurd (omega (arith, e, c .before .if3 .left))) (λ r s. absurd (c .if5 .left s))
 
 pub question-spec : {M : Type 1} → statement M
 question-spec =
