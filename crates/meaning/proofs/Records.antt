@@ -218,7 +218,7 @@ records-read (k ∷ x ∷ []) = refl
 records-read (k ∷ x ∷ y ∷ []) = refl
 records-read (k ∷ x ∷ y ∷ l ∷ bs) = before-read _ (quads bs) _ (judgeRecords bs) (record-read _) (records-read bs)
 
-records-accepted : (bs : List ℕ) (cs : List Constraint) → Whole bs → RecordsOf (quads bs) cs → judgeRecords bs ≡ accepted cs
+pub records-accepted : (bs : List ℕ) (cs : List Constraint) → Whole bs → RecordsOf (quads bs) cs → judgeRecords bs ≡ accepted cs
 unfolding judgeRecords quads withRest
 records-accepted [] [] w r = refl
 records-accepted [] (c ∷ cs) w r = let e = r .records in let z : _≡_ {A = ℕ} 0 1 = cc in absurd (omega arith)

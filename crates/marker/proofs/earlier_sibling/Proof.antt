@@ -2,7 +2,7 @@
 use mathlib.Core.Path.{_≡_, refl, sym, ap, _∙_}
 use mathlib.Core.Bool.{Bool, true, false}
 use native.Mathlib.Nat.{pos-of-ne-zero}
-use Prim.Native.Nat.{_<_}
+use Prim.Native.Nat.{_≤_, _<_}
 use borrow.Author.Tests.{lt-ltb, le-ltb, eq-eqb}
 use borrow.Author.Needs.{needs}
 use Rattle.meaning.specs.Tree.{Node, Tree}
@@ -24,6 +24,10 @@ unfolding _and_
 and-true true = refl
 and-true false = refl
 
+not-earlier : (t : Tree) (u v : Node) → v ≤ u → isEarlierSibling t u v ≡ false
+unfolding isEarlierSibling
+not-earlier t u v h = rw (le-ltb u v h) (and-false _ _)
+
 one-test : (t : Tree) (u v : Node) → 0 < u → u < t .size → u < v → isEarlierSibling t u v ≡ isParent t (t .parent u) v
 unfolding isEarlierSibling isParent _and_
 one-test t u v p l h = rw (lt-ltb 0 u p, lt-ltb _ _ l, lt-ltb _ _ h, eq-eqb (t .parent u) (t .parent u) refl) (and-true _)
@@ -33,8 +37,7 @@ unfolding isEarlierSibling isParent _and_
 returns c = rw (c .if1 .taken)
 
 returns-2 : tie.Need-returns-2
-unfolding isEarlierSibling
-returns-2 c = rw (le-ltb _ _ (c .if2 .taken)) (sym (and-false _ _))
+returns-2 c = sym (not-earlier _ _ _ (c .if2 .taken))
 
 parent-requires : tie.Need-parent-requires
 parent-requires c κs = search needs
