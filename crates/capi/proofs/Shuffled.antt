@@ -48,7 +48,7 @@ verdictNumber (solver-refuses q) = 3
 
 -- the parts of the number fit their places
 abbrev Fits : Solved → Type 0
-Fits (solver-answers (a-tree c bs)) = (c ≤ 4294967295) × (length bs ≤ 132)
+Fits (solver-answers (a-tree c bs)) = (c ≤ 4294967295) × (length bs ≤ 136)
 Fits (solver-answers (a-none c)) = c ≤ 4294967295
 Fits (solver-answers (a-spent c)) = c ≤ 4294967295
 Fits (solver-refuses q) = q ≤ 7
@@ -84,9 +84,9 @@ module _ {A : ℕ} {file buffer after : List ℕ} {r : Solved} (most : A ≤ 429
     where
       by : (j : Judged) → judge file ≡ j → Fits r
       by (refused q) e = let l = refused-small file e in refusal-fits (omega arith) (p .refuses e)
-      by (accepted cs) e = go (decLe 132 (length buffer))
+      by (accepted cs) e = go (decLe 136 (length buffer))
         where
-          go : Dec (132 ≤ length buffer) → Fits r
+          go : Dec (136 ≤ length buffer) → Fits r
           go (yes l) = answer-fits e (p .answers e l .1)
           go (no l) = refusal-fits (omega arith) (p .short-buffer e (omega arith))
 

@@ -33,7 +33,7 @@ small-bytes (c ∷ cs) t b m =
 
 -- ---- of a buffer the solver asks only whether it passes question 7
 
-same-room : (A : ℕ) (j : Judged) (b c : List ℕ) → leb 132 (length b) ≡ leb 132 (length c) → solvedBy A j b ≡ solvedBy A j c
+same-room : (A : ℕ) (j : Judged) (b c : List ℕ) → leb 136 (length b) ≡ leb 136 (length c) → solvedBy A j b ≡ solvedBy A j c
 unfolding solvedBy
 same-room A (refused q) b c e = refl
 same-room A (accepted cs) b c e = ap (λ (t : Bool). pick t (solver-answers (solve A (vars cs) cs)) (solver-refuses 7)) e
@@ -41,17 +41,17 @@ same-room A (accepted cs) b c e = ap (λ (t : Bool). pick t (solver-answers (sol
 -- all buffers of this room are of one side
 unfoldable pub sided : Room → Bool
 sided (exactly k) = true
-sided (at-least k) = leb 132 k
+sided (at-least k) = leb 136 k
 
 -- a buffer of this room
 unfoldable pub sample : Room → List ℕ
 sample (exactly k) = replicate k 0
 sample (at-least k) = replicate k 0
 
-sample-side : (room : Room) → Yes (sided room) → (b : List ℕ) → Lent room b → leb 132 (length b) ≡ leb 132 (length (sample room))
+sample-side : (room : Room) → Yes (sided room) → (b : List ℕ) → Lent room b → leb 136 (length b) ≡ leb 136 (length (sample room))
 unfolding sided sample
-sample-side (exactly k) s b l = ap (leb 132) (l ∙ sym (length-replicate k 0))
-sample-side (at-least k) s b l = le-yes (le-trans (is-le s) l) ∙ sym (ap (leb 132) (length-replicate k 0) ∙ s)
+sample-side (exactly k) s b l = ap (leb 136) (l ∙ sym (length-replicate k 0))
+sample-side (at-least k) s b l = le-yes (le-trans (is-le s) l) ∙ sym (ap (leb 136) (length-replicate k 0) ∙ s)
 
 -- ---- a row from what is computed of it
 

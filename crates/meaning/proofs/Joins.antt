@@ -1,15 +1,15 @@
 -- Laws of joins: the first is one, and one of its two alternatives holds wherever the facts do.
-use mathlib.Core.Path.{_≡_, refl, sym, ap, _∙_}
+use mathlib.Core.Path.{_≡_, refl, sym, ap, _∙_, subst}
 use mathlib.Core.Logic.{_⊎_, inl, inr, ⊎-elim}
 use mathlib.Core.List.{List, [], _∷_, _++_}
 use Prim.Native.Nat.{ℕ, zero, suc, _<_}
 use native.Mathlib.Decide.{decLt}
 use native.Mathlib.Omega.{arith}
 use lib.ListN.{length, getD}
-use Rattle.meaning.specs.Tree.{Assignment, Tree, IsTree, Above}
+use Rattle.meaning.specs.Tree.{Node, Assignment, Tree, IsTree, Parent, Above}
 use Rattle.meaning.specs.Constraint.{Fact, below}
-use Rattle.meaning.specs.FixedSearch.{JoinKind, parent-join, chain-join, sibling-join, joinKinds, kindNumber, Join, join, IsJoin, first-alternative, second-alternative, key, Earlier, here, later, FirstJoin}
-use Rattle.meaning.proofs.Trees.{above-same, above-child, ancestors-chain, above-sibling}
+use Rattle.meaning.specs.FixedSearch.{JoinKind, parent-join, chain-join, sibling-join, document-join, joinKinds, kindNumber, Join, join, IsJoin, first-alternative, second-alternative, key, Earlier, here, later, FirstJoin}
+use Rattle.meaning.proofs.Trees.{above-same, above-child, ancestors-chain, above-sibling, element-above}
 use Rattle.meaning.proofs.Holds.{HoldsAll, holds-cons, settled-holds}
 
 -- ---- the first join is one
@@ -35,17 +35,20 @@ pub kind-at-number : (k : JoinKind) → kindAt (kindNumber k) ≡ k
 kind-at-number parent-join = refl
 kind-at-number chain-join = refl
 kind-at-number sibling-join = refl
+kind-at-number document-join = refl
 
 pub kind-number-small : (k : JoinKind) → kindNumber k < length joinKinds
 kind-number-small parent-join = omega arith
 kind-number-small chain-join = omega arith
 kind-number-small sibling-join = omega arith
+kind-number-small document-join = omega arith
 
 pub number-kind-at : (i : ℕ) → i < length joinKinds → kindNumber (kindAt i) ≡ i
 number-kind-at zero l = refl
 number-kind-at (suc zero) l = refl
 number-kind-at (suc (suc zero)) l = refl
-number-kind-at (suc (suc (suc i))) l = absurd (omega arith)
+number-kind-at (suc (suc (suc zero))) l = refl
+number-kind-at (suc (suc (suc (suc i)))) l = absurd (omega arith)
 
 key-injective : (j k : Join) → key j ≡ key k → j ≡ k
 key-injective (join k u v w) (join l x y z) e =
@@ -86,3 +89,11 @@ module _ (n : ℕ) (t : Tree) (i : IsTree t) (a : Assignment) (S : List Fact) (m
     where
       above : Above t (a b) (a y)
       above = settled-holds n t i a S m (q .above)
+  alternative-holds (join document-join r y w) q =
+      let e : a r ≡ 0 = settled-holds n t i a S m (q .document) in
+      let c : Parent t (a r) (a y) = settled-holds n t i a S m (q .element) in
+      let f : a y ≡ 1 = i .one-child (a y) (subst (λ (u : Node). Parent t u (a y)) e c) in
+      ⊎-elim
+      (λ z. inr (holds-cons {f = below w r} (holds-cons {f = below r w} m (above-same t i (e ∙ sym z))) (above-same t i (z ∙ sym e))))
+      (λ u. inl (holds-cons {f = below y w} m (subst (λ (v : Node). Above t v (a w)) (sym f) u)))
+      (element-above t i (a w) (m .placed w (q .variable)))

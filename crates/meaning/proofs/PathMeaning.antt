@@ -12,7 +12,7 @@ use Rattle.meaning.specs.Constraint.{Constraint, is-same, is-root, Meets
 use Rattle.meaning.specs.Paths.{Path, alone, from-root, from-here, Steps, one, more, Step, move, having}
 use Rattle.meaning.specs.Selection.{Expr, Denotes, pathExpr, stepsExpr, stepExpr, Selects, SomeTreeSelects}
 use Rattle.meaning.specs.PathRecords.{Sheet, blankSheet, nextTaken, withRecords, rootedBy, rooted, moveRecords, pathSheet, stepsSheet, stepSheet, endSheet, lineSheet, linesSheet, recordsOf, variablesOf}
-use Rattle.meaning.proofs.Trees.{no-parent}
+use Rattle.meaning.proofs.Trees.{no-parent, some-node}
 use Rattle.meaning.specs.Finite.{pick}
 use Rattle.meaning.proofs.Tests.{pick-yes, pick-no, is-eq, self-eq}
 use Rattle.meaning.proofs.Finite.{split-lt}
@@ -44,12 +44,12 @@ module _ (t : Tree) (i : IsTree t) (a : Assignment) (n : ℕ) (placed : (x : Var
     unfolding stepSheet stepExpr
 
     path-leads : (p : Path) (x : Var) (w : Sheet) → Fine w → x < w .next → Kept (pathSheet p x w) → Leads (Denotes t (pathExpr p)) (a x)
-    path-leads alone x w f l k = (0, i .some-node, refl)
+    path-leads alone x w f l k = (0, some-node t i, refl)
     path-leads (from-root ss) x w f l k =
         let r = rooted-grown w f in
         let g = steps-grown ss (rooted w .rootAt) (rooted w) (r .grown .fine) (r .grown .fine .root-low) in
         let d = steps-lead ss (rooted w .rootAt) (rooted w) (r .grown .fine) (r .grown .fine .root-low) k in
-        (d .0, d .1, (0, i .some-node, refl, subst (λ (u : Node). Denotes t (stepsExpr ss) u (d .0)) (on-root (rooted w) (r .grown .fine) (r .positive) (back g k)) (d .2)))
+        (d .0, d .1, (0, some-node t i, refl, subst (λ (u : Node). Denotes t (stepsExpr ss) u (d .0)) (on-root (rooted w) (r .grown .fine) (r .positive) (back g k)) (d .2)))
     path-leads (from-here ss) x w f l k = steps-lead ss x w f l k
 
     steps-lead : (ss : Steps) (x : Var) (w : Sheet) → Fine w → x < w .next → Kept (stepsSheet ss x w) → Leads (Denotes t (stepsExpr ss)) (a x)
@@ -90,13 +90,13 @@ module _ (t : Tree) (i : IsTree t) (a : Assignment) (n : ℕ) (placed : (x : Var
       let r = rooted-grown w f in
       let m : Kept (rooted w) = record { low = k .low; met = λ c h. k .met c (Memᴰ·append-left _ h) } in
       let e : a (rooted w .rootAt) ≡ a 0 = k .met (is-same (rooted w .rootAt) 0) (Memᴰ·append-right (rooted w .records) (List·Memᴰ·head refl)) in
-      record { start = 0; inside = i .some-node; leads = sym e ∙ on-root (rooted w) (r .grown .fine) (r .positive) m }
+      record { start = 0; inside = some-node t i; leads = sym e ∙ on-root (rooted w) (r .grown .fine) (r .positive) m }
   line-selects (from-root ss) w f k =
       let r = rooted-grown w f in
       let g = end-grown ss (rooted w .rootAt) (rooted w) (r .grown .fine) (r .grown .fine .root-low) in
       let d = end-leads ss (rooted w .rootAt) (rooted w) (r .grown .fine) (r .grown .fine .root-low) k in
       let e = on-root (rooted w) (r .grown .fine) (r .positive) (back g k) in
-      record { start = 0; inside = i .some-node; leads = (0, i .some-node, refl, subst (λ (u : Node). Denotes t (stepsExpr ss) u (a 0)) e d) }
+      record { start = 0; inside = some-node t i; leads = (0, some-node t i, refl, subst (λ (u : Node). Denotes t (stepsExpr ss) u (a 0)) e d) }
   line-selects (from-here ss) w f k =
       let g = next-taken-grown w f in
       let h = end-grown ss (w .next) (nextTaken w) (g .fine) (next-low w) in
@@ -158,7 +158,7 @@ module _ (t : Tree) (i : IsTree t) where
   rooted-by : (a : Assignment) (w : Sheet) → Fine w → Good a w → (r : Var) → w .rootAt ≡ r → Extended a w (rootedBy r w)
   unfolding rootedBy nextTaken
   rooted-by a w f g zero e =
-      let h = next-taken-good a w f g 0 (i .some-node) in
+      let h = next-taken-good a w f g 0 (some-node t i) in
       let b = put a (w .next) 0 in
       record {
         to = b;
@@ -315,7 +315,7 @@ met-if-selected ps s =
 
 pub selected-if-met : (ps : List Path) → CanBeMet (vars (recordsOf ps)) (recordsOf ps) → SomeTreeSelects ps
 selected-if-met [] m =
-    record { tree = m .tree; is-tree = m .is-tree; node = 0; inside = m .is-tree .some-node; by-every = λ p h. absurd (List·Memᴰ·not-nil h) }
+    record { tree = m .tree; is-tree = m .is-tree; node = 0; inside = some-node (m .tree) (m .is-tree); by-every = λ p h. absurd (List·Memᴰ·not-nil h) }
 selected-if-met (p ∷ ps) m =
     let n = variables-are (p ∷ ps) (suc-le-suc zero-le) in
     record {

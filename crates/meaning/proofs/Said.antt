@@ -70,10 +70,10 @@ module _ {A n : ℕ} {cs : List Constraint} {r : Answer} (d : Demand3 A n cs r) 
 
 module _ {A : ℕ} {file buffer after : List ℕ} {r : Solved} {cs : List Constraint} (p : SolverPromise A file buffer r after) (e : judge file ≡ accepted cs) where
   -- an answer is given only where question 7 is passed
-  pub answered : {a : Answer} → r ≡ solver-answers a → (132 ≤ length buffer) × Answered A (vars cs) cs a
-  answered {a} q = go (decLe 132 (length buffer))
+  pub answered : {a : Answer} → r ≡ solver-answers a → (136 ≤ length buffer) × Answered A (vars cs) cs a
+  answered {a} q = go (decLe 136 (length buffer))
     where
-      go : Dec (132 ≤ length buffer) → (132 ≤ length buffer) × Answered A (vars cs) cs a
+      go : Dec (136 ≤ length buffer) → (136 ≤ length buffer) × Answered A (vars cs) cs a
       go (no l) = absurd (let s = p .short-buffer e (omega arith) in let z : _≡_ {A = ℕ} 0 1 = cc in omega arith)
       go (yes l) = let w = p .answers e l in let s : w .0 ≡ a = (let h = w .1 in cc) in (l, subst (Answered A (vars cs) cs) s (w .2))
 
@@ -91,7 +91,7 @@ module _ {A : ℕ} {file buffer after : List ℕ} {r : Solved} {cs : List Constr
         meets = f .right .met-iff .0 refl;
       }
 
-  pub says-none : ¬ SaysSpent r → 132 ≤ length buffer → ¬ CanBeMet (vars cs) cs → SaysNone r
+  pub says-none : ¬ SaysSpent r → 136 ≤ length buffer → ¬ CanBeMet (vars cs) cs → SaysNone r
   says-none f l g =
       let w = p .answers e l in
       let d = w .2 .demand-3 in

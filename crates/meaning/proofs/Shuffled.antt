@@ -113,7 +113,7 @@ module _ {file other : List ℕ} (p : AnotherOrder file other) where
 module _ {file other : List ℕ} (p : AnotherOrder file other) {cs : List Constraint} (e : judge file ≡ accepted cs) where
   answered-alike : {A : ℕ} {buffer after lent later : List ℕ} {r s : Solved} → SameRoom buffer lent
       → SolverPromise A file buffer r after → SolverPromise A other lent s later → s ≡ r
-  answered-alike {A} {buffer} {lent = lent} {r = r} {s = s} room u v = go (decLe 132 (length buffer))
+  answered-alike {A} {buffer} {lent = lent} {r = r} {s = s} room u v = go (decLe 136 (length buffer))
     where
       w : Refiled other cs
       w = refiled p e
@@ -121,14 +121,14 @@ module _ {file other : List ℕ} (p : AnotherOrder file other) {cs : List Constr
       same : SameConstraints cs (w .list)
       same = same-constraints (w .reordered)
 
-      go : Dec (132 ≤ length buffer) → s ≡ r
+      go : Dec (136 ≤ length buffer) → s ≡ r
       go (yes l) =
           let a = u .answers e l in
           let b = v .answers (w .judged) (room .0 l) in
           let d : Demand3 A (vars cs) (w .list) (b .0) = subst (λ (n : ℕ). Demand3 A n (w .list) (b .0)) (same-vars same) (b .2 .demand-3) in
           b .1 ∙ ap solver-answers (same-answer same (a .2 .demand-3) d) ∙ sym (a .1)
       go (no l) =
-          let short : ¬ (132 ≤ length lent) = λ m. l (room .1 m) in
+          let short : ¬ (136 ≤ length lent) = λ m. l (room .1 m) in
           v .short-buffer (w .judged) (omega arith) ∙ sym (u .short-buffer e (omega arith))
 
 pub same-solved : {file other : List ℕ} → AnotherOrder file other → SameSolved file other

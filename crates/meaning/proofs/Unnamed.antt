@@ -11,6 +11,7 @@ use Rattle.meaning.specs.Constraint.{Constraint, Meets, MeetsAll, CanBeM
 use Rattle.meaning.specs.Finite.{pick}
 use Rattle.meaning.specs.FixedSearch.{Outcome, in-none}
 use Rattle.meaning.specs.Demand.{FixedSearch}
+use Rattle.meaning.proofs.Trees.{some-node}
 use Rattle.meaning.proofs.Tests.{pick-yes, pick-either, is-lt, lt-yes}
 use Rattle.meaning.proofs.Constraints.{Names, names-below, meets-agree, named-most}
 use Rattle.meaning.proofs.Said.{none-cannot}
@@ -33,7 +34,7 @@ module _ (t : Tree) (i : IsTree t) (a : Assignment) where
 
   on-nodes-inside : (x : Var) → on-nodes x < t .size
   unfolding on-nodes
-  on-nodes-inside x = pick-either (λ (v : Node). v < t .size) (ltb (a x) (t .size)) (a x) 0 (λ y. is-lt y) (λ z. i .some-node)
+  on-nodes-inside x = pick-either (λ (v : Node). v < t .size) (ltb (a x) (t .size)) (a x) 0 (λ y. is-lt y) (λ z. some-node t i)
 
   on-nodes-same : (x : Var) → a x < t .size → a x ≡ on-nodes x
   unfolding on-nodes

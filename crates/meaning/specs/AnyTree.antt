@@ -26,6 +26,11 @@ pub record AnyTree (N : Type 0) : Type 1 where
   pub reached : (v : N) → Reaches IsParent root v
   -- λ, with numbers for the paper's infinite set Σ of tag names
   pub label : N → Label
+  -- r is the document node: blank, with exactly one child
+  pub root-blank : label root ≡ 0
+  pub element : N
+  pub has-element : IsParent root element
+  pub one-element : {v : N} → IsParent root v → v ≡ element
   -- u ≺ v: the paper's is a strict total order of all nodes that walks the tree in pre-order. What is used of it is that it is strict, and total among
   -- the children of one node: so this is any order of siblings.
   pub Precedes : N → N → Type 0

@@ -27,9 +27,9 @@ pub record GoodFile (n : ℕ) (cs : List Constraint) (bs : List ℕ) : Type 0 wh
   pub tree-nodes : List NodeRecord
   pub tree-places : List Node
   pub reads : judgeAnswer n bs ≡ accepted-answer tree-nodes tree-places
-  pub few : length tree-nodes ≤ n + 1
+  pub few : length tree-nodes ≤ n + 2
   pub right : RightMark n cs tree-nodes tree-places met
-  pub short : length bs ≤ 132
+  pub short : length bs ≤ 136
 
 pub record Answered (A n : ℕ) (cs : List Constraint) (a : Answer) : Type 0 where
   pub demand-3 : Demand3 A n cs a
@@ -39,9 +39,9 @@ pub record Answered (A n : ℕ) (cs : List Constraint) (a : Answer) : Type 0 whe
 pub record SolverPromise (A : ℕ) (file buffer : List ℕ) (r : Solved) (after : List ℕ) : Type 0 where
   -- refused by the first question that is answered no; question 7 comes last
   pub refuses : {q : ℕ} → judge file ≡ refused q → r ≡ solver-refuses q
-  pub short-buffer : {cs : List Constraint} → judge file ≡ accepted cs → length buffer < 132 → r ≡ solver-refuses 7
+  pub short-buffer : {cs : List Constraint} → judge file ≡ accepted cs → length buffer < 136 → r ≡ solver-refuses 7
   -- every other input is accepted and brought to an end
-  pub answers : {cs : List Constraint} → judge file ≡ accepted cs → 132 ≤ length buffer → (a : Answer) × (r ≡ solver-answers a) × Answered A (vars cs) cs a
+  pub answers : {cs : List Constraint} → judge file ≡ accepted cs → 136 ≤ length buffer → (a : Answer) × (r ≡ solver-answers a) × Answered A (vars cs) cs a
   -- every byte of the buffer
   pub wrote : after ≡ written r buffer
   pub same-length : length after ≡ length buffer

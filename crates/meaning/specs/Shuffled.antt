@@ -45,7 +45,7 @@ FirstRefused qs p = (i : ℕ) × (q : Quad) × FirstAt (λ r. (c : Constraint) �
 
 -- question 7 passes both buffers, or neither
 abbrev pub SameRoom : List ℕ → List ℕ → Type 0
-SameRoom buffer lent = (132 ≤ length buffer) ↔ (132 ≤ length lent)
+SameRoom buffer lent = (136 ≤ length buffer) ↔ (136 ≤ length lent)
 
 -- "any reordering of an accepted file gets, under the same allowance, the same verdict, count and bytes from the solver"
 pub record SameSolved (file other : List ℕ) : Type 0 where

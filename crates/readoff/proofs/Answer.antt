@@ -97,7 +97,7 @@ module _ (n : ℕ) (h : FactSet) where
       (g .these (q .0) j (q .1) m ∙ ap (λ (r : NodeRecord). getD (nodeBytes (nodeAt n h (q .0)) (r ∷ [])) j 0) (sym (node-at n h (q .0) (q .1)))))
       w
 
-  answered : (old first second new : List ℕ) → n ≤ 16 → 132 ≤ length old → Recorded (λ v. v) (nodeRecord (added n h)) (length (added n h)) old first
+  answered : (old first second new : List ℕ) → n ≤ 16 → 136 ≤ length old → Recorded (λ v. v) (nodeRecord (added n h)) (length (added n h)) old first
       → Recorded (nodeAt n h) (λ i. nodeBytes (nodeAt n h i) (node n h (getD (order n h) i 0) ∷ [])) (length (order n h)) first second
       → Recorded (λ x. size + x) (placeRecord (places n h)) n second new → FileWritten n h old ((size + n) * 4) new
   unfolding tree treeOf
@@ -162,7 +162,7 @@ module _ {f : Facts} {n lows : ℕ} {rows : List ℕ} {o : Order} (s : Ordered f
     pub few-records : (numbered front (o .len) + n ≤ 33) × (length (inFront front) ≤ 33)
     few-records = let a = nodes-most n (has f) in let b = s .few in (omega (arith, first-is), omega (arith, ap length added-are, few-added n (has f)))
 
-    pub file-written : (first : ℕ) (old mid late new : List ℕ) (vs : List ℕ) → first ≡ numbered front (o .len) → 132 ≤ length old → ((g : ℕ) → row (f .label) g < 256)
+    pub file-written : (first : ℕ) (old mid late new : List ℕ) (vs : List ℕ) → first ≡ numbered front (o .len) → 136 ≤ length old → ((g : ℕ) → row (f .label) g < 256)
         → Recorded (λ v. v) (nodeRecord (inFront front)) (length (inFront front)) old mid
         → Recorded (numbered front) (groupRecord (f .below) (f .above) (f .label) n lows (numbered front) (groups o)) (o .len) mid late
         → Recorded (λ x. first + x) (placeRecord vs) n late new → vs ≡ tab n (placeIn (f .below) (f .above) (numbered front) (groups o))

@@ -30,7 +30,7 @@ placeRecord vs x = placeBytes x (getD vs x 0 ∷ [])
 pub record FileWritten (n : ℕ) (h : FactSet) (old : List ℕ) (r : ℕ) (new : List ℕ) : Type 0 where
   pub size : r ≡ length (answerFile n h)
   pub bytes : new ≡ answerFile n h ++ drop (length (answerFile n h)) old
-  pub most : r ≤ 132
+  pub most : r ≤ 136
 
 -- so of any settled set whose rows these are
 abbrev pub WrittenOf : (below above after label : List ℕ) → ℕ → List ℕ → ℕ → List ℕ → Type 0

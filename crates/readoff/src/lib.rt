@@ -310,7 +310,7 @@ pub fn read_off(
     n: usize,
     answer: &mut [u8],
 ) -> usize
-    requires { ⌜ (n ≤ 16) × (132 ≤ length (now answer)) × ((S : List Fact) × (g : Facts) × Ready n S (showing below above after label g)) ⌝ }
+    requires { ⌜ (n ≤ 16) × (136 ≤ length (now answer)) × ((S : List Fact) × (g : Facts) × Ready n S (showing below above after label g)) ⌝ }
     ensures { λ r. ⌜ WrittenOf below above after label n (now (answer .entry)) r (now (answer .exit)) ⌝ }
 {
     let low = lows(below, above, n);

@@ -143,13 +143,13 @@ module _ (A : ℕ) (file buffer : List ℕ) (small : (i : ℕ) → getD file i 0
     is-accepted : judge file ≡ accepted (constraintsIn file)
     is-accepted = accepted-file file n e .0
 
-    pub refuses-buffer : length buffer < 132 → SolverOf A file buffer (verdict.Refused 7) buffer
+    pub refuses-buffer : length buffer < 136 → SolverOf A file buffer (verdict.Refused 7) buffer
     unfolding verdictOf written solver solvedBy
     refuses-buffer l =
         promised _ _ (solver-refuses 7)
-        (ap (λ (j : Judged). solvedBy A j buffer) is-accepted ∙ pick-no _ _ (λ y. let m : 132 ≤ length buffer = is-le y in omega arith)) refl refl
+        (ap (λ (j : Judged). solvedBy A j buffer) is-accepted ∙ pick-no _ _ (λ y. let m : 136 ≤ length buffer = is-le y in omega arith)) refl refl
 
-    pub answers-file : 132 ≤ length buffer → (r : Verdict) (after : List ℕ) → AnswerOf (solve A n (constraintsIn file)) r buffer after → SolverOf A file buffer r after
+    pub answers-file : 136 ≤ length buffer → (r : Verdict) (after : List ℕ) → AnswerOf (solve A n (constraintsIn file)) r buffer after → SolverOf A file buffer r after
     unfolding solver solvedBy
     answers-file l r after w =
         promised r after (solver-answers (solve A n (constraintsIn file)))

@@ -1,4 +1,4 @@
--- A tree's answer file is short: at most 132 bytes are told as written.
+-- A tree's answer file is short: at most 136 bytes are told as written.
 use mathlib.Core.Path.{_≡_, refl, sym, ap, _∙_}
 use mathlib.Core.List.{List}
 use Prim.Native.Nat.{ℕ, _≤_}
@@ -14,18 +14,18 @@ use Rattle.solver.specs.declared.Verdict.{Verdict}
 use Rattle.solver.specs.declared.Verdict.the-variants.{Tree}
 
 module _ (A : ℕ) (file buffer : List ℕ) (r : Verdict) (after : List ℕ) (w : SolverOf A file buffer r after) where
-  pub bytes-few : {b c : ℕ} → r ≡ Tree b c → b ≤ 132
+  pub bytes-few : {b c : ℕ} → r ≡ Tree b c → b ≤ 136
   unfolding verdictOf
   bytes-few {b} {c} e = by (solver A file buffer) refl
     where
-      short : (bs : List ℕ) → solver A file buffer ≡ solver-answers (a-tree c bs) → length bs ≤ 132
+      short : (bs : List ℕ) → solver A file buffer ≡ solver-answers (a-tree c bs) → length bs ≤ 136
       short bs q = go (judge file) refl
         where
-          go : (j : Judged) → judge file ≡ j → length bs ≤ 132
+          go : (j : Judged) → judge file ≡ j → length bs ≤ 136
           go (refused p) d = let x = w .promise .refuses d in let z : _≡_ {A = ℕ} 0 1 = cc in absurd (omega arith)
-          go (accepted cs) d = room (decLe 132 (length buffer))
+          go (accepted cs) d = room (decLe 136 (length buffer))
             where
-              room : Dec (132 ≤ length buffer) → length bs ≤ 132
+              room : Dec (136 ≤ length buffer) → length bs ≤ 136
               room (yes l) =
                   let x = w .promise .answers d l in
                   let y : x .0 ≡ a-tree c bs = let u = x .1 in cc in
@@ -35,7 +35,7 @@ module _ (A : ℕ) (file buffer : List ℕ) (r : Verdict) (after : List ℕ) (w 
       told-as : {s : Solved} → solver A file buffer ≡ s → Tree b c ≡ verdictOf s
       told-as q = sym e ∙ w .verdict ∙ ap verdictOf q
 
-      by : (s : Solved) → solver A file buffer ≡ s → b ≤ 132
+      by : (s : Solved) → solver A file buffer ≡ s → b ≤ 136
       by (solver-answers (a-tree d bs)) q =
           let x : Tree b c ≡ Tree (length bs) d = told-as q in
           let y : b ≡ length bs = cc in

@@ -63,7 +63,7 @@ pub fn decide(constraints: &[u8], n: usize, allowance: u32) -> Decided
 
 // Decides them, and writes a tree into the buffer.
 pub fn solve_over(constraints: &[u8], n: usize, answer: &mut [u8], allowance: u32) -> Verdict
-    requires { ⌜ Covers n (now constraints) × (132 ≤ length (now answer)) ⌝ }
+    requires { ⌜ Covers n (now constraints) × (136 ≤ length (now answer)) ⌝ }
     ensures { λ r. ⌜ AnswerOf (solve allowance n (constraintsIn (now (constraints .entry)))) r (now (answer .entry)) (now (answer .exit)) ⌝ }
 {
     let found = search_over(constraints, n, allowance);
@@ -93,7 +93,7 @@ pub fn solve(constraints: &[u8], answer: &mut [u8], allowance: u32) -> Verdict
     match judged {
         Judgement::Refused(question) => Verdict::Refused(question),
         Judgement::Accepted(n) => {
-            if answer.len() < 132 {
+            if answer.len() < 136 {
                 return Verdict::Refused(7);
             }
             solve_over(constraints, n, answer, allowance)

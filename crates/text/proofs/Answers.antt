@@ -27,17 +27,17 @@ module _ (A : ℕ) (file buffer : List ℕ) (r : Verdict) (after : List ℕ) (w 
   pub solver-text : (k : ℕ) → k ≡ bytesOf r → solverText r (take k after) ≡ solvedText (solver A file buffer)
   solver-text k e = rw (e, w .wrote, w .verdict) (text-of (solver A file buffer) buffer)
 
-  pub bytes-most : (k : ℕ) → k ≡ bytesOf r → k ≤ 132
+  pub bytes-most : (k : ℕ) → k ≡ bytesOf r → k ≤ 136
   unfolding bytesOf
   bytes-most k e = by r refl
     where
-      by : (v : Verdict) → r ≡ v → k ≤ 132
+      by : (v : Verdict) → r ≡ v → k ≤ 136
       by (Tree b c) d = let few = bytes-few A file buffer r after w d in let z : k ≡ b = e ∙ ap bytesOf d in omega arith
       by (None c) d = let z : k ≡ 0 = e ∙ ap bytesOf d in omega arith
       by (Spent c) d = let z : k ≡ 0 = e ∙ ap bytesOf d in omega arith
       by (Refused q) d = let z : k ≡ 0 = e ∙ ap bytesOf d in omega arith
 
-  pub bytes-within : 132 ≤ length buffer → (k : ℕ) → k ≡ bytesOf r → k ≤ length after
+  pub bytes-within : 136 ≤ length buffer → (k : ℕ) → k ≡ bytesOf r → k ≤ length after
   bytes-within h k e = omega (arith, bytes-most k e, w .promise .same-length)
 
   pub promised : SolverPromise A file buffer (solver A file buffer) (written (solver A file buffer) buffer)

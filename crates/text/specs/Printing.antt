@@ -11,7 +11,7 @@ use Rattle.theory.specs.PathReader.{readPaths}
 
 -- a buffer for the answer file, as short as question 7 lets in
 abbrev pub room : List ℕ
-room = replicate 132 0
+room = replicate 136 0
 
 -- the text at the front, how long it is, and every other byte as it was
 pub record Fronted (text before : List ℕ) (r : ℕ) (after : List ℕ) : Type 0 where

@@ -137,7 +137,7 @@ fn put_mark(out: &mut [u8], verdict: marker::Verdict) -> usize
 }
 
 fn put_solved(out: &mut [u8], verdict: Verdict, answer: &[u8]) -> usize
-    requires { ⌜ (577 ≤ length (now out)) × (length (now answer) ≤ 132) ⌝ }
+    requires { ⌜ (577 ≤ length (now out)) × (length (now answer) ≤ 136) ⌝ }
     ensures { λ r. ⌜ Put (now (out .entry)) 0 (solverText verdict (now (answer .entry))) r (now (out .exit)) ⌝ }
 {
     match verdict {
@@ -167,7 +167,7 @@ fn bytes_of(verdict: Verdict) -> usize
 pub fn solve(constraints: &[u8], out: &mut [u8; TEXT_BYTES]) -> usize
     ensures { λ r. ⌜ SolvedAs solveAllowance (now (constraints .entry)) (now (out .entry)) r (now (out .exit)) ⌝ }
 {
-    let mut answer = [0u8; 132];
+    let mut answer = [0u8; 136];
     let verdict = solver::solve(constraints, &mut answer, ALLOWANCE);
     let bytes = bytes_of(verdict);
     put_solved(out, verdict, &answer[..bytes])

@@ -18,7 +18,7 @@ use Rattle.meaning.specs.Files.{accepted, judge}
 use Rattle.meaning.specs.Results.{Solved, solver-answers}
 use Rattle.meaning.specs.Promises.{SolverPromise}
 use Rattle.meaning.proofs.Finite.{split-lt}
-use Rattle.meaning.proofs.Trees.{root-above}
+use Rattle.meaning.proofs.Trees.{root-above, some-node, element-child}
 use Rattle.meaning.proofs.Constraints.{Names, names-below, meets-agree, named-most}
 use Rattle.meaning.proofs.Said.{none-ends, answered}
 use Rattle.theory.proofs.ConstraintFile.{Bytes, accepted-labels}
@@ -113,6 +113,10 @@ module _ {N : Type 0} (T : AnyTree N) where
     no-parent = T .no-parent;
     one-parent = T .one-parent;
     reached = T .reached;
+    root-blank = byte-stays _ _ (subst (λ (k : Label). k ≤ 255) (sym (T .root-blank)) zero-le) ∙ T .root-blank;
+    element = T .element;
+    has-element = T .has-element;
+    one-element = T .one-element;
     label = λ v. byte-or-blank (T .label v) (decLe (T .label v) 255);
     Precedes = T .Precedes;
     precedes-not = T .precedes-not;
@@ -132,7 +136,7 @@ module _ {N : Type 0} (T : AnyTree N) where
   with-bytes-meets a cs b (is-root x) m h = h
   with-bytes-meets a cs b (is-leaf x) m h = h
   with-bytes-meets a cs b (is-before x y) m h = record { above = h .above; parent-u = h .parent-u; parent-v = h .parent-v; first = h .first }
-  with-bytes-meets a cs b (is-label x l) m h = byte-stays _ _ (subst (λ (k : Label). k ≤ 255) (sym h) (b x l m)) ∙ h
+  with-bytes-meets a cs b (is-label x l) m h = byte-stays _ _ (subst (λ (k : Label). k ≤ 255) (sym h) (b x l m .1)) ∙ h
 
   -- where a tree of the paper meets constraints whose labels are bytes, so does one of docs/FORMAT.md
   pub any-tree-meets : (n : ℕ) (a : Var → N) (cs : List Constraint) → ByteLabels cs → MeetsAllAny T a cs → (t : Tree) × IsTree t × ((b : Assignment) × MeetsAll n t b cs)
@@ -179,10 +183,14 @@ module _ (t : Tree) (i : IsTree t) where
     nodes = nodes-below (t .size) (le-refl _);
     listed = λ v. node-listed (t .size) (le-refl _) v (v .1);
     IsParent = ParentOf;
-    root = (0, i .some-node);
+    root = (0, some-node t i);
     no-parent = λ u p. lt-irrefl 0 (p .not-first);
     one-parent = λ {u} {v} p q. node-same u v (sym (p .is) ∙ q .is);
-    reached = λ v. above-reaches (root-above t i (v .0) (v .1)) (i .some-node) (v .1);
+    reached = λ v. above-reaches (root-above t i (v .0) (v .1)) (some-node t i) (v .1);
+    root-blank = i .blank-first;
+    element = (1, i .two-nodes);
+    has-element = element-child t i;
+    one-element = λ {v} p. node-same v (1, i .two-nodes) (i .one-child (v .0) p);
     label = λ v. t .label (v .0);
     Precedes = λ u v. u .0 < v .0;
     precedes-not = λ v l. lt-irrefl _ l;
@@ -205,7 +213,7 @@ module _ (t : Tree) (i : IsTree t) where
 
   on-node : (n : ℕ) (a : Assignment) → ((x : Var) → x < n → a x < t .size) → (x : Var) → Dec (x < n) → NodeOf t
   on-node n a p x (yes l) = (a x, p x l)
-  on-node n a p x (no l) = (0, i .some-node)
+  on-node n a p x (no l) = (0, some-node t i)
 
   on-node-same : (n : ℕ) (a : Assignment) (p : (x : Var) → x < n → a x < t .size) (x : Var) (d : Dec (x < n)) → x < n → a x ≡ on-node n a p x d .0
   unfolding on-node

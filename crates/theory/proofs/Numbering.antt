@@ -307,13 +307,38 @@ module _ {N : Type 0} (T : AnyTree N) where
 
   numbered-is-tree : ByteLabelled T → IsTree numbered-tree
   numbered-is-tree b = record {
-    some-node = let l = number-inside (T .root) in omega arith;
+    two-nodes = two;
+    blank-first = ap (T .label) (root-at) ∙ T .root-blank;
+    one-child = λ v p. only v (p .not-first) (p .inside) (p .is);
     smaller = λ i z l.
         let e : number-of (node-of i) ≡ i = node-number i l in
         let s : number-of (parent-of (node-of i)) < number-of (node-of i) = number-smaller _ _ (key-parent (parent-there (node-of i) (not-root (node-of i) (omega arith)))) in
         omega arith;
     small-label = λ i l. b (node-of i);
   }
+    where
+      two : 1 < size-of
+      two = let a = number-smaller (T .root) (T .element) (key-parent (T .has-element)) in let c = number-inside (T .element) in omega arith
+
+      root-at : node-of 0 ≡ T .root
+      root-at = ap node-of (sym number-root) ∙ number-node (T .root)
+
+      -- a child of the root is its element
+      child-is : (v : Node) → 0 < v → v < size-of → number-of (parent-of (node-of v)) ≡ 0 → node-of v ≡ T .element
+      child-is v z l e =
+          let p = parent-there (node-of v) (not-root (node-of v) (let q = node-number v l in omega arith)) in
+          T .one-element (subst (λ (w : N). T .IsParent w (node-of v)) (number-one-to-one _ (T .root) (e ∙ sym number-root)) p)
+
+      -- and so is the node with the number 1, since only 0 is smaller
+      first-child : node-of 1 ≡ T .element
+      first-child =
+          child-is 1 (le-refl _) two
+          (let e = node-number 1 two in
+          let s = number-smaller _ _ (key-parent (parent-there (node-of 1) (not-root (node-of 1) (let q = node-number 1 two in omega arith)))) in
+          omega arith)
+
+      only : (v : Node) → 0 < v → v < size-of → number-of (parent-of (node-of v)) ≡ 0 → v ≡ 1
+      only v z l e = sym (node-number v l) ∙ ap number-of (child-is v z l e ∙ sym first-child) ∙ node-number 1 two
 
   numbered-same : Numbering T numbered-tree
   numbered-same = record {
