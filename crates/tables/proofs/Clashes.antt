@@ -1,20 +1,23 @@
--- What it is for facts to have no clash, and that tables that decide a settled set have none just where that set has none; and what the test of
--- before against below says.
-use mathlib.Core.Path.{_≡_, refl, sym, _∙_}
-use mathlib.Core.Logic.{⊎-elim}
-use mathlib.Core.Bool.{Bool, true, false, false≢true, not}
+-- What it is for facts to have no clash, and that tables that decide a settled set have none just where that set has none; and what the tests of
+-- the document node, and of before against below, say.
+use mathlib.Core.Path.{_≡_, refl, sym, ap, _∙_}
+use mathlib.Core.Logic.{_≢_, _⊎_, inl, inr, ⊎-elim}
+use mathlib.Core.Bool.{Bool, true, false, false≢true, not, _&&_, _||_}
 use mathlib.Core.List.{List}
 use Prim.Native.Nat.{ℕ, _≤_}
 use native.Mathlib.Nat.{le-trans}
+use lib.Dec.{eqb}
 use Rattle.meaning.specs.Constraint.{Fact, below, before}
-use Rattle.meaning.specs.Settled.{Settled, Clash, differs, labels, above-sibling, under-sibling}
-use Rattle.meaning.specs.Finite.{Yes}
+use Rattle.meaning.specs.Settled.{Settled, Clash, differs, labels, above-sibling, under-sibling, leaf-document, label-document}
+use Rattle.meaning.specs.Finite.{Yes, _and_, _or_, neg}
 use Rattle.meaning.specs.ReadOff.{Decides}
 use Rattle.meaning.specs.Closed.{Within}
+use Rattle.meaning.proofs.Tests.{clash, yes-case, and-left, and-right, and-both, or-left, or-right, or-cases, is-eq, eq-yes}
 use Rattle.tables.specs.Tables.{has, Columns}
-use Rattle.tables.specs.Rows.{Crossed, Blank}
+use Rattle.tables.specs.Rows.{meets, onDocument, Crossed, Blank}
 use Rattle.tables.specs.declared.Facts.{Facts}
 use Rattle.tables.specs.Free.{Clear, Free}
+use Rattle.tables.proofs.Helpers.{and-is, or-is, not-is}
 use Rattle.tables.proofs.Labels.{label-is}
 
 module _ (n : ℕ) (S : List Fact) (f : Facts) (d : Decides n S (has f)) where
@@ -23,12 +26,34 @@ module _ (n : ℕ) (S : List Fact) (f : Facts) (d : Decides n S (has f)) where
   free-clash h (labels {x} {l} {m} a b z) = z (sym (label-is f x l (d .complete a) .0) ∙ label-is f x m (d .complete b) .0)
   free-clash h (above-sibling {x} {y} a b) = h .clear .not-above x y (d .complete a) (d .complete b)
   free-clash h (under-sibling {x} {y} a b) = h .clear .not-under x y (d .complete a) (d .complete b)
+  free-clash h (leaf-document {x} a b) = h .bare .no-leaf x (d .complete a) (d .complete b)
+  free-clash h (label-document {x} {l} a b) = h .bare .no-label x l (d .complete a) (d .complete b)
 
   pub clash-free : ¬ Clash n S → Free (λ φ. Yes (has f φ))
   clash-free k = record {
     apart = λ x u. k (differs (d .sound u));
     clear = record { not-above = λ x y u v. k (above-sibling (d .sound u) (d .sound v)); not-under = λ x y u v. k (under-sibling (d .sound u) (d .sound v)) };
+    bare = record { no-leaf = λ x u v. k (leaf-document (d .sound u) (d .sound v)); no-label = λ x l u v. k (label-document (d .sound u) (d .sound v)) };
   }
+
+-- ---- the test of leaf and label on the document node
+
+module _ (root leaf group l : ℕ) where
+  pub is-on-document : (p q : Bool) → p ≡ meets root group → q ≡ meets leaf group → (p && (q || not (eqb l 0))) ≡ onDocument root leaf group l
+  unfolding onDocument
+  is-on-document p q d e = rw (← d, ← e) (and-is p (q || not (eqb l 0)) ∙ ap (λ (r : Bool). p and r) (or-is q (not (eqb l 0)) ∙ ap (λ (r : Bool). q or r) (not-is (eqb l 0))))
+
+  pub on-document : Yes (onDocument root leaf group l) → Yes (meets root group) × (Yes (meets leaf group) ⊎ (l ≢ 0))
+  unfolding onDocument
+  on-document y = (and-left _ y, ⊎-elim inl (λ z. inr (λ e. clash (eq-yes e) z)) (or-cases _ _ (and-right _ y)))
+
+  pub no-leaf-on : ¬ Yes (onDocument root leaf group l) → Yes (meets root group) → ¬ Yes (meets leaf group)
+  unfolding onDocument
+  no-leaf-on n y z = n (and-both y (or-left _ z))
+
+  pub no-label-on : ¬ Yes (onDocument root leaf group l) → Yes (meets root group) → l ≡ 0
+  unfolding onDocument
+  no-label-on n y = ⊎-elim is-eq (λ z. absurd (n (and-both y (or-right _ z)))) (yes-case (eqb l 0))
 
 -- ---- the test of before against below
 

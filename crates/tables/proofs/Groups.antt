@@ -162,4 +162,5 @@ module _ (n : ℕ) (P Q : Fact → Type 0) (to : (φ : Fact) → P φ → Q φ) 
     sharing = sharing-same (r .sharing);
     siblings = siblings-same (r .siblings);
     one-parent = λ x y z a b. to _ (r .one-parent x y z (from _ a) (from _ b));
+    one-element = λ x y z a b c. to _ (r .one-element x y z (from _ a) (from _ b) (from _ c));
   }

@@ -96,4 +96,5 @@ module _ (n : ℕ) (P : Fact → Type 0) (Up Down : Var → Type 0) (o : Opening
     sharing = wide-sharing (r .sharing);
     siblings = wide-siblings (r .sharing) (r .siblings);
     one-parent = λ x y z a b. inl (r .one-parent x y z a b);
+    one-element = λ x y z a b c. inl (r .one-element x y z a b c);
   }

@@ -6,7 +6,7 @@ use mathlib.Core.List.{List}
 use Prim.Native.Nat.{ℕ, _^_, _<_, _≤_}
 use lib.Dec.{eqb}
 use lib.Bits.{bitOr, bitAnd, bitXor}
-use Rattle.meaning.specs.Finite.{Yes, neg, pick}
+use Rattle.meaning.specs.Finite.{Yes, _and_, _or_, neg, pick}
 use Rattle.rowbits.specs.Bit.{bit}
 use Rattle.tables.specs.Tables.{row}
 
@@ -30,6 +30,10 @@ meets a b = neg (eqb (bitAnd a b) 0)
 -- what is in the first row and not in the second
 unfoldable pub without : ℕ → ℕ → ℕ
 without a b = bitAnd a (bitXor b 65535)
+
+-- a group has a root, and a leaf or the label l
+unfoldable pub onDocument : (root leaf group l : ℕ) → Bool
+onDocument root leaf group l = meets root group and (meets leaf group or neg (eqb l 0))
 
 -- the numbers below 16 that pass a test, as a row
 pub record Gathers (p : ℕ → Bool) (r : ℕ) : Type 0 where

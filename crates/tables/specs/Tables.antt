@@ -27,8 +27,8 @@ has f (leaf x) = bit (f .leaf) x
 has f (label x l) = eqb (row (f .label) x) l and neg (eqb l 0)
 
 -- tables with the rows that a tree is read off from in place of their own
-abbrev pub showing : (below above after label : List ℕ) → Facts → Facts
-showing b a s l f = record { child = f .child; parent = f .parent; below = b; above = a; differ = f .differ; before = f .before; after = s; root = f .root; label = l; leaf = f .leaf }
+abbrev pub showing : (below above after label : List ℕ) (root : ℕ) → Facts → Facts
+showing b a s l r f = record { child = f .child; parent = f .parent; below = b; above = a; differ = f .differ; before = f .before; after = s; root = r; label = l; leaf = f .leaf }
 
 -- t's columns are the rows of r
 abbrev pub Columns : List ℕ → List ℕ → Type 0

@@ -4,7 +4,7 @@ ghost use mathlib.Core.Path.{_≡_};
 ghost use mathlib.Core.Logic.{_≢_};
 ghost use Prim.Native.Nat.{_<_, _≤_, _^_, _-_};
 ghost use Rattle.meaning.specs.Finite.{pick};
-ghost use Rattle.tables.specs.Rows.{gained, meets, gainedOne, without, Gathers, Transposed, Raised, United, Common, Lowest, Rest, Union, Crossed, Blank};
+ghost use Rattle.tables.specs.Rows.{gained, meets, gainedOne, without, onDocument, Gathers, Transposed, Raised, United, Common, Lowest, Rest, Union, Crossed, Blank};
 ghost use Rattle.tables.specs.Tables.{row};
 
 // `parent`, `above` and `after` are the columns of `child`, `below` and `before`, kept as rows: bit x of row y. A label of 0 is no label fact.
@@ -188,6 +188,13 @@ pub fn crossed(t: [u16; 16], below: [u16; 16], above: [u16; 16]) -> bool
         any = any | (v & (w | u));
     }
     any != 0
+}
+
+// Whether a group is the document node's and has a leaf or a label, l or 0 for none.
+pub fn on_document(root: u16, leaf: u16, group: u16, l: u8) -> bool
+    ensures { λ r. ⌜ r ≡ onDocument root leaf group l ⌝ }
+{
+    meet(root, group) & (meet(leaf, group) | (l != 0))
 }
 
 // Whether no row has a number.
