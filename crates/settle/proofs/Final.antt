@@ -1,6 +1,6 @@
 -- After a pass: for every S that the tables are to settle from, all that the rows took is settled, and the rows are again tables to settle S
 -- from. But for what joining added to below they have what the groups share of the given facts (tables/proofs/Groups), so where below did not
--- grow they are closed under the rules of sharing and that of one parent.
+-- grow they are closed under the rules of sharing and those of one parent and one element.
 use mathlib.Core.Path.{_≡_, refl, sym, ap, _∙_, subst}
 use mathlib.Core.Logic.{_≢_, inl, inr, ⊎-elim}
 use mathlib.Core.Bool.{Bool, true, false, false≢true}
@@ -12,7 +12,7 @@ use native.Mathlib.Omega.{arith}
 use lib.ListN.{length, List·getD-eq-default}
 use lib.Bits.{bitOr}
 use Rattle.meaning.specs.Constraint.{Fact, child, below, differ, before, root, leaf, label}
-use Rattle.meaning.specs.Settled.{Settled, Clash, differs, labels, leaf-below, one-parent}
+use Rattle.meaning.specs.Settled.{Settled, Clash, differs, labels, leaf-below, one-parent, one-element}
 use Rattle.meaning.specs.Finite.{Yes, sum, pick}
 use Rattle.meaning.proofs.Finite.{sum-le, sum-lt}
 use Rattle.meaning.proofs.Tests.{yes-eq}
@@ -26,7 +26,7 @@ use Rattle.tables.proofs.Loops.{transposed-columns}
 use Rattle.tables.proofs.Labels.{label-has, label-is}
 use Rattle.tables.proofs.Groups as groups
 use Rattle.tables.proofs.Groups.{Twin, One, Two, Order, flip, alone, own, each, turn, embed-in, shared-sharing, shared-least, sharing-same}
-use Rattle.settle.specs.Rows.{In, GroupsOf, WholeGroups, JoinedOf}
+use Rattle.settle.specs.Rows.{In, GroupsOf, WholeGroups, Joins, by-leaf, by-child, by-root, JoinedOf}
 use Rattle.settle.specs.Shares.{shareAt, Source, ShareOf, GroupClash, two-labels, apart, SharedOf}
 use Rattle.settle.proofs.Weights.{bits-le}
 use Rattle.settle.specs.Steps.{weight, SteppedOf, PassRules}
@@ -157,7 +157,7 @@ module _ {n : ℕ} {f : Facts} {k : Groups} (o : Start n f k) (S : List Fact) (s
   -- ---- the tables after the pass
 
   module _ {s : Shared} {j : Joined} {roots leaves : ℕ} (w : SharedOf n (shares f) E (k .several) s) (well : s .clash ≡ false)
-      (a : JoinedOf n B (k .above) (f .leaf) (s .shares .child) (s .shares .parent) j) (r : WholeGroups E (f .root) roots) (l : WholeGroups E (f .leaf) leaves) where
+      (a : JoinedOf n B (k .above) (f .leaf) roots (s .shares .child) (s .shares .parent) j) (r : WholeGroups E (f .root) roots) (l : WholeGroups E (f .leaf) leaves) where
     abbrev t : Shares
     t = s .shares
 
@@ -255,13 +255,18 @@ module _ {n : ℕ} {f : Facts} {k : Groups} (o : Start n f k) (S : List Fact) (s
     unfolding has
     child-s x y u = least (child x y) (child-spread .from x y u)
 
-    joined-s : (x y : ℕ) → In (j .below) x y → Settled n S (below x y)
+    root-s : (x : ℕ) → Yes (bit roots x) → Settled n S (root x)
     unfolding has
-    joined-s x y u = ⊎-elim (B-s x y)
-        (λ v. ⊎-elim
-        (λ q. leaf-below (seed .sound (leaf y) (q .1)) (B-s y x (o .groups .columns .columns x (in-16 (v .0)) .from y (q .0))))
-        (λ q. one-parent (child-s x (q .0) (q .1)) (child-s y (q .0) (to-child y (q .0) (q .2)))) (v .1))
-        (a .from x y u)
+    root-s x u = least (root x) (whole-from r (λ i. within (root i)) x u)
+
+    joins-s : (x y : ℕ) → x < n → Joins (k .above) (f .leaf) roots (t .child) (t .parent) x y → Settled n S (below x y)
+    unfolding has
+    joins-s x y h (by-leaf u v) = leaf-below (seed .sound (leaf y) v) (B-s y x (o .groups .columns .columns x (in-16 h) .from y u))
+    joins-s x y h (by-child z u v) = one-parent (child-s x z u) (child-s y z (to-child y z v))
+    joins-s x y h (by-root z u v w) = one-element (root-s z v) (child-s z x (to-child z x u)) (child-s z y w)
+
+    joined-s : (x y : ℕ) → In (j .below) x y → Settled n S (below x y)
+    joined-s x y u = ⊎-elim (B-s x y) (λ v. joins-s x y (v .0) (v .1)) (a .from x y u)
 
     keeps : (φ : Fact) → P φ → Yes (has g φ)
     unfolding has
@@ -294,7 +299,7 @@ module _ {n : ℕ} {f : Facts} {k : Groups} (o : Start n f k) (S : List Fact) (s
         chain = B-chain;
         over-child = λ x y u. o .groups .chained .parent x y (within (child x y) u .0) u;
         under-root = λ x y u. o .groups .chained .rooted x y (within (root x) u) u;
-        under-leaf = λ x y u v. let i = B-in x y v in out y x (a .to y x (i .1) (inl (o .groups .columns .columns y (in-16 (i .1)) .to x (in-16 (i .0)) v, u)));
+        under-leaf = λ x y u v. let i = B-in x y v in out y x (a .to y x (i .1) (by-leaf (o .groups .columns .columns y (in-16 (i .1)) .to x (in-16 (i .0)) v) u));
         child-differ = seed .child-differ;
         differ-back = seed .turned;
       }
@@ -310,7 +315,8 @@ module _ {n : ℕ} {f : Facts} {k : Groups} (o : Start n f k) (S : List Fact) (s
       unfolding has
       closed = record {
         sharing = sharing-same n (groups.Shared (In B) R P) (λ φ. Yes (has g φ)) to (from (groups.Shared (In B) R P) (λ φ s. s) out) (shared-sharing n P (In B) order R);
-        one-parent = λ x y z u v. a .to x y (twin-in (child-spread .from x z u .left-twin)) (inr (z, u, to-parent y z v));
+        one-parent = λ x y z u v. a .to x y (twin-in (child-spread .from x z u .left-twin)) (by-child z u (to-parent y z v));
+        one-element = λ x y z q u v. a .to y z (twin-in (child-spread .from x y u .right-twin)) (by-root x (to-parent x y u) q v);
         apart = no-differ;
         ancestors = λ x y hx hy. transposed-columns (o .groups .columns) x y hx hy ∙ ap (λ (i : ℕ). bit i y) (sym (a .still still x));
       }
@@ -318,7 +324,7 @@ module _ {n : ℕ} {f : Facts} {k : Groups} (o : Start n f k) (S : List Fact) (s
 -- ---- how a pass ends
 
 module _ {n : ℕ} {f : Facts} {k : Groups} (o : Start n f k) {s : Shared} (w : SharedOf n (shares f) (k .same) (k .several) s) where
-  pub ended-well : {j : Joined} {roots leaves : ℕ} → s .clash ≡ false → JoinedOf n (k .below) (k .above) (f .leaf) (s .shares .child) (s .shares .parent) j
+  pub ended-well : {j : Joined} {roots leaves : ℕ} → s .clash ≡ false → JoinedOf n (k .below) (k .above) (f .leaf) roots (s .shares .child) (s .shares .parent) j
       → WholeGroups (k .same) (f .root) roots → WholeGroups (k .same) (f .leaf) leaves → SteppedOf (PassRules n) n f (record {
         clash = false;
         more = j .more;

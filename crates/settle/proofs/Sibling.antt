@@ -204,6 +204,7 @@ module _ {n : ℕ} {f : Facts} {r : Order} (o : Rowed n f r) (S : List Fact) (se
           same-label = p .sharing .same-label;
         };
         one-parent = p .one-parent;
+        one-element = p .one-element;
         apart = λ x u. ⊎-elim (p .apart x) (⊎-elim (no-before x) (λ v. no-before x (turned .fro x x v))) (d .from x x u);
         ancestors = p .ancestors;
       }

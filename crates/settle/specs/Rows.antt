@@ -71,13 +71,15 @@ pub record WholeGroups (same : List ℕ) (t r : ℕ) : Type 0 where
   pub from : (x : ℕ) → Yes (bit r x) → Yes (bit t x) ⊎ ((x < 16) × (j : ℕ) × Yes (bit (row same x) j) × Yes (bit t j))
   pub to : (x j : ℕ) → x < 16 → Yes (bit (row same x) j) → Yes (bit t j) → Yes (bit r x)
 
--- x has become the same as a leaf above it, or as another parent of a child
-abbrev pub Joins : List ℕ → ℕ → List ℕ → List ℕ → ℕ → ℕ → Type 0
-Joins above leaf children parents x y = (Yes (bit (row above x) y) × Yes (bit leaf y)) ⊎ ((z : ℕ) × Yes (bit (row children x) z) × Yes (bit (row parents z) y))
+-- x has become the same as a leaf above it, as another parent of a child, or as another child of a root
+pub data Joins (above : List ℕ) (leaf roots : ℕ) (children parents : List ℕ) (x y : ℕ) : Type 0 where
+  by-leaf : Yes (bit (row above x) y) → Yes (bit leaf y) → Joins above leaf roots children parents x y
+  by-child : (z : ℕ) → Yes (bit (row children x) z) → Yes (bit (row parents z) y) → Joins above leaf roots children parents x y
+  by-root : (z : ℕ) → Yes (bit (row parents x) z) → Yes (bit roots z) → Yes (bit (row children z) y) → Joins above leaf roots children parents x y
 
-pub record JoinedOf (n : ℕ) (t above : List ℕ) (leaf : ℕ) (children parents : List ℕ) (r : Joined) : Type 0 where
+pub record JoinedOf (n : ℕ) (t above : List ℕ) (leaf roots : ℕ) (children parents : List ℕ) (r : Joined) : Type 0 where
   pub up : (x : ℕ) → Up (row t x) (row (r .below) x)
-  pub from : (x y : ℕ) → Yes (bit (row (r .below) x) y) → Yes (bit (row t x) y) ⊎ ((x < n) × Joins above leaf children parents x y)
-  pub to : (x y : ℕ) → x < n → Joins above leaf children parents x y → Yes (bit (row (r .below) x) y)
+  pub from : (x y : ℕ) → Yes (bit (row (r .below) x) y) → Yes (bit (row t x) y) ⊎ ((x < n) × Joins above leaf roots children parents x y)
+  pub to : (x y : ℕ) → x < n → Joins above leaf roots children parents x y → Yes (bit (row (r .below) x) y)
   pub still : r .more ≡ false → (x : ℕ) → row (r .below) x ≡ row t x
   pub moved : r .more ≡ true → (x : ℕ) × (x < n) × (row t x < row (r .below) x)

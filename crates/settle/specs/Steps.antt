@@ -4,12 +4,13 @@ use mathlib.Core.Bool.{true, false}
 use mathlib.Core.List.{List}
 use Prim.Native.Nat.{ℕ, _+_, _≤_}
 use Rattle.meaning.specs.Tree.{Var}
-use Rattle.meaning.specs.Constraint.{Fact, child, below, differ}
+use Rattle.meaning.specs.Constraint.{Fact, child, below, differ, root}
 use Rattle.meaning.specs.Settled.{Clash}
 use Rattle.meaning.specs.Closed.{Sharing}
 use Rattle.meaning.specs.Finite.{Yes, sum, pick}
 use Rattle.tables.specs.Tables.{row, has, Columns, Seeded}
 use Rattle.tables.specs.declared.Facts.{Facts}
+use Rattle.tables.specs.Free.{Bare}
 use Rattle.settle.specs.declared.Stepped.{Stepped}
 
 -- the rows that steps add to, summed as numbers
@@ -24,9 +25,15 @@ pub record SteppedOf (G : Facts → Type 0) (n : ℕ) (f : Facts) (r : Stepped) 
   pub closed : r .clash ≡ false → r .more ≡ false → (S : List Fact) → Seeded n S f → G (r .facts)
   pub grown : r .clash ≡ false → weight f + pick (r .more) 1 0 ≤ weight (r .facts)
 
--- the group of a pass: the rules of sharing and that of one parent; nothing differs from itself, and `above` is right
+-- the group of a pass: the rules of sharing and those of one parent and one element; nothing differs from itself, and `above` is right
 pub record PassRules (n : ℕ) (f : Facts) : Type 0 where
   pub sharing : Sharing n (λ φ. Yes (has f φ))
   pub one-parent : (x y z : Var) → Yes (has f (child x z)) → Yes (has f (child y z)) → Yes (has f (below x y))
+  pub one-element : (x y z : Var) → Yes (has f (root x)) → Yes (has f (child x y)) → Yes (has f (child x z)) → Yes (has f (below y z))
   pub apart : (x : Var) → ¬ Yes (has f (differ x x))
   pub ancestors : Columns (f .below) (f .above)
+
+-- and where neither leaf nor label is on the document node
+pub record BareRules (n : ℕ) (f : Facts) : Type 0 where
+  pub passed : PassRules n f
+  pub bare : Bare (λ φ. Yes (has f φ))

@@ -9,7 +9,7 @@ ghost use lib.Dec.{eqb};
 ghost use Rattle.settle.specs.Rows.{firstRow, Clashing, Grouped, ChainOf, Chained, GroupsOf, WholeGroups, JoinedOf};
 ghost use Rattle.settle.specs.Shares.{WithRows, WithGroup, SharedOf};
 ghost use Rattle.settle.specs.Siblings.{Reached, Unlike, Ordered, PassedOn, Parted, OrderOf};
-ghost use Rattle.settle.specs.Steps.{SteppedOf, PassRules};
+ghost use Rattle.settle.specs.Steps.{SteppedOf, PassRules, BareRules};
 ghost use Rattle.settle.specs.Settling.{SettledOf};
 use tables::Facts;
 use tables::Settled;
@@ -210,17 +210,18 @@ struct Joined {
     below: [u16; 16],
 }
 
-// The rows of below with what becomes the same: a leaf and all below it, and the parents of a child.
+// The rows of below with what becomes the same: a leaf and all below it, the parents of a child, and the children of a root.
 fn join_rows(
     below: [u16; 16],
     above: [u16; 16],
     leaf: u16,
+    root: u16,
     child: [u16; 16],
     parent: [u16; 16],
     n: usize,
 ) -> Joined
     requires { ⌜ n ≤ 16 ⌝ }
-    ensures { λ r. ⌜ JoinedOf n below above leaf child parent r ⌝ }
+    ensures { λ r. ⌜ JoinedOf n below above leaf root child parent r ⌝ }
 {
     let mut a = below;
     let mut more = false;
@@ -228,7 +229,9 @@ fn join_rows(
         let old = a[x];
         let up = above[x];
         let c = child[x];
-        let new = old | (up & leaf) | tables::union_rows(parent, c);
+        let p = parent[x];
+        let others = tables::union_rows(parent, c) | tables::union_rows(child, p & root);
+        let new = old | (up & leaf) | others;
         more = more | (old != new);
         a[x] = new;
     }
@@ -242,7 +245,7 @@ struct Stepped {
     facts: Facts,
 }
 
-// One pass, the step for the rules of sharing and of one parent, which leaves before as it is. The rows of below are chained first, so that the
+// One pass, the step for the rules of sharing, of one parent and of one element, which leaves before as it is. The rows of below are chained first, so that the
 // groups are known. Where nothing else becomes the same those rules hold.
 fn pass(f: Facts, n: usize) -> Stepped
     requires { ⌜ n ≤ 16 ⌝ }
@@ -279,7 +282,7 @@ fn pass(f: Facts, n: usize) -> Stepped
     let parent = shared.shares.parent;
     let differ = shared.shares.differ;
     let label = shared.shares.label;
-    let joined = join_rows(chained, above, f.leaf, child, parent, n);
+    let joined = join_rows(chained, above, f.leaf, root, child, parent, n);
     let below = joined.below;
     Stepped {
         clash: false,
@@ -297,6 +300,19 @@ fn pass(f: Facts, n: usize) -> Stepped
             leaf,
         },
     }
+}
+
+// A pass, with a clash also where the document node has a leaf or a label.
+fn pass_bare(f: Facts, n: usize) -> Stepped
+    requires { ⌜ n ≤ 16 ⌝ }
+    ensures { λ r. ⌜ SteppedOf (BareRules n) n f r ⌝ }
+{
+    let mut p = pass(f, n);
+    let root = p.facts.root;
+    let label = p.facts.label;
+    let l = tables::label_of(label, root);
+    p.clash = p.clash | tables::on_document(root, p.facts.leaf, root, l);
+    p
 }
 
 // Each row of t with what the rows of b hold that the same row of a names.
@@ -387,7 +403,7 @@ pub fn settle(f: Facts, n: usize) -> Settled
 {
     let mut g = f;
     loop {
-        let p = pass(g, n);
+        let p = pass_bare(g, n);
         if p.clash {
             return Settled {
                 clash: true,

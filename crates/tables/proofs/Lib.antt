@@ -2,8 +2,8 @@ pub mod Bits
 pub mod Helpers
 pub mod Tested
 pub mod Loops
-pub mod Labels
 pub mod Members
+pub mod Labels
 pub mod Rises
 pub mod Groups
 pub mod Wider

@@ -1,7 +1,7 @@
 -- What the helpers on rows compute.
 use mathlib.Core.Bool.{Bool, true, false}
 use mathlib.Core.Path.{_≡_}
-use mathlib.Core.Logic.{_⊎_}
+use mathlib.Core.Logic.{_≢_, _⊎_}
 use mathlib.Core.List.{List}
 use Prim.Native.Nat.{ℕ, _^_, _<_, _≤_}
 use lib.Dec.{eqb}
@@ -76,6 +76,11 @@ pub record Union (t : List ℕ) (rows r : ℕ) : Type 0 where
   pub small : r < 65536
   pub from : (j : ℕ) → Yes (bit r j) → (i : ℕ) × Yes (bit rows i) × Yes (bit (row t i) j)
   pub to : (i j : ℕ) → Yes (bit rows i) → Yes (bit (row t i) j) → Yes (bit r j)
+
+-- a label of the rows named, or 0 where none has one
+pub record LabelOf (t : List ℕ) (rows l : ℕ) : Type 0 where
+  pub none : l ≡ 0 → (i : ℕ) → Yes (bit rows i) → row t i ≡ 0
+  pub some : l ≢ 0 → (i : ℕ) × Yes (bit rows i) × (row t i ≡ l)
 
 -- whether a row of t has a number in common with the same row of one of two other tables
 pub record Crossed (t below above : List ℕ) (r : Bool) : Type 0 where

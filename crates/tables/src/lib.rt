@@ -4,7 +4,7 @@ ghost use mathlib.Core.Path.{_≡_};
 ghost use mathlib.Core.Logic.{_≢_};
 ghost use Prim.Native.Nat.{_<_, _≤_, _^_, _-_};
 ghost use Rattle.meaning.specs.Finite.{pick};
-ghost use Rattle.tables.specs.Rows.{gained, meets, gainedOne, without, onDocument, Gathers, Transposed, Raised, United, Common, Lowest, Rest, Union, Crossed, Blank};
+ghost use Rattle.tables.specs.Rows.{gained, meets, gainedOne, without, onDocument, Gathers, Transposed, Raised, United, Common, Lowest, Rest, Union, LabelOf, Crossed, Blank};
 ghost use Rattle.tables.specs.Tables.{row};
 
 // `parent`, `above` and `after` are the columns of `child`, `below` and `before`, kept as rows: bit x of row y. A label of 0 is no label fact.
@@ -106,6 +106,22 @@ pub fn union_rows(t: [u16; 16], rows: u16) -> u16
         left = rest(left);
     }
     a
+}
+
+// A label of the variables named, or 0 where none has one.
+pub fn label_of(t: [u8; 16], rows: u16) -> u8
+    ensures { λ r. ⌜ LabelOf t rows r ⌝ }
+{
+    let mut left = rows;
+    while left != 0 {
+        let x = lowest(left);
+        let v = t[x];
+        if v != 0 {
+            return v;
+        }
+        left = rest(left);
+    }
+    0
 }
 
 // The numbers of the rows that meet c.

@@ -7,10 +7,10 @@ use Rattle.settle.proofs.join_rows.Statement.{statement}
 use Rattle.settle.proofs.join_rows.Tie as tie
 
 abbrev Inv-loop : tie.InvT-loop
-Inv-loop leaf parent n above child a₀ more₀ x₀ a more x = (x ≤ n) × Joining a₀ above leaf child parent x a more
+Inv-loop leaf root child parent n above a₀ more₀ x₀ a more x = (x ≤ n) × Joining a₀ above leaf root child parent x a more
 
 abbrev μ-loop : tie.MeasureT-loop
-μ-loop leaf parent n above child a₀ more₀ x₀ a more x = n - x
+μ-loop leaf root child parent n above a₀ more₀ x₀ a more x = n - x
 
 loop-holds : tie.Need-loop-holds Inv-loop μ-loop
 loop-holds c = (search needs, joining-none _ _ _ _ _ (search needs))
