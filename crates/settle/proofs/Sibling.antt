@@ -19,7 +19,7 @@ use Rattle.meaning.proofs.Least.{settled-within}
 use Rattle.rowbits.specs.Bit.{bit}
 use Rattle.tables.specs.Tables.{row, has, Columns, Sound, Seeded}
 use Rattle.tables.specs.Rows.{Blank, Transposed}
-use Rattle.tables.specs.Free.{Clear}
+use Rattle.tables.specs.Free.{Clear, Bare}
 use Rattle.tables.specs.declared.Facts.{Facts}
 use Rattle.tables.proofs.Bits.{in-both, both-in, none-in}
 use Rattle.tables.proofs.Loops.{transposed-columns}
@@ -153,6 +153,11 @@ module _ {n : ℕ} {f : Facts} {r : Order} (o : Rowed n f r) (S : List Fact) (se
       parents = seed .parents;
       siblings = transposed-columns (o .order .columns);
     }
+
+    -- roots, leaves and labels are as they were
+    pub ordered-bare : Bare (λ φ. Yes (has f φ)) → Bare (λ φ. Yes (has g φ))
+    unfolding has
+    ordered-bare b = record { no-leaf = b .no-leaf; no-label = b .no-label }
 
     module _ (e : r .clash ≡ false) (p : PassRules n f) where
       clear : Clear (λ φ. Yes (has g φ))

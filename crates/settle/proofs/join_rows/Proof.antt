@@ -7,13 +7,13 @@ use Rattle.settle.proofs.join_rows.Statement.{statement}
 use Rattle.settle.proofs.join_rows.Tie as tie
 
 abbrev Inv-loop : tie.InvT-loop
-Inv-loop leaf root child parent n above a₀ more₀ x₀ a more x = (x ≤ n) × Joining a₀ above leaf root child parent x a more
+Inv-loop leaf root n above child parent a₀ more₀ x₀ a more x = (x ≤ n) × Joining a₀ above leaf root child parent x a more
 
 abbrev μ-loop : tie.MeasureT-loop
-μ-loop leaf root child parent n above a₀ more₀ x₀ a more x = n - x
+μ-loop leaf root n above child parent a₀ more₀ x₀ a more x = n - x
 
 loop-holds : tie.Need-loop-holds Inv-loop μ-loop
-loop-holds c = (search needs, joining-none _ _ _ _ _ (search needs))
+loop-holds c = (search needs, joining-none _ _ _ _ _ _ (search needs))
 
 mul-old : tie.Need-mul-old Inv-loop μ-loop
 mul-old c = search needs
@@ -33,8 +33,17 @@ mul-c c = search needs
 array-read-c : tie.Need-array-read-c Inv-loop μ-loop
 array-read-c c = search needs
 
+mul-p : tie.Need-mul-p Inv-loop μ-loop
+mul-p c = search needs
+
+array-read-p : tie.Need-array-read-p Inv-loop μ-loop
+array-read-p c = search needs
+
 union-rows-requires : tie.Need-union-rows-requires Inv-loop μ-loop
 union-rows-requires c κs = search needs
+
+union-rows-requires-2 : tie.Need-union-rows-requires-2 Inv-loop μ-loop
+union-rows-requires-2 c κs = search needs
 
 mul-a : tie.Need-mul-a Inv-loop μ-loop
 mul-a c = search needs
@@ -49,10 +58,13 @@ loop-less : tie.Need-loop-less Inv-loop μ-loop
 loop-less c = search needs
 
 loop-again : tie.Need-loop-again Inv-loop μ-loop
-loop-again c = (add-one-le (c .before .loop-test .taken), joining-more _ _ _ _ _ _ _ _ _ (search needs) (c .before .before .loop .inv .1) (c .union-rows .ensures))
+loop-again c =
+    let u = c .before in
+    let t = u .before in
+    (add-one-le (t .loop-test .taken), joining-more _ _ _ _ _ _ _ _ _ _ _ (search needs) (t .before .loop .inv .1) (u .union-rows .ensures) (c .union-rows2 .ensures))
 
 returns : tie.Need-returns Inv-loop μ-loop
-returns c = let i = c .before .loop .inv in joining-all _ _ _ _ _ (i .0) (c .loop-test .left) (i .1)
+returns c = let i = c .before .loop .inv in joining-all _ _ _ _ _ _ (i .0) (c .loop-test .left) (i .1)
 
 pub join-rows-spec : {M : Type 1} → statement M
 join-rows-spec =
@@ -67,7 +79,10 @@ join-rows-spec =
     array-read-up
     mul-c
     array-read-c
+    mul-p
+    array-read-p
     union-rows-requires
+    union-rows-requires-2
     mul-a
     array-write-a
     add-x

@@ -11,8 +11,8 @@ use borrow.Author.Needs.{needs}
 use borrow.Author.Tests.{not-true, not-false}
 use Rattle.meaning.specs.Constraint.{Fact}
 use Rattle.tables.specs.Tables.{row, Seeded}
-use Rattle.settle.specs.Steps.{weight, PassRules}
-use Rattle.settle.proofs.Sibling.{Rowed, ordering, passing, ordered-clash, ordered-seeded, ordered-passed, ordered-closed, both-seeded, both-grew, no-siblings}
+use Rattle.settle.specs.Steps.{weight, BareRules}
+use Rattle.settle.proofs.Sibling.{Rowed, ordering, passing, ordered-clash, ordered-seeded, ordered-passed, ordered-bare, ordered-closed, both-seeded, both-grew, no-siblings}
 use Rattle.settle.proofs.Ending.{ready, grew, no-less, weight-most}
 use Rattle.settle.proofs.settle.Statement.{statement}
 use Rattle.settle.proofs.settle.Tie as tie
@@ -25,49 +25,49 @@ abbrev μ-loop : tie.MeasureT-loop
 
 -- after a pass without a clash
 module _ (c : tie.Else1 Inv-loop μ-loop) where
-  abbrev p : tie.After-pass Inv-loop μ-loop
+  abbrev p : tie.After-pass-bare Inv-loop μ-loop
   p = c .before
 
   abbrev start : tie.Start Inv-loop μ-loop
   start = p .before .before
 
-  pub seeds : (S : List Fact) → Seeded (start .args .n) S (start .args .f) → Seeded (start .args .n) S (p .pass .result .facts)
-  seeds S s = p .pass .ensures .seeded (c .if1 .left) S (p .before .loop .inv S s)
+  pub seeds : (S : List Fact) → Seeded (start .args .n) S (start .args .f) → Seeded (start .args .n) S (p .pass-bare .result .facts)
+  seeds S s = p .pass-bare .ensures .seeded (c .if1 .left) S (p .before .loop .inv S s)
 
 -- and with no more
 abbrev passed : tie.After-blank Inv-loop μ-loop → tie.Else2 Inv-loop μ-loop
 passed c = c .before .before
 
-closes : (c : tie.Else2 Inv-loop μ-loop) (S : List Fact) → let e = c .before .before in Seeded (start e .args .n) S (start e .args .f) → PassRules (start e .args .n) (p e .pass .result .facts)
-closes c S s = let e = c .before .before in p e .pass .ensures .closed (e .if1 .left) (c .if2 .left) S (p e .before .loop .inv S s)
+closes : (c : tie.Else2 Inv-loop μ-loop) (S : List Fact) → let e = c .before .before in Seeded (start e .args .n) S (start e .args .f) → BareRules (start e .args .n) (p e .pass-bare .result .facts)
+closes c S s = let e = c .before .before in p e .pass-bare .ensures .closed (e .if1 .left) (c .if2 .left) S (p e .before .loop .inv S s)
 
 loop-holds : tie.Need-loop-holds Inv-loop μ-loop
 loop-holds c S s = s
 
-pass-requires : tie.Need-pass-requires Inv-loop μ-loop
-pass-requires c κs = search needs
+pass-bare-requires : tie.Need-pass-bare-requires Inv-loop μ-loop
+pass-bare-requires c κs = search needs
 
 returns : tie.Need-returns Inv-loop μ-loop
 returns c = record {
-  clashes = λ e S s. c .before .pass .ensures .clashes (c .if1 .taken) S (c .before .before .loop .inv S s);
+  clashes = λ e S s. c .before .pass-bare .ensures .clashes (c .if1 .taken) S (c .before .before .loop .inv S s);
   kept = λ e. refl;
   settles = λ e. absurd (false≢true (sym e));
 }
 
-below-small : (c : tie.After-pass Inv-loop μ-loop) (i : ℕ) → row (c .pass .result .facts .below) i < 65536
-below-small c i = let h : Fits w16 (getD (c .pass .result .facts .below) i 0) = search needs in h .fits
+below-small : (c : tie.After-pass-bare Inv-loop μ-loop) (i : ℕ) → row (c .pass-bare .result .facts .below) i < 65536
+below-small c i = let h : Fits w16 (getD (c .pass-bare .result .facts .below) i 0) = search needs in h .fits
 
-child-small : (c : tie.After-pass Inv-loop μ-loop) (i : ℕ) → row (c .pass .result .facts .child) i < 65536
-child-small c i = let h : Fits w16 (getD (c .pass .result .facts .child) i 0) = search needs in h .fits
+child-small : (c : tie.After-pass-bare Inv-loop μ-loop) (i : ℕ) → row (c .pass-bare .result .facts .child) i < 65536
+child-small c i = let h : Fits w16 (getD (c .pass-bare .result .facts .child) i 0) = search needs in h .fits
 
-before-small : (c : tie.After-pass Inv-loop μ-loop) (i : ℕ) → row (c .pass .result .facts .before) i < 65536
-before-small c i = let h : Fits w16 (getD (c .pass .result .facts .before) i 0) = search needs in h .fits
+before-small : (c : tie.After-pass-bare Inv-loop μ-loop) (i : ℕ) → row (c .pass-bare .result .facts .before) i < 65536
+before-small c i = let h : Fits w16 (getD (c .pass-bare .result .facts .before) i 0) = search needs in h .fits
 
 loop-less : tie.Need-loop-less Inv-loop μ-loop
 loop-less c =
     let e = c .before .before in
-    let a = grew (p e .pass .ensures) (e .if1 .left) (c .if2 .taken) in
-    let b = weight-most (p e .pass .result .facts) (below-small (p e)) (child-small (p e)) (before-small (p e)) in
+    let a = grew (p e .pass-bare .ensures) (e .if1 .left) (c .if2 .taken) in
+    let b = weight-most (p e .pass-bare .result .facts) (below-small (p e)) (child-small (p e)) (before-small (p e)) in
     omega (arith, a, b)
 
 loop-again : tie.Need-loop-again Inv-loop μ-loop
@@ -85,7 +85,7 @@ returns-2 c =
       kept = λ d. absurd (false≢true d);
       settles = λ d S s.
           let g = seeds e S s in
-          ready _ S _ g (closes m S s) (no-siblings (start e .pre .0) g (c .before .blank .ensures) (c .if3 .taken));
+          ready _ S _ g (closes m S s .passed) (closes m S s .bare) (no-siblings (start e .pre .0) g (c .before .blank .ensures) (c .if3 .taken));
     }
 
 -- where before was shared and chained
@@ -95,11 +95,11 @@ ends c = passed (c .before .before .before .before)
 find-order-requires : tie.Need-find-order-requires Inv-loop μ-loop
 find-order-requires c κs = search needs
 
-rowed : (c : tie.After-find-order Inv-loop μ-loop) → let e = ends c .before .before in Rowed (start e .args .n) (p e .pass .result .facts) (c .find-order .result)
+rowed : (c : tie.After-find-order Inv-loop μ-loop) → let e = ends c .before .before in Rowed (start e .args .n) (p e .pass-bare .result .facts) (c .find-order .result)
 rowed c =
     let m = ends c in
     let s = start (m .before .before) .pre in
-    record { few = s .0; columns = closes m (s .1 .0) (s .1 .1) .ancestors; order = c .find-order .ensures; after-long = search needs }
+    record { few = s .0; columns = closes m (s .1 .0) (s .1 .1) .passed .ancestors; order = c .find-order .ensures; after-long = search needs }
 
 returns-3 : tie.Need-returns-3 Inv-loop μ-loop
 returns-3 c = record {
@@ -136,8 +136,8 @@ returns-4 c =
       kept = λ d. absurd (false≢true d);
       settles = λ z S s.
           let g = seeds (m .before .before) S s in
-          let a = closes m S s in
-          ready _ S _ (ordered-seeded o S g d) (ordered-passed o S g d (h .if4 .left) a)
+          let a = closes m S s .passed in
+          ready _ S _ (ordered-seeded o S g d) (ordered-passed o S g d (h .if4 .left) a) (ordered-bare o S g d (closes m S s .bare))
           (ordered-closed o S g d (h .if4 .left) a (u .before .child-rows .ensures) (u .unlike .ensures) (not-true _ (c .if5 .taken)));
     }
 
@@ -162,9 +162,9 @@ loop-less-2 c =
     let h = free u .before in
     let e = ends h .before .before in
     let t = differing u in
-    let l = no-less (p e .pass .ensures) (e .if1 .left) in
+    let l = no-less (p e .pass-bare .ensures) (e .if1 .left) in
     let a = both-grew (rowed h) (t .differ-rows .ensures) (u .before .child-rows .ensures) (c .before .transpose .result) (c .differ-rows2 .result) (u .unlike .ensures) (not-false _ (c .before .before .if5 .left)) in
-    let b = weight-most (passing (ordering (p e .pass .result .facts) (h .find-order .result) (t .differ-rows .result)) (u .before .child-rows .result) (c .before .transpose .result) (c .differ-rows2 .result))
+    let b = weight-most (passing (ordering (p e .pass-bare .result .facts) (h .find-order .result) (t .differ-rows .result)) (u .before .child-rows .result) (c .before .transpose .result) (c .differ-rows2 .result))
     (below-small (p e)) (child-small-2 (u .before)) (before-small-2 h) in
     omega (arith, l, a, b)
 
@@ -182,7 +182,7 @@ settle-spec =
     Inv-loop
     μ-loop
     loop-holds
-    pass-requires
+    pass-bare-requires
     returns
     loop-less
     loop-again
