@@ -1,5 +1,6 @@
--- The joins of the document node. All roots are the same, and all their children: what the lowest ones do not have none has.
-use mathlib.Core.Path.{_≡_, sym, subst}
+-- The joins of the document node: w is neither a root nor below the element y. Roots are the same, and so are their children, so what the lowest
+-- root and its lowest child leave to no w, none leaves to one.
+use mathlib.Core.Path.{_≡_, sym}
 use mathlib.Core.Logic.{⊎-elim}
 use mathlib.Core.List.{List}
 use mathlib.Core.Option.{some}
@@ -19,105 +20,107 @@ use Rattle.rowbits.specs.Bit.{bit}
 use Rattle.tables.specs.Tables.{row, has, Ready}
 use Rattle.tables.specs.Rows.{Lowest, without}
 use Rattle.tables.specs.declared.Facts.{Facts}
-use Rattle.tables.proofs.Bits.{or-l, or-r, or-case, all-is, all-has, without-in, without-out}
+use Rattle.tables.proofs.Bits.{or-l, or-r, or-case, without-in, without-out}
 use Rattle.joins.proofs.Find.{firstOf-is-some}
-use Rattle.joins.proofs.First.{NoneBefore, vars-in, vars-out}
+use Rattle.joins.proofs.First.{NoneBefore, var-in, var-out, vars-in, vars-out}
 
-module _ (n : ℕ) (S : List Fact) (f : Facts) (r : Ready n S f) where
+module _ (n : ℕ) (S : List Fact) (f : Facts) (g : Ready n S f) where
   out : (φ : Fact) → Yes (has f φ) → Settled n S φ
-  out φ y = r .decides .sound y
+  out φ u = g .decides .sound u
 
   into : (φ : Fact) → Settled n S φ → Yes (has f φ)
-  into φ s = r .decides .complete s
+  into φ s = g .decides .complete s
 
-  module _ (i k l : Var) (hi : i < n) (hl : l < n) where
+  module _ (r y w : Var) (hr : r < n) (hw : w < n) where
     record DocumentParts : Type 0 where
-      document : Yes (bit (f .root) i)
-      element : Yes (bit (row (f .child) i) k)
-      not-document : ¬ Yes (bit (f .root) l)
-      not-under : ¬ Yes (bit (row (f .below) k) l)
+      document : Yes (bit (f .root) r)
+      element : Yes (bit (row (f .child) r) y)
+      not-root : ¬ Yes (bit (f .root) w)
+      not-under : ¬ Yes (bit (row (f .below) y) w)
 
-    document-parts : Yes (isJoin (has f) document-join i k l) → DocumentParts
+    -- a root is the same as r, and what is the same as r is a root
+    document-parts : Yes (isJoin (has f) document-join r y w) → DocumentParts
     unfolding isJoin same has
     document-parts u =
         let v = and-right _ u in
         record {
           document = and-left _ u;
           element = and-left _ v;
-          not-document = λ t. clash (and-both (r .decides .complete (root-below (out (root l) t) hi)) (r .decides .complete (root-below (out (root i) (and-left _ u)) hl)))
+          not-root = λ t. clash (and-both (into (below w r) (root-below (out (root w) t) hr)) (into (below r w) (root-below (out (root r) (and-left _ u)) hw)))
               (and-left _ (and-right _ v));
           not-under = λ t. clash t (and-right _ (and-right _ v));
         }
 
-    parts-document : DocumentParts → Yes (isJoin (has f) document-join i k l)
+    parts-document : DocumentParts → Yes (isJoin (has f) document-join r y w)
     unfolding isJoin same has
     parts-document p =
         and-both (p .document) (and-both (p .element)
-        (and-both (no-neg (λ s. p .not-document (into (root l) (same-root (out (below i l) (and-right _ s)) (out (below l i) (and-left _ s)) (out (root i) (p .document))))))
+        (and-both (no-neg (λ s. p .not-root (into (root w) (same-root (out (below r w) (and-right _ s)) (out (below w r) (and-left _ s)) (out (root r) (p .document))))))
         (no-neg (p .not-under))))
 
   -- a child of one root is a child of every root
-  moved : (i k l : Var) → i < n → l < n → Yes (bit (f .root) i) → Yes (bit (f .root) l) → Yes (bit (row (f .child) i) k) → Yes (bit (row (f .child) l) k)
+  any-root : (i r y : Var) → i < n → r < n → Yes (bit (f .root) i) → Yes (bit (f .root) r) → Yes (bit (row (f .child) i) y) → Yes (bit (row (f .child) r) y)
   unfolding has
-  moved i k l hi hl a b c =
-      into (child l k) (same-parent (root-below (out (root i) a) hl) (root-below (out (root l) b) hi) (out (child i k) c))
+  any-root i r y hi hr a b c = into (child r y) (same-parent (root-below (out (root i) a) hr) (root-below (out (root r) b) hi) (out (child i y) c))
 
-  -- what is under one child of a root is under every other
-  under : (i k j l : Var) → Yes (bit (f .root) i) → Yes (bit (row (f .child) i) k) → Yes (bit (row (f .child) i) j) → Yes (bit (row (f .below) k) l) → Yes (bit (row (f .below) j) l)
+  -- what is below one child of a root is below every other
+  any-child : (r y k w : Var) → Yes (bit (f .root) r) → Yes (bit (row (f .child) r) y) → Yes (bit (row (f .child) r) k) → Yes (bit (row (f .below) y) w) → Yes (bit (row (f .below) k) w)
   unfolding has
-  under i k j l a b c d =
-      into (below j l) (chain (one-element (out (root i) a) (out (child i j) c) (out (child i k) b)) (out (below k l) d))
+  any-child r y k w a b c d = into (below k w) (chain (one-element (out (root r) a) (out (child r k) c) (out (child r y) b)) (out (below y w) d))
+
+-- ---- from the lowest root, its lowest child and the lowest w that these leave
 
 module _ (n : ℕ) (small : n ≤ 16) (f : Facts) (vars : ℕ) (ev : vars ≡ 2 ^ n - 1) (r : ℕ) (lr : Lowest (bitAnd (f .root) vars) r) where
-  passed-root : (S : List Fact) (w : Ready n S f) (i k l : Var) → i < n → l < n → Yes (isJoin (has f) document-join i k l) → Yes (bit (bitAnd (f .root) vars) i)
-  passed-root S w i k l hi hl u = vars-in _ vars n i ev hi (document-parts n S f w i k l hi hl u .document)
+  passed-root : (S : List Fact) (g : Ready n S f) (i k l : Var) → i < n → l < n → Yes (isJoin (has f) document-join i k l) → Yes (bit (bitAnd (f .root) vars) i)
+  passed-root S g i k l hi hl u = vars-in _ vars n i ev hi (document-parts n S f g i k l hi hl u .document)
 
   pub none-without-root : 16 ≤ r → NoneBefore document-join n f n
-  none-without-root m S w i k l hi hk hl u = lr .none i (omega arith) (passed-root S w i k l hi hl u)
+  none-without-root m S g i k l hi hk hl u = lr .none i (omega arith) (passed-root S g i k l hi hl u)
 
-  module _ (m : r < 16) (y : ℕ) (ly : Lowest (bitAnd (row (f .child) r) vars) y) where
+  module _ (mr : r < 16) (y : ℕ) (ly : Lowest (bitAnd (row (f .child) r) vars) y) where
     r-in : Yes (bit (f .root) r) × (r < n)
-    r-in = vars-out _ vars n r ev (lr .this m)
+    r-in = vars-out _ vars n r ev (lr .this mr)
 
-    passed-child : (S : List Fact) (w : Ready n S f) (i k l : Var) → i < n → k < n → l < n → Yes (isJoin (has f) document-join i k l) → Yes (bit (bitAnd (row (f .child) r) vars) k)
-    passed-child S w i k l hi hk hl u =
-        let p = document-parts n S f w i k l hi hl u in
-        vars-in _ vars n k ev hk (moved n S f w i k r hi (r-in .1) (p .document) (r-in .0) (p .element))
+    -- the child of another root's join
+    moved : (S : List Fact) (g : Ready n S f) (i k l : Var) → i < n → l < n → Yes (isJoin (has f) document-join i k l) → Yes (bit (row (f .child) r) k)
+    moved S g i k l hi hl u = let p = document-parts n S f g i k l hi hl u in any-root n S f g i r k hi (r-in .1) (p .document) (r-in .0) (p .element)
+
+    passed-child : (S : List Fact) (g : Ready n S f) (i k l : Var) → i < n → k < n → l < n → Yes (isJoin (has f) document-join i k l) → Yes (bit (bitAnd (row (f .child) r) vars) k)
+    passed-child S g i k l hi hk hl u = vars-in _ vars n k ev hk (moved S g i k l hi hl u)
 
     pub none-without-child : 16 ≤ y → NoneBefore document-join n f n
-    none-without-child q S w i k l hi hk hl u = ly .none k (omega arith) (passed-child S w i k l hi hk hl u)
+    none-without-child m S g i k l hi hk hl u = ly .none k (omega arith) (passed-child S g i k l hi hk hl u)
 
-    module _ (q : y < 16) (x : ℕ) (lx : Lowest (without vars (bitOr (f .root) (row (f .below) y))) x) where
+    module _ (my : y < 16) (w : ℕ) (lw : Lowest (without vars (bitOr (f .root) (row (f .below) y))) w) where
       y-in : Yes (bit (row (f .child) r) y) × (y < n)
-      y-in = vars-out _ vars n y ev (ly .this q)
+      y-in = vars-out _ vars n y ev (ly .this my)
 
-      passed-x : (S : List Fact) (w : Ready n S f) (i k l : Var) → i < n → k < n → l < n → Yes (isJoin (has f) document-join i k l)
+      passed-w : (S : List Fact) (g : Ready n S f) (i k l : Var) → i < n → l < n → Yes (isJoin (has f) document-join i k l)
           → Yes (bit (without vars (bitOr (f .root) (row (f .below) y))) l)
-      passed-x S w i k l hi hk hl u =
-          let p = document-parts n S f w i k l hi hl u in
-          without-in vars (bitOr (f .root) (row (f .below) y)) l (le-trans hl small) (subst (λ (j : ℕ). Yes (bit j l)) (sym ev) (all-has n l hl))
-          (λ t. ⊎-elim (p .not-document)
-          (λ b. p .not-under (under n S f w r y k l (r-in .0) (y-in .0) (moved n S f w i k r hi (r-in .1) (p .document) (r-in .0) (p .element)) b)) (or-case _ _ l t))
+      passed-w S g i k l hi hl u =
+          let p = document-parts n S f g i k l hi hl u in
+          without-in vars (bitOr (f .root) (row (f .below) y)) l (le-trans hl small) (var-in vars n l ev hl)
+          (λ t. ⊎-elim (p .not-root) (λ b. p .not-under (any-child n S f g r y k l (r-in .0) (y-in .0) (moved S g i k l hi hl u) b)) (or-case _ _ l t))
 
-      pub none-without-variable : 16 ≤ x → NoneBefore document-join n f n
-      none-without-variable e S w i k l hi hk hl u = lx .none l (omega arith) (passed-x S w i k l hi hk hl u)
+      pub none-left : 16 ≤ w → NoneBefore document-join n f n
+      none-left m S g i k l hi hk hl u = lw .none l (omega arith) (passed-w S g i k l hi hl u)
 
-      module _ (e : x < 16) where
-        x-out : Yes (bit vars x) × (¬ Yes (bit (bitOr (f .root) (row (f .below) y)) x))
-        x-out = without-out _ _ x e (lx .this e)
+      module _ (mw : w < 16) where
+        w-out : Yes (bit vars w) × (¬ Yes (bit (bitOr (f .root) (row (f .below) y)) w))
+        w-out = without-out _ _ w mw (lw .this mw)
 
-        x-n : x < n
-        x-n = all-is n x (subst (λ (j : ℕ). Yes (bit j x)) ev (x-out .0))
+        w-n : w < n
+        w-n = var-out vars n w ev (w-out .0)
 
-        pub document-first : (S : List Fact) → Ready n S f → some (join document-join r y x) ≡ firstOf n (isJoin (has f) document-join) (join document-join)
-        document-first S w =
-            sym (firstOf-is-some n (isJoin (has f) document-join) (join document-join) r y x (r-in .1) (y-in .1) x-n
-            (parts-document n S f w r y x (r-in .1) x-n record {
+        pub document-first : (S : List Fact) → Ready n S f → some (join document-join r y w) ≡ firstOf n (isJoin (has f) document-join) (join document-join)
+        document-first S g =
+            sym (firstOf-is-some n (isJoin (has f) document-join) (join document-join) r y w (r-in .1) (y-in .1) w-n
+            (parts-document n S f g r y w (r-in .1) w-n record {
               document = r-in .0;
               element = y-in .0;
-              not-document = λ t. x-out .1 (or-l (f .root) (row (f .below) y) x t);
-              not-under = λ t. x-out .1 (or-r (f .root) (row (f .below) y) x t);
+              not-root = λ t. w-out .1 (or-l (f .root) (row (f .below) y) w t);
+              not-under = λ t. w-out .1 (or-r (f .root) (row (f .below) y) w t);
             })
-            (λ i k l h hk hl u. lr .none i h (passed-root S w i k l (le-trans h (le-of-lt (r-in .1))) hl u))
-            (λ k l h hl u. ly .none k h (passed-child S w r k l (r-in .1) (le-trans h (le-of-lt (y-in .1))) hl u))
-            (λ l h u. lx .none l h (passed-x S w r y l (r-in .1) (y-in .1) (le-trans h (le-of-lt x-n)) u)))
+            (λ i k l h hk hl u. lr .none i h (passed-root S g i k l (le-trans h (le-of-lt (r-in .1))) hl u))
+            (λ k l h hl u. ly .none k h (passed-child S g r k l (r-in .1) (le-trans h (le-of-lt (y-in .1))) hl u))
+            (λ l h u. lw .none l h (passed-w S g r y l (r-in .1) (le-trans h (le-of-lt w-n)) u)))

@@ -3,14 +3,14 @@ use mathlib.Core.Path.{subst}
 use Prim.Native.Nat.{ℕ}
 use native.Mathlib.Nat.{le-refl}
 use borrow.Author.Needs.{needs}
-use lib.Bits.{bitOr}
+use lib.Bits.{bitAnd, bitOr}
 use Rattle.meaning.specs.FixedSearch.{document-join}
 use Rattle.tables.specs.Tables.{row}
 use Rattle.tables.specs.Rows.{Lowest, without}
 use Rattle.tables.specs.declared.Facts.{Facts}
 use Rattle.joins.specs.Found.{joinOf, withBelow, withRoot}
 use Rattle.joins.proofs.First.{none-first}
-use Rattle.joins.proofs.Document.{none-without-root, none-without-child, none-without-variable, document-first}
+use Rattle.joins.proofs.Document.{none-without-root, none-without-child, none-left, document-first}
 use Rattle.joins.proofs.document_join.Statement.{statement}
 use Rattle.joins.proofs.document_join.Tie as tie
 
@@ -50,6 +50,19 @@ cast-t29 c = search needs
 cast-t31 : tie.Need-cast-t31
 cast-t31 c = search needs
 
+-- ---- what each lowest is the lowest of
+
+root : (p : tie.After-lowest) → Lowest (bitAnd (p .before .before .args .root) (p .before .all .result)) (p .lowest .result)
+root p = p .lowest .ensures
+
+element : (y : tie.After-lowest2) → let p = y .before .before in
+    Lowest (bitAnd (row (p .before .before .args .t1) (p .lowest .result)) (p .before .all .result)) (y .lowest2 .result)
+element y = y .lowest2 .ensures
+
+left : (w : tie.After-lowest3) → let y = w .before .before .before in let a = y .before .before .before in
+    Lowest (without (a .all .result) (bitOr (a .before .args .root) (row (a .before .args .t2) (y .lowest2 .result)))) (w .lowest3 .result)
+left w = subst (λ (k : ℕ). Lowest k (w .lowest3 .result)) (w .before .except .ensures) (w .lowest3 .ensures)
+
 -- whatever else the tables hold
 abbrev tables : tie.Start → Facts → Facts
 tables s f = withRoot (s .args .t1) (s .args .root) (withBelow (s .args .t2) (f .above) f)
@@ -57,27 +70,25 @@ tables s f = withRoot (s .args .t1) (s .args .root) (withBelow (s .args .t2) (f 
 returns : tie.Need-returns
 unfolding joinOf
 returns c =
-    let x = c .before in
-    let t = x .before .before in
+    let w = c .before in
+    let t = w .before .before in
     let y = t .before in
     let p = y .before in
     let a = p .before .before in
     let s = a .before in
-    let x-is = subst (λ (k : ℕ). Lowest k (x .lowest3 .result)) (x .before .except .ensures) (x .lowest3 .ensures) in
-    λ f. document-first _ (s .pre) (tables s f) _ (a .all .ensures) _ (p .before .lowest .ensures) (p .if1 .taken) _ (y .lowest2 .ensures) (t .if2 .taken) _ x-is (c .if3 .taken)
+    λ f. document-first _ (s .pre) (tables s f) _ (a .all .ensures) _ (root (p .before)) (p .if1 .taken) _ (element y) (t .if2 .taken) _ (left w) (c .if3 .taken)
 
 returns-2 : tie.Need-returns-2
 returns-2 c =
-    let x = c .before in
-    let t = x .before .before in
+    let w = c .before in
+    let t = w .before .before in
     let y = t .before in
     let p = y .before in
     let a = p .before .before in
     let s = a .before in
-    let x-is = subst (λ (k : ℕ). Lowest k (x .lowest3 .result)) (x .before .except .ensures) (x .lowest3 .ensures) in
     λ f.
     none-first document-join _ (tables s f) _ (le-refl _)
-    (none-without-variable _ (s .pre) (tables s f) _ (a .all .ensures) _ (p .before .lowest .ensures) (p .if1 .taken) _ (y .lowest2 .ensures) (t .if2 .taken) _ x-is (c .if3 .left))
+    (none-left _ (s .pre) (tables s f) _ (a .all .ensures) _ (root (p .before)) (p .if1 .taken) _ (element y) (t .if2 .taken) _ (left w) (c .if3 .left))
 
 returns-3 : tie.Need-returns-3
 returns-3 c =
@@ -87,13 +98,13 @@ returns-3 c =
     let s = a .before in
     λ f.
     none-first document-join _ (tables s f) _ (le-refl _)
-    (none-without-child _ (s .pre) (tables s f) _ (a .all .ensures) _ (p .before .lowest .ensures) (p .if1 .taken) _ (y .lowest2 .ensures) (c .if2 .left))
+    (none-without-child _ (s .pre) (tables s f) _ (a .all .ensures) _ (root (p .before)) (p .if1 .taken) _ (element y) (c .if2 .left))
 
 returns-4 : tie.Need-returns-4
 returns-4 c =
     let a = c .before .before in
     let s = a .before in
-    λ f. none-first document-join _ (tables s f) _ (le-refl _) (none-without-root _ (s .pre) (tables s f) _ (a .all .ensures) _ (c .before .lowest .ensures) (c .if1 .left))
+    λ f. none-first document-join _ (tables s f) _ (le-refl _) (none-without-root _ (s .pre) (tables s f) _ (a .all .ensures) _ (root (c .before)) (c .if1 .left))
 
 pub document-join-spec : {M : Type 1} → statement M
 document-join-spec =
