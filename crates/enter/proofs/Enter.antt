@@ -15,6 +15,7 @@ use Rattle.theory.proofs.Closure.{rules-decide}
 use Rattle.rowbits.specs.Bit.{bit}
 use Rattle.tables.specs.Tables.{row, has, Columns, Ready}
 use Rattle.tables.specs.Rows.{Raised, Crossed, meets}
+use Rattle.tables.specs.Free.{Free}
 use Rattle.tables.specs.declared.Facts.{Facts}
 use Rattle.tables.proofs.Bits.{in-row}
 use Rattle.tables.proofs.Clashes.{free-clash, clash-free, crossed-clash, uncrossed-clear}
@@ -126,10 +127,13 @@ module _ (n : ℕ) (few : n ≤ 16) (S : List Fact) (f : Facts) (a b : ℕ) (ha 
       unfolding has
       raised-ready e = record {
         inside = inside';
-        free = free-clash n S' raised decides' (record { apart = clash-free n S f (r .decides) (r .free) .apart; clear = uncrossed-clear n few raised ancestors' within' c test e });
+        free = free-clash n S' raised decides' (record { apart = no-clash .apart; clear = uncrossed-clear n few raised ancestors' within' c test e; bare = record { no-leaf = no-clash .bare .no-leaf; no-label = no-clash .bare .no-label } });
         decides = decides';
         mirrored = record { parents = r .mirrored .parents; ancestors = ancestors'; siblings = r .mirrored .siblings };
       }
+        where
+          no-clash : Free P
+          no-clash = clash-free n S f (r .decides) (r .free)
 
 pub entered-clash : (n : ℕ) (f : Facts) (a b : ℕ) → ((S : List Fact) → Ready n S f → Clash n (below a b ∷ S)) → EnteredOf n f a b (record { clash = true; facts = f })
 entered-clash n f a b h = record { clashes = λ e. h; kept = λ e. refl; settles = λ e. absurd (false≢true (sym e)) }

@@ -40,12 +40,18 @@ pub none-first : (j : JoinKind) (n : ℕ) (f : Facts) (z : ℕ) → n ≤ z → 
 unfolding joinOf
 none-first j n f z l before S r = sym (firstOf-is-none n (isJoin (has f) j) (join j) (λ k x y hk. before S r k x y (le-trans hk l)))
 
--- the members of a row that are variables
+-- the variables, and the members of a row that are variables
+pub var-in : (vars n i : ℕ) → vars ≡ 2 ^ n - 1 → i < n → Yes (bit vars i)
+var-in vars n i e h = subst (λ (k : ℕ). Yes (bit k i)) (sym e) (all-has n i h)
+
+pub var-out : (vars n i : ℕ) → vars ≡ 2 ^ n - 1 → Yes (bit vars i) → i < n
+var-out vars n i e u = all-is n i (subst (λ (k : ℕ). Yes (bit k i)) e u)
+
 pub vars-in : (a vars n i : ℕ) → vars ≡ 2 ^ n - 1 → i < n → Yes (bit a i) → Yes (bit (bitAnd a vars) i)
-vars-in a vars n i e h u = both-in a vars i u (subst (λ (k : ℕ). Yes (bit k i)) (sym e) (all-has n i h))
+vars-in a vars n i e h u = both-in a vars i u (var-in vars n i e h)
 
 pub vars-out : (a vars n i : ℕ) → vars ≡ 2 ^ n - 1 → Yes (bit (bitAnd a vars) i) → Yes (bit a i) × (i < n)
-vars-out a vars n i e u = let q = in-both a vars i u in (q .0, all-is n i (subst (λ (k : ℕ). Yes (bit k i)) e (q .1)))
+vars-out a vars n i e u = let q = in-both a vars i u in (q .0, var-out vars n i e (q .1))
 
 module _ (n : ℕ) (small : n ≤ 16) (S : List Fact) (f : Facts) (r : Ready n S f) where
   abbrev h : FactSet

@@ -1,5 +1,6 @@
 mod Find
 mod First
 mod Siblings
+mod Document
 mod Stages
 mod Lacks

@@ -7,19 +7,20 @@ use lib.Bits.{bitOr, bitXor}
 use Rattle.meaning.specs.Constraint.{Fact}
 use Rattle.meaning.specs.Finite.{Yes}
 use Rattle.rowbits.specs.Bit.{bit}
-use Rattle.meaning.specs.FixedSearch.{JoinKind, parent-join, chain-join, sibling-join, Join, join}
+use Rattle.meaning.specs.FixedSearch.{JoinKind, parent-join, chain-join, sibling-join, document-join, Join, join}
 use Rattle.theory.specs.Search.{isJoin, firstOf, firstJoin}
 use Rattle.tables.specs.Tables.{row, has, Ready}
 use Rattle.tables.specs.declared.Facts.{Facts}
 use Rattle.joins.specs.declared.Found.{Found}
 use Rattle.joins.specs.declared.Found.the-variants.{Nothing, One}
 use Rattle.joins.specs.declared.JoinKind as coded
-use Rattle.joins.specs.declared.JoinKind.the-variants.{Parent, Chain, Sibling}
+use Rattle.joins.specs.declared.JoinKind.the-variants.{Parent, Chain, Sibling, Document}
 
 abbrev pub kindOf : coded.JoinKind → JoinKind
 kindOf Parent = parent-join
 kindOf Chain = chain-join
 kindOf Sibling = sibling-join
+kindOf Document = document-join
 
 unfoldable pub joinOf : Found → Option Join
 joinOf Nothing = none
@@ -53,6 +54,9 @@ withParent p f = record { child = f .child; parent = p; below = f .below; above 
 abbrev pub withBefore : List ℕ → List ℕ → Facts → Facts
 withBefore b a f = record { child = f .child; parent = f .parent; below = f .below; above = f .above; differ = f .differ; before = b; after = a; root = f .root; label = f .label; leaf = f .leaf }
 
+abbrev pub withRoot : List ℕ → ℕ → Facts → Facts
+withRoot c r f = record { child = c; parent = f .parent; below = f .below; above = f .above; differ = f .differ; before = f .before; after = f .after; root = r; label = f .label; leaf = f .leaf }
+
 abbrev pub ParentIn : ℕ → List ℕ → List ℕ → List ℕ → Found → Type 0
 ParentIn n parent below above r = (f : Facts) → StageOf parent-join n (withParent parent (withBelow below above f)) r
 
@@ -61,3 +65,6 @@ ChainIn n below above r = (f : Facts) → StageOf chain-join n (withBelow below 
 
 abbrev pub SiblingIn : ℕ → List ℕ → List ℕ → List ℕ → List ℕ → Found → Type 0
 SiblingIn n before after below above r = (f : Facts) → StageOf sibling-join n (withBefore before after (withBelow below above f)) r
+
+abbrev pub DocumentIn : ℕ → List ℕ → List ℕ → ℕ → Found → Type 0
+DocumentIn n child below root r = (f : Facts) → StageOf document-join n (withRoot child root (withBelow below (f .above) f)) r

@@ -1,10 +1,10 @@
-// The first join of a settled set, in the fixed order of kinds: parent joins, chain joins, joins of siblings. Within a kind the smallest
-// first variable, then the second, then the third.
+// The first join of a settled set, in the fixed order of kinds: parent joins, chain joins, joins of siblings, joins of the document node.
+// Within a kind the smallest first variable, then the second, then the third.
 ghost use mathlib.Core.List.{List};
 ghost use Prim.Native.Nat.{_≤_};
 ghost use Rattle.meaning.specs.Constraint.{Fact};
 ghost use Rattle.tables.specs.Tables.{Ready};
-ghost use Rattle.joins.specs.Found.{Incomparable, Missing, ParentIn, ChainIn, SiblingIn, FoundOf};
+ghost use Rattle.joins.specs.Found.{Incomparable, Missing, ParentIn, ChainIn, SiblingIn, DocumentIn, FoundOf};
 use ids::Var;
 use tables::Facts;
 
@@ -12,9 +12,10 @@ pub enum JoinKind {
     Parent,
     Chain,
     Sibling,
+    Document,
 }
 
-// A join by its kind and its variables, in the order in which they are compared: z, x, y; of siblings y, a, x.
+// A join by its kind and its variables, in the order in which they are compared: z, x, y; of siblings y, a, x; of the document node r, y, w.
 pub enum Found {
     Nothing,
     One(JoinKind, Var, Var, Var),
@@ -120,6 +121,28 @@ fn sibling_join(
     Found::Nothing
 }
 
+// The first join of the document node r: w is neither a root nor below the element y. Roots are the same, and so are their children, so the
+// lowest root and its lowest child decide which w are left. Most sets name no root.
+fn document_join(child: [u16; 16], below: [u16; 16], root: u16, n: usize) -> Found
+    requires { ⌜ n ≤ 16 ⌝ }
+    ensures { λ r. ⌜ DocumentIn n child below root r ⌝ }
+{
+    let vars = tables::all(n);
+    let r = tables::lowest(root & vars);
+    if r < 16 {
+        let c = child[r];
+        let y = tables::lowest(c & vars);
+        if y < 16 {
+            let b = below[y];
+            let w = tables::lowest(tables::except(vars, root | b));
+            if w < 16 {
+                return Found::One(JoinKind::Document, Var(r as u8), Var(y as u8), Var(w as u8));
+            }
+        }
+    }
+    Found::Nothing
+}
+
 // The kinds in turn: one is asked where those before it have no join. The rows that decide go on alone: a compiler that takes the body of
 // a callee into its caller copies what the callee was passed.
 pub fn first_join(f: Facts, n: usize) -> Found
@@ -140,5 +163,10 @@ pub fn first_join(f: Facts, n: usize) -> Found
     };
     let before = f.before;
     let after = f.after;
-    sibling_join(before, after, below, above, n)
+    let third = sibling_join(before, after, below, above, n);
+    let Found::Nothing = third else {
+        return third;
+    };
+    let child = f.child;
+    document_join(child, below, f.root, n)
 }

@@ -9,7 +9,7 @@ use native.Mathlib.Nat.{le-trans}
 use lib.Bits.{bitOr}
 use Rattle.meaning.specs.Tree.{Var}
 use Rattle.meaning.specs.Constraint.{Fact, below, leaf}
-use Rattle.meaning.specs.Settled.{Settled, given, chain, leaf-below, self-below, one-parent, Clash}
+use Rattle.meaning.specs.Settled.{Settled, given, chain, leaf-below, self-below, one-parent, one-element, Clash}
 use Rattle.meaning.specs.Finite.{Yes}
 use Rattle.meaning.specs.ReadOff.{Decides}
 use Rattle.meaning.proofs.Least.{settled-mono, settled-rules}
@@ -23,7 +23,7 @@ use Rattle.tables.proofs.Clashes.{free-clash, clash-free}
 use Rattle.tables.specs.Free.{Free}
 use Rattle.tables.proofs.Groups.{sharing-same, siblings-same}
 use Rattle.merge.specs.Rows.{In, WithGap}
-use Rattle.merge.specs.Merging.{Awaits, held, waits, Held, Pending, MergedOf}
+use Rattle.merge.specs.Merging.{Awaits, held, waits, Held, Pending, Top, MergedOf}
 use Rattle.tables.proofs.Bits.{or-l, or-r, one-has, meets-out, in-row}
 use Rattle.merge.proofs.Loops.{two-case}
 use Rattle.merge.proofs.Rounds.{none-left, narrow}
@@ -66,6 +66,7 @@ module _ (n : ℕ) (S : List Fact) (a b : Var) where
         sound = λ φ u. more (r .decides .sound u);
         sharing = sharing-same n (Settled n S) (Held f) (λ φ h. r .decides .complete h) (λ φ u. r .decides .sound u) (settled-rules n S .sharing);
         apart = no-clash .apart;
+        bare = no-clash .bare;
         mirrored = r .mirrored;
       };
       siblings = siblings-same n (Settled n S) (Held f) (λ φ h. r .decides .complete h) (λ φ u. r .decides .sound u) (settled-rules n S .siblings);
@@ -78,18 +79,21 @@ module _ (n : ℕ) (S : List Fact) (a b : Var) where
         no-clash : Free (Held f)
         no-clash = clash-free n S f (r .decides) (r .free)
 
+pub ready-top : (n : ℕ) (S : List Fact) (f : Facts) → Ready n S f → Top f
+ready-top n S f r x y z a b c = r .decides .complete (one-element (r .decides .sound a) (r .decides .sound b) (r .decides .sound c))
+
 -- ---- nothing has to become the same any more
 
-module _ (n : ℕ) (T : List Fact) (f : Facts) (p : Pending n T 0 f) where
+module _ (n : ℕ) (T : List Fact) (f : Facts) (p : Pending n T 0 f) (top : Top f) where
   done-decides : Decides n T (has f)
   done-decides =
       rules-decide n T (has f) (p .standing .sound) (λ φ m. none-left f φ (p .complete φ m))
-      (record { sharing = p .standing .sharing; siblings = p .siblings; one-parent = λ x y z u v. none-left f (below x y) (p .one-parent x y z u v) })
+      (record { sharing = p .standing .sharing; siblings = p .siblings; one-parent = λ x y z u v. none-left f (below x y) (p .one-parent x y z u v); one-element = top })
 
   pub done : Ready n T f
   done = record {
     inside = p .standing .inside;
-    free = free-clash n T f done-decides (record { apart = p .standing .apart; clear = p .clear });
+    free = free-clash n T f done-decides (record { apart = p .standing .apart; clear = p .clear; bare = p .standing .bare });
     decides = done-decides;
     mirrored = p .standing .mirrored;
   }
@@ -103,11 +107,11 @@ module _ (n : ℕ) (f : Facts) (a b : Var) (few : n ≤ 16) (ha : a < n) (hb : b
   pub merged-clash : ((T : List Fact) → Pending n T x f → Clash n T) → MergedOf n f a b (record { clash = true; facts = f })
   merged-clash k = record { clashes = λ _ S r back. k _ (begun S r back); kept = λ _. refl; settles = λ e. absurd (false≢true (sym e)) }
 
-  pub merged-well : (g : Facts) → ((T : List Fact) → Pending n T x f → Pending n T 0 g) → MergedOf n f a b (record { clash = false; facts = g })
-  merged-well g k = record {
+  pub merged-well : (g : Facts) → Top g → ((T : List Fact) → Pending n T x f → Pending n T 0 g) → MergedOf n f a b (record { clash = false; facts = g })
+  merged-well g top k = record {
     clashes = λ e. absurd (false≢true e);
     kept = λ e. absurd (false≢true e);
-    settles = λ _ S r back. done n _ g (k _ (begun S r back));
+    settles = λ _ S r back. done n _ g (k _ (begun S r back)) top;
   }
 
 -- what a caller tests: below(b,a) is held, or a leaf is at or above a

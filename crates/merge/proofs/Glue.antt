@@ -3,9 +3,10 @@
 -- again but for what passes through those that were glued, and only their parents have yet to become the same.
 use mathlib.Core.Logic.{_⊎_, inl, inr, ⊎-elim}
 use Prim.Native.Nat.{ℕ, _<_}
-use Rattle.meaning.specs.Tree.{Var}
-use Rattle.meaning.specs.Constraint.{Fact, child, below, differ, before, leaf}
+use Rattle.meaning.specs.Tree.{Var, Label}
+use Rattle.meaning.specs.Constraint.{Fact, child, below, differ, before, root, leaf, label}
 use Rattle.meaning.specs.Closed.{Within, Sharing, Siblings}
+use Rattle.tables.specs.Free.{Bare}
 use Rattle.tables.proofs.Groups.{Twin, Two, Shared, Order, flip, alone, pair, each, via, move-left, move-right, shared-sharing, embed}
 use Rattle.tables.proofs.Wider.{Ends, Wide, Mid, wide-chain, wide-cases}
 use Rattle.merge.specs.Merging.{Awaits, held, waits, Through}
@@ -71,6 +72,16 @@ module _ (n : ℕ) (P : Fact → Type 0) (Up Down : Var → Type 0) (s : Sharing
   glued-apart h k x a =
       ⊎-elim (λ p. h _ (s .same-differ _ _ _ (p .0) (p .1) (a .holds))) (λ p. k _ _ (p .0) (p .1) (a .holds))
       (twin-cases (via n P B order (a .left-twin) (flip (a .right-twin))))
+
+  -- neither leaf nor label on the document node, if there was none and what is glued has none
+  pub glued-bare : Bare P → ((x y : Var) → Mid P Up Down x → Mid P Up Down y → P (root x) → ¬ P (leaf y))
+      → ((x y : Var) (l : Label) → Mid P Up Down x → Mid P Up Down y → P (root x) → ¬ P (label y l)) → Bare (Glued P Up Down)
+  glued-bare h k m = record {
+    no-leaf = λ x a b. ⊎-elim (λ p. h .no-leaf _ (s .same-root _ _ (p .0) (p .1) (a .holds)) (b .holds)) (λ p. k _ _ (p .0) (p .1) (a .holds) (b .holds))
+        (twin-cases (via n P B order (a .twin) (flip (b .twin))));
+    no-label = λ x l a b. ⊎-elim (λ p. h .no-label _ l (s .same-root _ _ (p .0) (p .1) (a .holds)) (b .holds)) (λ p. m _ _ l (p .0) (p .1) (a .holds) (b .holds))
+        (twin-cases (via n P B order (a .twin) (flip (b .twin))));
+  }
 
   -- ---- what does not pass through those that are glued is as it was
 

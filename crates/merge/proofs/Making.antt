@@ -10,7 +10,7 @@ use native.Mathlib.Omega.{arith}
 use lib.Bits.{bitOr, bitAnd, and-le-r, or-lt}
 use Rattle.meaning.specs.Tree.{Var}
 use Rattle.meaning.specs.Constraint.{Fact, child, below, differ, before, root, leaf, label}
-use Rattle.meaning.specs.Settled.{Settled, Clash, differs, labels, same-differ, same-label, same-before, same-after}
+use Rattle.meaning.specs.Settled.{Settled, Clash, differs, labels, leaf-document, label-document, same-differ, same-leaf, same-label, same-before, same-after}
 use Rattle.meaning.specs.Finite.{Yes, neg, pick, one}
 use Rattle.meaning.specs.Closed.{Within, Sharing}
 use Rattle.meaning.proofs.Finite.{sum-le, sum-lt, one-le, one-lt}
@@ -18,17 +18,19 @@ use Rattle.meaning.proofs.Least.{settled-rules}
 use Rattle.meaning.proofs.Tests.{clash, no-neg}
 use Rattle.rowbits.specs.Bit.{bit}
 use Rattle.tables.specs.Tables.{row, has}
-use Rattle.tables.specs.Rows.{gained, meets, Raised, Union}
+use Rattle.tables.specs.Rows.{gained, meets, onDocument, Raised, Union}
 use Rattle.tables.specs.declared.Facts.{Facts}
+use Rattle.tables.specs.Free.{Bare}
 use Rattle.tables.proofs.Bits.{in-both, both-in, meets-in, meets-out, in-row, or-l}
+use Rattle.tables.proofs.Clashes.{on-document, no-leaf-on, no-label-on}
 use Rattle.tables.proofs.Groups.{Twin, alone, shared-least, sharing-same}
-use Rattle.tables.proofs.Labels.{label-has}
+use Rattle.tables.proofs.Labels.{label-has, label-is}
 use Rattle.tables.proofs.Rises.{rises, raised-out, raised-in, raised-keeps, raised-has, columns-raised}
 use Rattle.tables.proofs.Wider.{Wide}
 use Rattle.merge.specs.declared.Round.{Round}
 use Rattle.merge.specs.Rows.{In, Gap, LabelOf, Painted}
 use Rattle.merge.specs.Merging.{held, waits, Held, Standing, Pending, Through, Grouped, withSiblings, SharesBefore, lacking, UnifiedOf}
-use Rattle.merge.proofs.Glue.{Cut, Glued, Over, Earlier, Later, glued-sharing, glued-apart, glued-siblings, arrived, glued-parent}
+use Rattle.merge.proofs.Glue.{Cut, Glued, Over, Earlier, Later, glued-sharing, glued-apart, glued-bare, glued-siblings, arrived, glued-parent}
 use Rattle.merge.proofs.Reach.{Reach, within, ends, cut, glue}
 use Rattle.merge.proofs.Masks.{reach, union-columns, columns-union}
 use Rattle.merge.proofs.Loops.{RaisedTwice, was-spread}
@@ -46,6 +48,7 @@ pub record Made (f : Facts) (u w m parents : ℕ) (g : Facts) : Type 0 where
   pub shown : ℕ
   pub is-shown : LabelOf (f .label) m shown
   pub only : (i : Var) → In m i → row (f .label) i ≢ 0 → row (f .label) i ≡ shown
+  pub bare : ¬ Yes (onDocument (f .root) (f .leaf) m shown)
   pub below : Raised (f .below) u w (g .below)
   pub above : Raised (f .above) w u (g .above)
   pub child : RaisedTwice (f .child) m children parents (g .child)
@@ -97,6 +100,18 @@ module _ (n : ℕ) (T : List Fact) (f : Facts) (x u w : ℕ) (p : Pending n T x 
       let e : l ≢ 0 = λ q. z (lo .none q i a) in
       let j = lo .some e in
       labels (settled _ (label-has f i _ refl z)) (same-label (one-group (j .0) i (j .1) a) (one-group i (j .0) a (j .1)) (settled _ (label-has f (j .0) l (j .2) e))) k
+
+  pub clash-document : f .root < 65536 → f .leaf < 65536 → (l : ℕ) → LabelOf (f .label) m l → Yes (onDocument (f .root) (f .leaf) m l) → Clash n T
+  unfolding has
+  clash-document root-small leaf-small l lo y =
+      let h = on-document (f .root) (f .leaf) m l y in
+      let i = meets-out (f .root) m root-small (h .0) in
+      ⊎-elim
+      (λ k. let j = meets-out (f .leaf) m leaf-small k in
+      leaf-document (settled (root (i .0)) (i .1)) (same-leaf (one-group (j .0) (i .0) (j .2) (i .2)) (one-group (i .0) (j .0) (i .2) (j .2)) (settled (leaf (j .0)) (j .1))))
+      (λ k. let j = lo .some k in
+      label-document (settled (root (i .0)) (i .1))
+      (same-label (one-group (j .0) (i .0) (j .1) (i .2)) (one-group (i .0) (j .0) (i .2) (j .1)) (settled _ (label-has f (j .0) l (j .2) k)))) (h .1)
 
   -- ---- the tables
 
@@ -196,6 +211,20 @@ module _ (n : ℕ) (T : List Fact) (f : Facts) (x u w : ℕ) (p : Pending n T x 
     glue-settled : (i j : Var) → Wide P (In u) (In w) i j → Settled n T (below i j)
     glue-settled i j b = ⊎-elim (settled (below i j)) (λ h. over-down i j (h .0) (h .1)) b
 
+    made-bare : Bare (Held h)
+    unfolding has
+    made-bare = record { no-leaf = λ i y z. b .no-leaf i (has-glued (root i) y) (has-glued (leaf i) z); no-label = λ i l y z. b .no-label i l (has-glued (root i) y) (has-glued (label i l) z) }
+      where
+        met : (t : ℕ) (i : Var) → In u i × In w i → In t i → Yes (meets t m)
+        met t i a y = meets-in t m i y (both-in u w i (a .0) (a .1))
+
+        b : Bare (Glued P (In u) (In w))
+        b = glued-bare n P (In u) (In w) s c (p .standing .bare)
+            (λ i j a d y z. no-leaf-on (f .root) (f .leaf) m (q .shown) (q .bare) (met (f .root) i a y) (met (f .leaf) j d z))
+            (λ i j l a d y z. let h = label-is f j l z in
+            let e : row (f .label) j ≢ 0 = λ k. h .1 (sym (h .0) ∙ k) in
+            e (q .only j (both-in u w j (d .0) (d .1)) e ∙ no-label-on (f .root) (f .leaf) m (q .shown) (q .bare) (met (f .root) i a y)))
+
     made-standing : Standing n T h
     made-standing = record {
       few = p .standing .few;
@@ -206,6 +235,7 @@ module _ (n : ℕ) (T : List Fact) (f : Facts) (x u w : ℕ) (p : Pending n T x 
       sharing = sharing-same n (Glued P (In u) (In w)) (Held h) glued-has has-glued (glued-sharing n P (In u) (In w) s c);
       apart = λ i y. glued-apart n P (In u) (In w) s c (p .standing .apart)
           (λ i j a b. apart-in i j (both-in u w i (a .0) (a .1)) (both-in u w j (b .0) (b .1))) i (has-glued (differ i i) y);
+      bare = made-bare;
       mirrored = record {
         parents = columns-spread (f .child) (f .parent) m (q .children) parents (g .child) (g .parent) (p .standing .mirrored .parents) (shares-child .spreads)
             (was-spread small (q .is-children .small) (q .parent));
@@ -294,6 +324,9 @@ module _ (f : Facts) (x w near far far-of : ℕ) (small : x < 65536) (uw : Union
 
   pub unify-labels : (l : ℕ) → LabelOf (f .label) M l → ((i : Var) × In M i × (row (f .label) i ≢ 0) × (row (f .label) i ≢ l)) → (r : Round) → r .clash ≡ true → UnifiedOf f x r
   unify-labels l lo y r t = clashing r t (λ n T p. clash-labels n T f x U D p (reached n T p) l lo (y .0) (y .1) (y .2) (y .3))
+
+  pub unify-document : f .root < 65536 → f .leaf < 65536 → (l : ℕ) → LabelOf (f .label) M l → Yes (onDocument (f .root) (f .leaf) M l) → (r : Round) → r .clash ≡ true → UnifiedOf f x r
+  unify-document root-small leaf-small l lo y r t = clashing r t (λ n T p. clash-document n T f x U D p (reached n T p) root-small leaf-small l lo y)
 
   pub unify-well : f .root < 65536 → f .leaf < 65536 → (parents : ℕ) (g : Facts) → Made f U D M parents g
       → UnifiedOf f x (record { clash = false; next = parents; group = M; facts = g })

@@ -1,5 +1,6 @@
 -- Tables in which a group was made, and from them those where before is chained through it and its parents are given to its family: what is
--- new is settled; and where before meets below neither way, nothing else became the same, and all rules hold again but that of one parent.
+-- new is settled; and where before meets below neither way, nothing else became the same, and all rules hold again but those of one parent and
+-- one element.
 use mathlib.Core.Path.{_≡_, sym, _∙_, subst}
 use mathlib.Core.Logic.{_⊎_, inl, inr, ⊎-elim}
 use mathlib.Core.List.{List}
@@ -360,6 +361,10 @@ module _ (n : ℕ) (T : List Fact) (group parents earlier later : ℕ) (f : Fact
           sound = passed-sound;
           sharing = sharing-same n Q (Held g) new-has has-new (added-sharing n W (In earlier) (In later) (In parents) (In (q .kin)) W-sharing adding);
           apart = λ x u. new-apart x (has-new (differ x x) u);
+          bare = record {
+            no-leaf = λ x u v. o .standing .bare .no-leaf x (has-new (root x) u) (has-new (leaf x) v);
+            no-label = λ x l u v. o .standing .bare .no-label x l (has-new (root x) u) (has-new (label x l) v);
+          };
           mirrored = passed-mirrored;
         };
         siblings = siblings-same n Q (Held g) new-has has-new (added-siblings n W (In earlier) (In later) (In parents) (In (q .kin)) W-sharing adding);

@@ -1,15 +1,15 @@
 -- A round meets its contract: a clash that its tests find is one of the given facts; elsewhere the parents of the group that it made have yet to
--- become the same, or, where they are the same, nothing has.
+-- become the same, or, where they are the same, the children of the document node, or, where these are too, nothing has.
 use mathlib.Core.Path.{_≡_, refl, sym, _∙_, subst}
-use mathlib.Core.Logic.{⊎-elim}
+use mathlib.Core.Logic.{_≢_, inl, inr, ⊎-elim}
 use mathlib.Core.Bool.{Bool, true, false, false≢true}
 use mathlib.Core.List.{List}
 use Prim.Native.Nat.{ℕ, _<_, _≤_}
 use native.Mathlib.Nat.{le-trans}
 use native.Mathlib.Decide.{ℕ-discrete}
 use native.Mathlib.Omega.{arith}
-use Rattle.meaning.specs.Constraint.{Fact, below, before}
-use Rattle.meaning.specs.Settled.{Settled, Clash}
+use Rattle.meaning.specs.Constraint.{Fact, child, below, before, root}
+use Rattle.meaning.specs.Settled.{Settled, Clash, root-below, same-parent, one-element}
 use Rattle.meaning.specs.Closed.{Within}
 use Rattle.meaning.proofs.Finite.{sum-le, one-le}
 use Rattle.meaning.proofs.Least.{settled-within}
@@ -21,8 +21,8 @@ use Rattle.tables.proofs.Bits.{none-in, in-row}
 use Rattle.tables.proofs.Clashes.{crossed-clash, uncrossed-clear}
 use Rattle.tables.proofs.Rises.{rises, raised-keeps}
 use Rattle.merge.specs.declared.Round.{Round}
-use Rattle.merge.specs.Rows.{In, Gap, WithGap}
-use Rattle.merge.specs.Merging.{Awaits, held, waits, Held, Pending, Grouped, withSiblings, PassedOf, lacking, UnifiedOf, RoundOf}
+use Rattle.merge.specs.Rows.{In, Gap, WithGap, NextOf}
+use Rattle.merge.specs.Merging.{Awaits, held, waits, Held, Pending, Top, Grouped, withSiblings, PassedOf, lacking, UnifiedOf, RoundOf}
 use Rattle.merge.proofs.Loops.{none-spread}
 use Rattle.merge.proofs.Passing.{Follows, alone-follows, passed-follows}
 
@@ -50,6 +50,47 @@ narrow n T f x r a p = go (ℕ-discrete r 0)
       complete = λ φ h. held (all-there e φ (p .complete φ h));
       one-parent = λ i j k y z. held (all-there e (below i j) (p .one-parent i j k y z));
     }
+
+-- the children of the document node wait where no other variables do: all roots are the same, so that they are children of one
+elements : (n : ℕ) (T : List Fact) (f : Facts) (x : ℕ) → Union (f .child) (f .root) x → Pending n T 0 f → Pending n T x f
+unfolding has
+elements n T f x u p = record {
+  standing = p .standing;
+  siblings = p .siblings;
+  clear = p .clear;
+  due = together;
+  complete = λ φ m. held (none-left f φ (p .complete φ m));
+  one-parent = λ i j k y z. held (none-left f (below i j) (p .one-parent i j k y z));
+}
+  where
+    known : (φ : Fact) → Held f φ → Settled n T φ
+    known = p .standing .sound
+
+    together : (i j : ℕ) → In x i → In x j → Settled n T (below i j)
+    together i j y z =
+        let a = u .from i y in
+        let b = u .from j z in
+        let v = known (child (a .0) i) (a .2) in
+        let w = known (child (b .0) j) (b .2) in
+        let r = known (root (a .0)) (a .1) in
+        let s = known (root (b .0)) (b .1) in
+        one-element r v
+        (same-parent (root-below s (settled-within n T (p .standing .inside) v .0)) (root-below r (settled-within n T (p .standing .inside) w .0)) w)
+
+module _ (f : Facts) (parents next : ℕ) (h : NextOf (f .below) (f .child) (f .root) parents next) where
+  next-pending : (n : ℕ) (T : List Fact) → Pending n T parents f → Pending n T next f
+  next-pending n T p =
+      ⊎-elim (λ a. narrow n T f parents next (a .0) p) (λ a. narrow n T f (a .0) next (a .3) (elements n T f (a .0) (a .2) (narrow n T f parents 0 (a .1) p))) h
+
+  next-gap : next ≢ 0 → Gap (f .below) next
+  next-gap z = ⊎-elim (λ a. gap (a .0)) (λ a. gap (a .3)) h
+    where
+      gap : {x : ℕ} → WithGap (f .below) x next → Gap (f .below) next
+      gap a = let y = a .some z in subst (Gap (f .below)) (sym (y .0)) (y .1)
+
+  next-top : next ≡ 0 → Top f
+  unfolding has
+  next-top e x y z r u v = ⊎-elim (λ a. absurd (a .1 e)) (λ a. a .3 .none e y z (a .2 .to x y r u) (a .2 .to x z r v)) h
 
 -- ---- after a group was made
 
@@ -124,6 +165,7 @@ module _ (f : Facts) (x : ℕ) (m : Round) (k : UnifiedOf f x m) where
     goes-on = λ e. absurd (false≢true (sym e ∙ t));
     falls = λ e. absurd (false≢true (sym e ∙ t));
     gap = λ e. absurd (false≢true (sym e ∙ t));
+    top = λ e. absurd (false≢true (sym e ∙ t));
   }
 
   pub round-refused : m .clash ≡ true → RoundOf f x m
@@ -131,21 +173,22 @@ module _ (f : Facts) (x : ℕ) (m : Round) (k : UnifiedOf f x m) where
 
   module _ (made : m .clash ≡ false) where
     goes-to : (g : Facts) → ((n : ℕ) (T : List Fact) → Pending n T x f → Pending n T (m .next) g) → ((i j : ℕ) → In (row (m .facts .below) i) j → In (row (g .below) i) j)
-        → (next : ℕ) → WithGap (g .below) (m .next) next → RoundOf f x (record { clash = m .clash; next = next; group = m .group; facts = g })
+        → (next : ℕ) → NextOf (g .below) (g .child) (g .root) (m .next) next → RoundOf f x (record { clash = m .clash; next = next; group = m .group; facts = g })
     goes-to g on keeps next a = record {
       clashes = λ e. absurd (false≢true (sym made ∙ e));
-      goes-on = λ _ n T p. narrow n T g (m .next) next a (on n T p);
+      goes-on = λ _ n T p. next-pending g (m .next) next a n T (on n T p);
       falls = λ _ y. let a = k .falls made y in let b = lacks-no-more (m .facts .below) (g .below) keeps in omega arith;
-      gap = λ _ z. let y = a .some z in subst (Gap (g .below)) (sym (y .0)) (y .1);
+      gap = λ _. next-gap g (m .next) next a;
+      top = λ _. next-top g (m .next) next a;
     }
 
     pub round-blank : m .group < 65536 → ((i : ℕ) → row (f .after) i < 65536) → (t : Bool) → Blank (m .facts .before) t → t ≡ true
-        → (next : ℕ) → WithGap (m .facts .below) (m .next) next → RoundOf f x (record { clash = m .clash; next = next; group = m .group; facts = m .facts })
+        → (next : ℕ) → NextOf (m .facts .below) (m .facts .child) (m .facts .root) (m .next) next → RoundOf f x (record { clash = m .clash; next = next; group = m .group; facts = m .facts })
     round-blank small smalls t blank e = goes-to (m .facts) (λ n T p. blank-on n T f x m p k made small smalls t blank e) (λ i j u. u)
 
     module _ (g : Facts) (h : PassedOf (m .facts) (m .group) (m .next) g) (t : Bool) (tests : Crossed (g .before) (g .below) (g .above) t) where
       pub round-crossed : t ≡ true → (r : Round) → r .clash ≡ true → RoundOf f x r
       round-crossed c r y = refused r y (λ n T p. passed-clash n T f x m p k made g h t tests c)
 
-      pub round-passed : t ≡ false → (next : ℕ) → WithGap (g .below) (m .next) next → RoundOf f x (record { clash = m .clash; next = next; group = m .group; facts = g })
+      pub round-passed : t ≡ false → (next : ℕ) → NextOf (g .below) (g .child) (g .root) (m .next) next → RoundOf f x (record { clash = m .clash; next = next; group = m .group; facts = g })
       round-passed c = goes-to g (λ n T p. passed-on n T f x m p k made g h t tests c) (passed-keeps (m .facts) (m .group) (m .next) g h)

@@ -7,14 +7,14 @@ use Prim.Native.Nat.{ℕ, _<_, _≤_}
 use lib.Bits.{bitOr}
 use Rattle.rowbits.specs.Bit.{bit}
 use Rattle.meaning.specs.Tree.{Var}
-use Rattle.meaning.specs.Constraint.{Fact, child, below, differ, before}
+use Rattle.meaning.specs.Constraint.{Fact, child, below, differ, before, root}
 use Rattle.meaning.specs.Settled.{Settled, Clash}
 use Rattle.meaning.specs.Finite.{Yes, neg, sum, one}
 use Rattle.meaning.specs.Closed.{Sharing, Siblings, Inside}
 use Rattle.tables.specs.Tables.{row, has, Mirrored, Ready}
 use Rattle.tables.specs.Rows.{Raised, Union}
 use Rattle.tables.specs.declared.Facts.{Facts}
-use Rattle.tables.specs.Free.{Clear}
+use Rattle.tables.specs.Free.{Clear, Bare}
 use Rattle.merge.specs.declared.Round.{Round}
 use Rattle.tables.specs.declared.Settled.{Settled as Result}
 use Rattle.merge.specs.Rows.{In, Gap, Spread, Family}
@@ -27,18 +27,19 @@ pub data Awaits (X : Var → Type 0) (P : Fact → Type 0) : Fact → Type 0 whe
 abbrev pub Held : Facts → Fact → Type 0
 Held f φ = Yes (has f φ)
 
--- What holds after each step: the tables hold only what is settled of T, in them nothing differs from itself, and they are closed under the
--- rules that are not of siblings, but for that of one parent.
+-- What holds after each step: the tables hold only what is settled of T, in them nothing differs from itself and neither leaf nor label is on
+-- the document node, and they are closed under the rules that are not of siblings, but for those of one parent and one element.
 pub record Standing (n : ℕ) (T : List Fact) (f : Facts) : Type 0 where
   pub few : n ≤ 16
   pub inside : Inside n T
   pub sound : (φ : Fact) → Held f φ → Settled n T φ
   pub sharing : Sharing n (Held f)
   pub apart : (x : Var) → ¬ Held f (differ x x)
+  pub bare : Bare (Held f)
   pub mirrored : Mirrored f
 
 -- What is still missing before a round, where there is no clash and every other rule holds: the variables of x have yet to become the same,
--- among them any two parents of one variable that are not.
+-- among them any two parents of one variable that are not. Of two children of the document node nothing is said: they may wait beside x.
 pub record Pending (n : ℕ) (T : List Fact) (x : ℕ) (f : Facts) : Type 0 where
   pub standing : Standing n T f
   pub siblings : Siblings n (Held f)
@@ -46,6 +47,10 @@ pub record Pending (n : ℕ) (T : List Fact) (x : ℕ) (f : Facts) : Type 0 wher
   pub due : (i j : Var) → In x i → In x j → Settled n T (below i j)
   pub complete : (φ : Fact) → List·Memᴰ φ T → Awaits (In x) (Held f) φ
   pub one-parent : (i j k : Var) → Held f (child i k) → Held f (child j k) → Awaits (In x) (Held f) (below i j)
+
+-- two children of the document node are the same, which is owed where nothing waits
+abbrev pub Top : Facts → Type 0
+Top f = (x y z : Var) → Held f (root x) → Held f (child x y) → Held f (child x z) → Held f (below y z)
 
 -- ---- within a round
 
@@ -138,6 +143,7 @@ pub record RoundOf (f : Facts) (x : ℕ) (r : Round) : Type 0 where
   pub goes-on : r .clash ≡ false → (n : ℕ) (T : List Fact) → Pending n T x f → Pending n T (r .next) (r .facts)
   pub falls : r .clash ≡ false → Gap (f .below) x → lacking (r .facts .below) < lacking (f .below)
   pub gap : r .clash ≡ false → r .next ≢ 0 → Gap (r .facts .below) (r .next)
+  pub top : r .clash ≡ false → r .next ≡ 0 → Top (r .facts)
 
 -- settled tables of some S, where below(b,a) follows from below(a,b)
 abbrev pub Joining : ℕ → Facts → Var → Var → Type 0

@@ -7,6 +7,7 @@ use Prim.Native.Nat.{ℕ, _<_}
 use Rattle.meaning.specs.Finite.{Yes, pick}
 use Rattle.rowbits.specs.Bit.{bit}
 use Rattle.tables.specs.Tables.{row}
+use Rattle.tables.specs.Rows.{Union}
 
 -- one of the rows named lacks one of them
 pub record Gap (t : List ℕ) (rows : ℕ) : Type 0 where
@@ -20,6 +21,10 @@ pub record Gap (t : List ℕ) (rows : ℕ) : Type 0 where
 pub record WithGap (t : List ℕ) (rows r : ℕ) : Type 0 where
   pub none : r ≡ 0 → (i j : ℕ) → Yes (bit rows i) → Yes (bit rows j) → Yes (bit (row t i) j)
   pub some : r ≢ 0 → (r ≡ rows) × Gap t rows
+
+-- what has to become the same next: the parents, if they are not; else the children of the roots, if these are not
+abbrev pub NextOf : (below child : List ℕ) (root parents r : ℕ) → Type 0
+NextOf below child root parents r = (WithGap below parents r × (r ≢ 0)) ⊎ ((u : ℕ) × WithGap below parents 0 × Union child root u × WithGap below u r)
 
 -- a label of the rows named, or 0 where none has one
 pub record LabelOf (t : List ℕ) (rows l : ℕ) : Type 0 where

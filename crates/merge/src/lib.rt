@@ -1,10 +1,11 @@
-// Entering below(a, b) where it makes variables the same: their group is merged by rows, then that of its parents, and so on upwards.
+// Entering below(a, b) where it makes variables the same: their group is merged by rows, then that of its parents, and so on upwards; then the
+// children of the document node.
 ghost use mathlib.Core.Path.{_≡_};
 ghost use mathlib.Core.Bool.{true};
 ghost use Prim.Native.Nat.{_<_, _≤_, _^_};
 ghost use lib.Bits.{bitOr};
 ghost use Rattle.tables.specs.Rows.{Union};
-ghost use Rattle.merge.specs.Rows.{WithGap, LabelOf, TwoLabels, Painted, Spread, Family};
+ghost use Rattle.merge.specs.Rows.{WithGap, NextOf, LabelOf, TwoLabels, Painted, Spread, Family};
 ghost use Rattle.merge.specs.Merging.{UnifiedOf, GivenToFamily, PassedOf, RoundOf, Joining, MergedOf};
 use ids::Var;
 use tables::Facts;
@@ -104,7 +105,7 @@ fn paint(t: [u8; 16], rows: u16, l: u8) -> [u8; 16]
     a
 }
 
-// The tables after a step, the group that was made, and the variables that have yet to become the same: the parents of the group.
+// The tables after a step, the group that was made, and the variables that have yet to become the same: after `unify` the parents of the group.
 struct Round {
     clash: bool,
     next: u16,
@@ -148,6 +149,9 @@ fn unify(f: Facts, x: u16, lower: u16, upper: u16) -> Round
     }
     let shown = label_of(label, group);
     if two_labels(label, group, shown) {
+        return refused(f);
+    }
+    if tables::on_document(f.root, f.leaf, group, shown) {
         return refused(f);
     }
     let children = tables::union_rows(child, group);
@@ -259,7 +263,19 @@ fn pass_on(f: Facts, group: u16, parents: u16) -> Facts
     to_family(g, group, parents, earlier, later)
 }
 
-// One round: the variables of x become the same, and the next one is for the parents of their group, if they are not the same. In most sets
+// What has to become the same next: the parents, if they are not; else the children of the roots, if these are not. In most sets there is no
+// root, and nothing is looked at for it.
+fn next_set(below: [u16; 16], child: [u16; 16], root: u16, parents: u16) -> u16
+    ensures { λ r. ⌜ NextOf below child root parents r ⌝ }
+{
+    let next = with_gap(below, parents);
+    if next != 0 {
+        return next;
+    }
+    with_gap(below, tables::union_rows(child, root))
+}
+
+// One round: the variables of x become the same, and the next one is for the parents of their group or the children of the roots. In most sets
 // nothing is before anything, and a round is to cost no more for it: these leave first.
 fn next_round(f: Facts, x: u16, lower: u16, upper: u16) -> Round
     requires { ⌜ Union (f .below) x lower × Union (f .above) x upper ⌝ }
@@ -272,7 +288,8 @@ fn next_round(f: Facts, x: u16, lower: u16, upper: u16) -> Round
     let before = r.facts.before;
     if tables::blank(before) {
         let below = r.facts.below;
-        r.next = with_gap(below, r.next);
+        let child = r.facts.child;
+        r.next = next_set(below, child, r.facts.root, r.next);
         return r;
     }
     let unified = r.facts;
@@ -283,7 +300,8 @@ fn next_round(f: Facts, x: u16, lower: u16, upper: u16) -> Round
     if tables::crossed(new_before, new_below, new_above) {
         return refused(f);
     }
-    r.next = with_gap(new_below, r.next);
+    let new_child = g.child;
+    r.next = next_set(new_below, new_child, g.root, r.next);
     r.facts = g;
     r
 }

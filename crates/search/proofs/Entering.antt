@@ -1,11 +1,11 @@
 -- A fact that is settled already changes nothing when it is given, so entering one below fact enters either alternative of a join.
 use mathlib.Core.Path.{_≡_, refl, sym, ap, subst, _∙_}
 use mathlib.Core.Logic.{⊎-elim}
-use mathlib.Core.List.{List, [], _∷_, Memᴰ·append-left, List·Memᴰ·head, List·Memᴰ·tail, List·Memᴰ·cases-cons}
+use mathlib.Core.List.{List, [], _∷_, Memᴰ·append-left, List·Memᴰ, List·Memᴰ·head, List·Memᴰ·tail, List·Memᴰ·cases-cons}
 use mathlib.Core.Option.{some}
 use Prim.Native.Nat.{ℕ}
 use Rattle.meaning.specs.Constraint.{Fact}
-use Rattle.meaning.specs.Settled.{Settled, given, Clash, differs, labels, above-sibling, under-sibling}
+use Rattle.meaning.specs.Settled.{Settled, given, Clash, differs, labels, above-sibling, under-sibling, leaf-document, label-document}
 use Rattle.meaning.specs.FixedSearch.{Join, join, IsJoin, first-alternative, second-alternative}
 use Rattle.meaning.specs.Closed.{Within}
 use Rattle.meaning.proofs.Least.{settled-least, settled-rules, settled-mono, settled-within, clash-mono}
@@ -34,6 +34,8 @@ module _ (n : ℕ) (T : List Fact) (φ : Fact) (s : Settled n T φ) where
   clash-same (labels a b e) = labels (more-same a) (more-same b) e
   clash-same (above-sibling b d) = above-sibling (more-same b) (more-same d)
   clash-same (under-sibling b d) = under-sibling (more-same b) (more-same d)
+  clash-same (leaf-document b d) = leaf-document (more-same b) (more-same d)
+  clash-same (label-document b d) = label-document (more-same b) (more-same d)
 
   ready-more : {g : Facts} → Ready n T g → Ready n (φ ∷ T) g
   ready-more r = record {
@@ -54,6 +56,28 @@ enters-two n S p φ s = record {
   ready = ready-more n (fact p ∷ S) φ (settled-mono n S (fact p ∷ S) (λ g m. List·Memᴰ·tail m) s);
   clash = clash-mono n (fact p ∷ S) (φ ∷ fact p ∷ S) (λ g m. List·Memᴰ·tail m);
 }
+
+-- the same in the other order: what is given is a set
+module _ (n : ℕ) (S : List Fact) (p : Below) (φ : Fact) where
+  turned : (a b g : Fact) → List·Memᴰ g (a ∷ b ∷ S) → List·Memᴰ g (b ∷ a ∷ S)
+  turned a b g m =
+      ⊎-elim (λ e. List·Memᴰ·tail (List·Memᴰ·head e)) (λ t. ⊎-elim (λ e. List·Memᴰ·head e) (λ u. List·Memᴰ·tail (List·Memᴰ·tail u)) (List·Memᴰ·cases-cons t)) (List·Memᴰ·cases-cons m)
+
+  ready-turned : {g : Facts} → Ready n (φ ∷ fact p ∷ S) g → Ready n (fact p ∷ φ ∷ S) g
+  ready-turned r = record {
+    inside = λ f m. r .inside f (turned (fact p) φ f m);
+    free = λ c. r .free (clash-mono n (fact p ∷ φ ∷ S) (φ ∷ fact p ∷ S) (turned (fact p) φ) c);
+    decides = record {
+      sound = λ y. settled-mono n (φ ∷ fact p ∷ S) (fact p ∷ φ ∷ S) (turned φ (fact p)) (r .decides .sound y);
+      complete = λ d. r .decides .complete (settled-mono n (fact p ∷ φ ∷ S) (φ ∷ fact p ∷ S) (turned (fact p) φ) d);
+    };
+    mirrored = r .mirrored;
+  }
+
+  pub enters-first : Settled n S φ → Enters n S p (fact p ∷ φ ∷ [])
+  enters-first s =
+      let e = enters-two n S p φ s in
+      record { one = List·Memᴰ·head refl; ready = λ r. ready-turned (e .ready r); clash = λ c. clash-mono n (φ ∷ fact p ∷ S) (fact p ∷ φ ∷ S) (turned φ (fact p)) (e .clash c) }
 
 -- ---- the step from the first join found, for any S that the tables are ready for
 

@@ -59,11 +59,11 @@ pub record Line (n : ℕ) (S : List Fact) (s : Settled) : Type 0 where
 
 -- an end without a tree: blank rows
 abbrev pub withoutTree : End → ℕ → Searched
-withoutTree e c = record { end = e; count = c; below = replicate 16 0; above = replicate 16 0; after = replicate 16 0; label = replicate 16 0 }
+withoutTree e c = record { end = e; root = 0; count = c; below = replicate 16 0; above = replicate 16 0; after = replicate 16 0; label = replicate 16 0 }
 
 -- the rows that r shows are those of tables that decide the settled set of R
 abbrev pub TreeRows : ℕ → List Fact → Searched → Type 0
-TreeRows n R r = (g : Facts) × Ready n R (showing (r .below) (r .above) (r .after) (r .label) g)
+TreeRows n R r = (g : Facts) × Ready n R (showing (r .below) (r .above) (r .after) (r .label) (r .root) g)
 
 -- r reports a search that ends in o after entering c alternatives in all
 pub record Reports (A n : ℕ) (o : Outcome) (c : ℕ) (r : Searched) : Type 0 where

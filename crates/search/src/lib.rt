@@ -19,9 +19,10 @@ pub enum End {
 }
 
 // How the search ended, after how many choices in all, and of the tables of a tree those that it is read off from. Where it found no
-// tree they are blank.
+// tree they are blank. `root` lies where it takes no room.
 pub struct Searched {
     pub end: End,
+    pub root: u16,
     pub count: u32,
     pub below: [u16; 16],
     pub above: [u16; 16],
@@ -43,7 +44,7 @@ enum Step {
 }
 
 // The first alternative of each kind is below(x, y). The second of a parent join is same(x, z), where below(x, z) holds already; so it is of
-// siblings, whose y, a, x are z, x, y here.
+// siblings, whose y, a, x are z, x, y here. Of the document node, whose r, y, w are z, x, y here, it is same(y, z), and below(z, y) holds.
 fn next_step(f: Facts, n: usize) -> Step
     requires { ⌜ n ≤ 16 ⌝ }
     requires { ⌜ ((S : List Fact) × Ready n S f) ⌝ }
@@ -58,6 +59,7 @@ fn next_step(f: Facts, n: usize) -> Step
                 JoinKind::Parent => Step::Split(first, Below { upper: z, lower: x }),
                 JoinKind::Chain => Step::Split(first, Below { upper: y, lower: x }),
                 JoinKind::Sibling => Step::Split(first, Below { upper: z, lower: x }),
+                JoinKind::Document => Step::Split(first, Below { upper: y, lower: z }),
             }
         }
     }
@@ -68,6 +70,7 @@ fn without_tree(end: End, count: u32) -> Searched
 {
     Searched {
         end,
+        root: 0,
         count,
         below: [0; 16],
         above: [0; 16],
@@ -118,6 +121,7 @@ fn line(
         let label = f.label;
         return Searched {
             end: End::Tree,
+            root: f.root,
             count,
             below,
             above,

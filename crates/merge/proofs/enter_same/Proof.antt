@@ -1,5 +1,5 @@
 -- `merge::enter_same` meets its contract. The invariant: whatever was pending at the start is pending now, and the variables of x are not yet the
--- same. Each round fills a gap of below, so that it ends.
+-- same, or x is empty and the children of the document node are the same too. Each round fills a gap of below, so that it ends.
 use mathlib.Core.Path.{_≡_, sym, subst}
 use mathlib.Core.Logic.{_≢_}
 use mathlib.Core.List.{List}
@@ -7,15 +7,15 @@ use Prim.Native.Nat.{ℕ}
 use Rattle.meaning.specs.Constraint.{Fact}
 use Rattle.tables.specs.Rows.{Union}
 use Rattle.merge.specs.Rows.{Gap}
-use Rattle.merge.specs.Merging.{Pending, lacking}
-use Rattle.merge.proofs.Entered.{merged-clash, merged-well}
+use Rattle.merge.specs.Merging.{Pending, Top, lacking}
+use Rattle.merge.proofs.Entered.{ready-top, merged-clash, merged-well}
 use borrow.Author.Needs.{needs}
 use Rattle.merge.proofs.enter_same.Statement.{statement}
 use Rattle.merge.proofs.enter_same.Tie as tie
 
 abbrev Inv-loop : tie.InvT-loop
 Inv-loop f n i j g₀ x₀ lower₀ upper₀ g x lower upper =
-    ((T : List Fact) → Pending n T x₀ g₀ → Pending n T x g) × (x ≢ 0 → Gap (g .below) x × Union (g .below) x lower × Union (g .above) x upper)
+    ((T : List Fact) → Pending n T x₀ g₀ → Pending n T x g) × (x ≡ 0 → Top g) × (x ≢ 0 → Gap (g .below) x × Union (g .below) x lower × Union (g .above) x upper)
 
 abbrev μ-loop : tie.MeasureT-loop
 μ-loop f n i j g₀ x₀ lower₀ upper₀ g x lower upper = lacking (g .below)
@@ -41,12 +41,13 @@ union-two-requires-2 c κs = (search needs, search needs)
 loop-holds : tie.Need-loop-holds Inv-loop μ-loop
 loop-holds c = (
   (λ T p. p),
+  (λ _. ready-top _ _ _ (c .before .before .before .before .before .before .before .pre .1 .1)),
   λ z. let h = c .before .before .two-with-gap .ensures .some z in
       (subst (Gap _) (sym (h .0)) (h .1), union-at _ _ _ _ (h .0) (c .before .union-two .ensures), union-at _ _ _ _ (h .0) (c .union-two2 .ensures)),
 )
 
 next-round-requires : tie.Need-next-round-requires Inv-loop μ-loop
-next-round-requires c κs = let h = c .before .loop .inv .1 (c .loop-test .taken) in (h .1, h .2)
+next-round-requires c κs = let h = c .before .loop .inv .2 (c .loop-test .taken) in (h .1, h .2)
 
 returns : tie.Need-returns Inv-loop μ-loop
 returns c =
@@ -66,13 +67,13 @@ loop-less : tie.Need-loop-less Inv-loop μ-loop
 loop-less c =
     let e = c .before .before .before .before .before in
     let u = e .before in
-    u .next-round .ensures .falls (e .if1 .left) (u .before .before .loop .inv .1 (u .before .loop-test .taken) .0)
+    u .next-round .ensures .falls (e .if1 .left) (u .before .before .loop .inv .2 (u .before .loop-test .taken) .0)
 
 loop-again : tie.Need-loop-again Inv-loop μ-loop
 loop-again c =
     let e = c .before .before .before .before .before in
     let u = e .before in
-    ((λ T p. u .next-round .ensures .goes-on (e .if1 .left) _ T (u .before .before .loop .inv .0 T p)), λ z. (u .next-round .ensures .gap (e .if1 .left) z, c .before .union-rows .ensures, c .union-rows2 .ensures))
+    ((λ T p. u .next-round .ensures .goes-on (e .if1 .left) _ T (u .before .before .loop .inv .0 T p)), u .next-round .ensures .top (e .if1 .left), λ z. (u .next-round .ensures .gap (e .if1 .left) z, c .before .union-rows .ensures, c .union-rows2 .ensures))
 
 returns-2 : tie.Need-returns-2 Inv-loop μ-loop
 returns-2 c =
@@ -80,7 +81,7 @@ returns-2 c =
     let a = l .before .before .before in
     let s = a .before .before .before .before .before in
     merged-well _ _ _ _ (s .pre .0 .2) (s .pre .0 .0) (s .pre .0 .1) _ (a .two-with-gap .ensures)
-    _ (λ T p. subst (λ (k : ℕ). Pending (s .args .n) T k (l .loop .g)) (c .loop-test .left) (l .loop .inv .0 T p))
+    _ (l .loop .inv .1 (c .loop-test .left)) (λ T p. subst (λ (k : ℕ). Pending (s .args .n) T k (l .loop .g)) (c .loop-test .left) (l .loop .inv .0 T p))
 
 pub enter-same-spec : {M : Type 1} → statement M
 enter-same-spec =

@@ -1,5 +1,5 @@
--- `merge::next_round` meets its contract: a group is made, what has siblings passes on what it has, before is tested against below, and of the
--- parents those that are not the same are left (proofs/Rounds.antt).
+-- `merge::next_round` meets its contract: a group is made, what has siblings passes on what it has, before is tested against below, and what
+-- has to become the same next is left (proofs/Rounds.antt).
 use Prim.Native.Nat.{ℕ, _<_}
 use lib.ListN.{getD}
 use mir.Val.{Fits}
@@ -24,16 +24,16 @@ returns c = round-refused _ _ _ (c .before .unify .ensures) (c .if1 .taken)
 blank-requires : tie.Need-blank-requires
 blank-requires c κs = search needs
 
-with-gap-requires : tie.Need-with-gap-requires
-with-gap-requires c κs = search needs
+next-set-requires : tie.Need-next-set-requires
+next-set-requires c κs = search needs
 
 returns-2 : tie.Need-returns-2
 returns-2 c =
-    let none = c .before .before in
+    let none = c .before .before .before in
     let test = none .before in
     let made = test .before .before in
     let u = made .before in
-    round-blank _ _ _ (u .unify .ensures) (made .if1 .left) (group-small u) (after-small (u .before)) _ (test .blank .ensures) (none .if2 .taken) _ (c .with-gap .ensures)
+    round-blank _ _ _ (u .unify .ensures) (made .if1 .left) (group-small u) (after-small (u .before)) _ (test .blank .ensures) (none .if2 .taken) _ (c .next-set .ensures)
 
 pass-on-requires : tie.Need-pass-on-requires
 pass-on-requires c κs = search needs
@@ -52,16 +52,16 @@ returns-3 c =
     let made = passed .before .before .before .before .before in
     round-crossed _ _ _ (made .before .unify .ensures) (made .if1 .left) _ (passed .pass-on .ensures) _ (test .crossed .ensures) (crosses .if3 .taken) _ (c .refused .ensures)
 
-with-gap-requires-2 : tie.Need-with-gap-requires-2
-with-gap-requires-2 c κs = search needs
+next-set-requires-2 : tie.Need-next-set-requires-2
+next-set-requires-2 c κs = search needs
 
 returns-4 : tie.Need-returns-4
 returns-4 c =
-    let clear = c .before in
+    let clear = c .before .before in
     let test = clear .before in
     let passed = test .before .before .before .before in
     let made = passed .before .before .before .before .before in
-    round-passed _ _ _ (made .before .unify .ensures) (made .if1 .left) _ (passed .pass-on .ensures) _ (test .crossed .ensures) (clear .if3 .left) _ (c .with-gap2 .ensures)
+    round-passed _ _ _ (made .before .unify .ensures) (made .if1 .left) _ (passed .pass-on .ensures) _ (test .crossed .ensures) (clear .if3 .left) _ (c .next-set2 .ensures)
 
 pub next-round-spec : {M : Type 1} → statement M
 next-round-spec =
@@ -70,11 +70,11 @@ next-round-spec =
     unify-requires
     returns
     blank-requires
-    with-gap-requires
+    next-set-requires
     returns-2
     pass-on-requires
     crossed-requires
     refused-requires
     returns-3
-    with-gap-requires-2
+    next-set-requires-2
     returns-4)

@@ -1,10 +1,13 @@
 -- `merge::unify` meets its contract: what its helpers ensure is what has to be made (proofs/Making.antt).
-use Prim.Native.Nat.{_<_}
+use Prim.Native.Nat.{ℕ, _<_}
 use mathlib.Core.Path.{refl, sym, _∙_}
 use mir.Val.{Fits}
 use mir.Syntax.{w16}
+use lib.Bits.{bitOr, bitAnd}
+use Rattle.meaning.specs.Finite.{Yes}
+use Rattle.tables.specs.Rows.{onDocument}
 use Rattle.tables.proofs.Tested.{not-yes}
-use Rattle.merge.proofs.Making.{unify-differs, unify-labels, unify-well}
+use Rattle.merge.proofs.Making.{unify-differs, unify-labels, unify-document, unify-well}
 use borrow.Author.Needs.{needs}
 use Rattle.merge.proofs.unify.Statement.{statement}
 use Rattle.merge.proofs.unify.Tie as tie
@@ -17,6 +20,18 @@ root-small c = let h : Fits w16 (c .args .f .root) = search needs in h .fits
 
 leaf-small : (c : tie.Start) → c .args .f .leaf < 65536
 leaf-small c = let h : Fits w16 (c .args .f .leaf) = search needs in h .fits
+
+abbrev start : tie.After-union-rows → tie.Start
+start c = c .before .before .before .before .before .before .before .before .before .before .before
+
+abbrev group : tie.After-union-rows → ℕ
+group c = let a = start c .args in bitAnd (bitOr (bitOr (a .x) (a .upper)) (c .union-rows .result)) (bitOr (a .x) (a .lower))
+
+-- where a group is made it has neither leaf nor label beside a root
+bare : (c : tie.Else3) → let shown = c .before .before .before .before in
+    let far = shown .before .before .before .before in
+    ¬ Yes (onDocument (start far .args .f .root) (start far .args .f .leaf) (group far) (shown .label-of .result))
+bare c = not-yes (sym (c .before .on-document .ensures) ∙ c .if3 .left)
 
 meet-requires : tie.Need-meet-requires
 meet-requires c κs = search needs
@@ -68,6 +83,24 @@ returns-2 c =
     unify-labels _ _ _ _ _ _ (x-small s) (s .pre .0) (s .pre .1) (far .union-rows .ensures) (rw (leafy .when .ensures, met .meet .ensures))
     _ (shown .label-of .ensures) (test .two-labels .ensures .two (c .before .if2 .taken)) _ (c .refused2 .ensures)
 
+on-document-requires : tie.Need-on-document-requires
+on-document-requires c κs = search needs
+
+refused-requires-3 : tie.Need-refused-requires-3
+refused-requires-3 c κs = search needs
+
+returns-3 : tie.Need-returns-3
+returns-3 c =
+    let test = c .before .before in
+    let shown = test .before .before .before in
+    let others = shown .before .before .before in
+    let far = others .before in
+    let leafy = far .before in
+    let met = leafy .before in
+    let s = met .before .before .before .before .before .before .before .before .before in
+    unify-document _ _ _ _ _ _ (x-small s) (s .pre .0) (s .pre .1) (far .union-rows .ensures) (rw (leafy .when .ensures, met .meet .ensures))
+    (root-small s) (leaf-small s) _ (shown .label-of .ensures) (sym (test .on-document .ensures) ∙ c .before .if3 .taken) _ (c .refused3 .ensures)
+
 union-rows-requires-3 : tie.Need-union-rows-requires-3
 union-rows-requires-3 c κs = search needs
 
@@ -99,7 +132,7 @@ raise-requires-8 : tie.Need-raise-requires-8
 raise-requires-8 c κs = search needs
 
 paint-requires : tie.Need-paint-requires
-paint-requires c κs = c .before .before .before .before .before .before .before .before .before .before .before .before .label-of .ensures
+paint-requires c κs = c .before .before .before .before .before .before .before .before .before .before .before .before .before .before .label-of .ensures
 
 meet-requires-3 : tie.Need-meet-requires-3
 meet-requires-3 c κs = search needs
@@ -113,8 +146,8 @@ meet-requires-4 c κs = search needs
 gain-requires-2 : tie.Need-gain-requires-2
 gain-requires-2 c κs = search needs
 
-returns-3 : tie.Need-returns-3
-returns-3 c =
+returns-4 : tie.Need-returns-4
+returns-4 c =
     let leaf-met = c .before in
     let root = leaf-met .before in
     let root-met = root .before in
@@ -126,7 +159,8 @@ returns-3 c =
     let below = above .before in
     let parents = below .before in
     let children = parents .before in
-    let free = children .before in
+    let made = children .before in
+    let free = made .before .before in
     let test = free .before in
     let shown = test .before in
     let differs-not = shown .before in
@@ -148,6 +182,7 @@ returns-3 c =
       shown = _;
       is-shown = shown .label-of .ensures;
       only = test .two-labels .ensures .one (free .if2 .left);
+      bare = bare made;
       below = below .raise .ensures;
       above = above .raise2 .ensures;
       child = record { half = _; first = child .before .raise3 .ensures; last = child .raise4 .ensures };
@@ -175,6 +210,9 @@ unify-spec =
     two-labels-requires
     refused-requires-2
     returns-2
+    on-document-requires
+    refused-requires-3
+    returns-3
     union-rows-requires-3
     union-rows-requires-4
     raise-requires
@@ -190,4 +228,4 @@ unify-spec =
     gain-requires
     meet-requires-4
     gain-requires-2
-    returns-3)
+    returns-4)

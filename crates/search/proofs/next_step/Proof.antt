@@ -1,7 +1,8 @@
 -- `search::next_step` meets its contract. Of a parent join the second alternative adds below(x, z), which is settled already, and so is
--- below(a, y) of a join of siblings.
+-- below(a, y) of a join of siblings. Of the document node's join below(r, w) is settled, since r is a root, and comes second.
 use borrow.Author.Needs.{needs}
-use Rattle.search.proofs.Entering.{enters-one, enters-two, joined, step-solved, step-split}
+use Rattle.meaning.specs.Settled.{root-below}
+use Rattle.search.proofs.Entering.{enters-one, enters-two, enters-first, joined, step-solved, step-split}
 use Rattle.search.proofs.next_step.Statement.{statement}
 use Rattle.search.proofs.next_step.Tie as tie
 
@@ -22,6 +23,9 @@ enum-told-3 c = search needs
 
 enum-told-4 : tie.Need-enum-told-4
 enum-told-4 c = search needs
+
+enum-told-5 : tie.Need-enum-told-5
+enum-told-5 c = search needs
 
 returns : tie.Need-returns
 returns c = step-solved _ _ _ (c .before .before .first-join .ensures) (c .enum-told .given .1)
@@ -44,6 +48,12 @@ returns-4 c =
     step-split _ _ _ (j .first-join .ensures) _ (j .before .pre .1 .1) _ (joined (e .found .given .1) (c .enum-told4 .given .1)) _ _
     (λ S q. (enters-one _ S _, enters-two _ S _ _ (q .above)))
 
+returns-5 : tie.Need-returns-5
+returns-5 c =
+    let e = c .before .before .before in let j = e .before .before in
+    step-split _ _ _ (j .first-join .ensures) _ (j .before .pre .1 .1) _ (joined (e .found .given .1) (c .enum-told5 .given .1)) _ _
+    (λ S q. (enters-one _ S _, enters-first _ S _ _ (root-below (q .document) (q .variable))))
+
 pub next-step-spec : {M : Type 1} → statement M
 next-step-spec =
     tie.close
@@ -54,7 +64,9 @@ next-step-spec =
     enum-told-2
     enum-told-3
     enum-told-4
+    enum-told-5
     returns
     returns-2
     returns-3
-    returns-4)
+    returns-4
+    returns-5)
