@@ -12,11 +12,11 @@ use Rattle.meaning.specs.Finite.{Yes, _and_, neg}
 use Rattle.meaning.proofs.Tests.{clash, yes-case, yes-eq, and-left, and-right, is-eq, eq-yes, pick-yes, pick-no}
 use Rattle.rowbits.specs.Bit.{bit}
 use Rattle.tables.specs.Tables.{row, Columns}
-use Rattle.tables.specs.Rows.{gained, meets, Union}
+use Rattle.tables.specs.Rows.{gained, meets, Union, LabelOf}
 use Rattle.tables.proofs.Bits.{in-both, both-in, gained-up, gained-has, gained-case, meets-in, meets-out}
 use Rattle.tables.proofs.Groups.{Twin, One, Two, own, pair}
 use Rattle.tables.proofs.Wider.{Wide}
-use Rattle.merge.specs.Rows.{In, LabelOf, Painted, Spread}
+use Rattle.merge.specs.Rows.{In, Painted, Spread}
 use Rattle.meaning.specs.Closed.{Sharing}
 use Rattle.merge.proofs.Glue.{Cut, mid-twin, twin-cases}
 

@@ -15,11 +15,11 @@ use Rattle.meaning.specs.Finite.{Yes}
 use Rattle.meaning.proofs.Tests.{yes-case, clash, is-eq, eq-yes, pick-yes, pick-no}
 use Rattle.rowbits.specs.Bit.{bit}
 use Rattle.tables.specs.Tables.{row}
-use Rattle.tables.specs.Rows.{without, Lowest, Raised, Union}
+use Rattle.tables.specs.Rows.{without, Lowest, LabelOf, Raised, Union}
 use Rattle.tables.proofs.Bits.{none-in, or-case, or-l, or-r, one-is, one-has, one-small, in-both, both-in, some-in, in-row, or-le, without-in, without-out}
 use Rattle.tables.proofs.Members.{Passed, passed-none, next-in, next-named, passed-more, passed-all}
 use Rattle.tables.proofs.Rises.{Rises, rises, raised-out, raised-keeps, raised-has}
-use Rattle.merge.specs.Rows.{WithGap, LabelOf, TwoLabels, Painted, Spread, Kin, own, to-later, to-earlier, Family}
+use Rattle.merge.specs.Rows.{WithGap, TwoLabels, Painted, Spread, Kin, own, to-later, to-earlier, Family}
 use Rattle.tables.proofs.Tested.{and-yes, yes-and, not-eq, eq-not, not-yes}
 
 -- ---- whether one of them lacks one
@@ -96,15 +96,6 @@ module _ (t : List ℕ) (a b : ℕ) (ha : a < 16) (hb : b < 16) where
       (yes-case (bit (row t a) (w .0)))
 
 -- ---- labels
-
-abbrev pub Unlabelled : List ℕ → ℕ → Type 0
-Unlabelled t i = row t i ≡ 0
-
-pub is-label : (t : List ℕ) (rows x : ℕ) → Yes (bit rows x) → row t x ≢ 0 → LabelOf t rows (row t x)
-is-label t rows x u n = record { none = λ z. absurd (n z); some = λ _. (x, u, refl) }
-
-pub no-label : (t : List ℕ) (rows rest : ℕ) → Passed (Unlabelled t) rows rest → rest ≡ 0 → LabelOf t rows 0
-no-label t rows rest w z = record { none = λ _. passed-all _ rows rest w z; some = λ n. absurd (n refl) }
 
 abbrev pub Only : List ℕ → ℕ → ℕ → Type 0
 Only t l i = row t i ≢ 0 → row t i ≡ l

@@ -18,7 +18,7 @@ use Rattle.meaning.proofs.Least.{settled-rules}
 use Rattle.meaning.proofs.Tests.{clash, no-neg}
 use Rattle.rowbits.specs.Bit.{bit}
 use Rattle.tables.specs.Tables.{row, has}
-use Rattle.tables.specs.Rows.{gained, meets, onDocument, Raised, Union}
+use Rattle.tables.specs.Rows.{gained, meets, onDocument, Raised, Union, LabelOf}
 use Rattle.tables.specs.declared.Facts.{Facts}
 use Rattle.tables.specs.Free.{Bare}
 use Rattle.tables.proofs.Bits.{in-both, both-in, meets-in, meets-out, in-row, or-l}
@@ -28,7 +28,7 @@ use Rattle.tables.proofs.Labels.{label-has, label-is}
 use Rattle.tables.proofs.Rises.{rises, raised-out, raised-in, raised-keeps, raised-has, columns-raised}
 use Rattle.tables.proofs.Wider.{Wide}
 use Rattle.merge.specs.declared.Round.{Round}
-use Rattle.merge.specs.Rows.{In, Gap, LabelOf, Painted}
+use Rattle.merge.specs.Rows.{In, Gap, Painted}
 use Rattle.merge.specs.Merging.{held, waits, Held, Standing, Pending, Through, Grouped, withSiblings, SharesBefore, lacking, UnifiedOf}
 use Rattle.merge.proofs.Glue.{Cut, Glued, Over, Earlier, Later, glued-sharing, glued-apart, glued-bare, glued-siblings, arrived, glued-parent}
 use Rattle.merge.proofs.Reach.{Reach, within, ends, cut, glue}

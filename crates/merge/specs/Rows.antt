@@ -26,11 +26,6 @@ pub record WithGap (t : List ℕ) (rows r : ℕ) : Type 0 where
 abbrev pub NextOf : (below child : List ℕ) (root parents r : ℕ) → Type 0
 NextOf below child root parents r = (WithGap below parents r × (r ≢ 0)) ⊎ ((u : ℕ) × WithGap below parents 0 × Union child root u × WithGap below u r)
 
--- a label of the rows named, or 0 where none has one
-pub record LabelOf (t : List ℕ) (rows l : ℕ) : Type 0 where
-  pub none : l ≡ 0 → (i : ℕ) → Yes (bit rows i) → row t i ≡ 0
-  pub some : l ≢ 0 → (i : ℕ) × Yes (bit rows i) × (row t i ≡ l)
-
 -- one of the rows named has another label than l
 pub record TwoLabels (t : List ℕ) (rows l : ℕ) (r : Bool) : Type 0 where
   pub two : r ≡ true → (i : ℕ) × Yes (bit rows i) × (row t i ≢ 0) × (row t i ≢ l)

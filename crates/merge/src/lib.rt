@@ -4,8 +4,8 @@ ghost use mathlib.Core.Path.{_≡_};
 ghost use mathlib.Core.Bool.{true};
 ghost use Prim.Native.Nat.{_<_, _≤_, _^_};
 ghost use lib.Bits.{bitOr};
-ghost use Rattle.tables.specs.Rows.{Union};
-ghost use Rattle.merge.specs.Rows.{WithGap, NextOf, LabelOf, TwoLabels, Painted, Spread, Family};
+ghost use Rattle.tables.specs.Rows.{Union, LabelOf};
+ghost use Rattle.merge.specs.Rows.{WithGap, NextOf, TwoLabels, Painted, Spread, Family};
 ghost use Rattle.merge.specs.Merging.{UnifiedOf, GivenToFamily, PassedOf, RoundOf, Joining, MergedOf};
 use ids::Var;
 use tables::Facts;
@@ -49,22 +49,6 @@ fn two_with_gap(t: [u16; 16], a: usize, b: usize) -> u16
         return 0;
     }
     rows
-}
-
-// A label of the variables named, or 0 where none has one.
-fn label_of(t: [u8; 16], rows: u16) -> u8
-    ensures { λ r. ⌜ LabelOf t rows r ⌝ }
-{
-    let mut rest = rows;
-    while rest != 0 {
-        let x = tables::lowest(rest);
-        let v = t[x];
-        if v != 0 {
-            return v;
-        }
-        rest = tables::rest(rest);
-    }
-    0
 }
 
 // Whether one of the variables named has another label than l.
@@ -147,7 +131,7 @@ fn unify(f: Facts, x: u16, lower: u16, upper: u16) -> Round
     if tables::meet(others, group) {
         return refused(f);
     }
-    let shown = label_of(label, group);
+    let shown = tables::label_of(label, group);
     if two_labels(label, group, shown) {
         return refused(f);
     }
