@@ -28,7 +28,7 @@ returns-2 : tie.Need-returns-2
 unfolding parentIn
 returns-2 c =
     let n = c .before in
-    c .node-at .ensures ∙ ap (numbered (n .before .before .args .front)) (n .nearest .ensures) ∙ pick-off _ _ _ (yes-not (λ y. n .before .if1 .left (is-eq y)))
+    c .node-at .ensures ∙ ap (numbered (n .before .before .args .element)) (n .nearest .ensures) ∙ pick-off _ _ _ (yes-not (λ y. n .before .if1 .left (is-eq y)))
 
 pub parent-of-spec : {M : Type 1} → statement M
 parent-of-spec = tie.close (tie.spec returns nearest-requires node-at-requires returns-2)
