@@ -24,7 +24,7 @@ use Rattle.readoff.specs.Listing.{groups, listed, Listed, Led, placeIn, 
 use Rattle.readoff.specs.Written.{Recorded, blankAt, placeRecord, FileWritten}
 use Rattle.readoff.proofs.Listing.{length-groups}
 use Rattle.readoff.proofs.Numbering.{element-is, numbered-is}
-use Rattle.readoff.proofs.Meaning.{group-is, places-are}
+use Rattle.readoff.proofs.Meaning.{record-is, places-are}
 use Rattle.readoff.proofs.Preceding.{SayBefore}
 use Rattle.readoff.proofs.Layered.{Layered, order-is, tops-are}
 use Rattle.readoff.proofs.Leading.{led}
@@ -165,5 +165,5 @@ module _ {f : Facts} {n lows : ℕ} {rows : List ℕ} {o : Order} (s : Ordered f
     file-written first old mid late new vs z room bytes a g p d =
         rw (z, first-is)
         (answered n (has f) old mid late new (s .few) room (rw element-exact at a)
-        (recorded-as _ _ _ _ _ _ (group-is f n (s .few) (s .columns) lows (s .low) bytes) (rw (element-exact, numbered-is, groups-are, len-is) at g))
+        (recorded-as _ _ _ _ _ _ (record-is f n (s .few) (s .columns) lows (s .low) bytes) (rw (element-exact, numbered-is, groups-are, len-is) at g))
         (rw (z, first-is, d, groups-are, element-exact, places-are f n (s .few) (s .columns)) at p))

@@ -127,10 +127,10 @@ module _ (f : Facts) (n : ℕ) (few : n ≤ 16) (m : Columns (f .below) (f .abov
           position-eq (near (f .below) (f .above) (rowOf x)) (λ w. nearest n (has f) w x) (order n (has f)) (λ w k. near-is x w h (order-out n (has f) w k .0)),
         )
 
-    pub group-is : ((g : ℕ) → row (f .label) g < 256) → (i : ℕ) → i < length (order n (has f))
+    pub record-is : ((g : ℕ) → row (f .label) g < 256) → (i : ℕ) → i < length (order n (has f))
         → groupRecord (f .below) (f .above) (f .label) n lows (element n (has f)) (order n (has f)) i ≡ nodeBytes (nodeAt n (has f) i) (node n (has f) (getD (order n (has f)) i 0) ∷ [])
     unfolding nodeIn numbered nodeAt
-    group-is bytes i l =
+    record-is bytes i l =
         let x : ℕ = getD (order n (has f)) i 0 in
         rw (parent-is x (order-out n (has f) x (getD-mem (order n (has f)) i l) .0), label-is f n x (bytes x))
 
