@@ -3,12 +3,12 @@ use mathlib.Core.Path.{_≡_, refl, sym, ap, _∙_, subst}
 use mathlib.Core.Logic.{_≢_}
 use mathlib.Core.Bool.{Bool, true, false, _||_, false≢true}
 use mathlib.Core.List.{List, [], _∷_, _++_, append-assoc, append-nil}
-use Prim.Native.Nat.{ℕ, zero, suc, _+_, _-_, _*_, _/_, _%_, _^_, _<_, _≤_}
+use Prim.Native.Nat.{ℕ, zero, suc, _+_, _-_, _*_, _/_, _%_, _^_, _<_, _≤_, suc-le-suc}
 use native.Mathlib.Nat.{le-refl, le-trans, le-step, not-suc-le-zero, mod-lt, div-eq-of-lt, pow-suc}
 use native.Mathlib.Decide.{decLt, ℕ-discrete}
 use native.Mathlib.Omega.{arith}
 use lib.Arith.{lt-one}
-use lib.Bits.{bitAnd, and-mask, or-zero-r}
+use lib.Bits.{bitAnd, and-le-l, and-mask, or-zero-r}
 use lib.Count.{ones, ones-step, ones-cat}
 use lib.Dec.{eqb}
 use lib.Pow.{pow-mono, pow-pos, shr-lt, split}
@@ -40,6 +40,13 @@ pub and-false : (a : Bool) → (a and false) ≡ false
 unfolding _and_
 and-false true = refl
 and-false false = refl
+
+pub and-turn : (a b : Bool) → (a and b) ≡ (b and a)
+unfolding _and_
+and-turn true true = refl
+and-turn true false = refl
+and-turn false true = refl
+and-turn false false = refl
 
 or-false : (a : Bool) → (a || false) ≡ a
 or-false true = refl
@@ -194,6 +201,14 @@ gather-more p k a b t e d g = record {
     each true e y (no q) l =
         bit-with a k y ∙ ap (λ (b : Bool). bit a y || b) (yes-not (λ u. q (is-eq u))) ∙ or-false (bit a y) ∙ g .each y (omega arith)
     each false e y (no q) l = g .each y (omega arith)
+
+-- a row less those of another, where the test asks that as well
+pub gather-except : (p : ℕ → Bool) (n a b r : ℕ) → n ≤ 16 → r ≡ without a b → Gathered n p a → Gathered n (λ y. neg (bit b y) and p y) r
+unfolding without
+gather-except p n a b r few e g = record {
+  small = rw e (le-trans (suc-le-suc (and-le-l a _)) (g .small));
+  each = λ y l. ap (λ (k : ℕ). bit k y) e ∙ bit-without a b y (omega arith) ∙ and-turn _ _ ∙ ap (λ (t : Bool). neg (bit b y) and t) (g .each y l);
+}
 
 pub gathered-picked : (n : ℕ) (p : ℕ → Bool) (r : ℕ) → n ≤ 16 → Gathered n p r → picked 16 (bit r) ≡ picked n p
 gathered-picked n p r h g = picked-stop n 16 (bit r) h (λ y l m. bit-past n r y (g .small) l) ∙ picked-eq n (bit r) p (g .each)

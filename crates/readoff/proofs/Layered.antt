@@ -23,7 +23,7 @@ use Rattle.tables.specs.declared.Facts.{Facts}
 use Rattle.tables.specs.Rows.{gainedOne}
 use Rattle.tables.proofs.Helpers.{gain-off}
 use Rattle.tables.specs.Tables.{row, has, Columns}
-use Rattle.readoff.specs.Rows.{Gathered, overRow, isLow, deep, inLayer}
+use Rattle.readoff.specs.Rows.{Gathered, overRow, isLowest, deep, inLayer}
 use Rattle.readoff.specs.Listing.{inLine, listed}
 use Rattle.readoff.proofs.Bits.{yes-not, and-true, and-false, picked-eq, counted, gather-none, gather-more, gathered-picked}
 use Rattle.readoff.proofs.InLine.{length-in-line}
@@ -58,7 +58,7 @@ module _ (t u : List ℕ) (n lows : ℕ) where
           (getD-set-other rows depth d v 0 q ∙ gain-off false (row rows d) (2 ^ x) refl)
           (g d h)
 
-module _ (f : Facts) (n : ℕ) (few : n ≤ 16) (m : Columns (f .below) (f .above)) (lows : ℕ) (g : Gathered n (isLow (f .below) (f .above)) lows)
+module _ (f : Facts) (n : ℕ) (few : n ≤ 16) (m : Columns (f .below) (f .above)) (lows : ℕ) (g : Gathered n (isLowest (f .below) (f .above) (f .root)) lows)
     (rows : List ℕ) (ls : Layered (f .below) (f .above) n lows n rows) (says : SayBefore f) where
   members-are : (d : ℕ) → d < 17 → picked 16 (bit (row rows d)) ≡ picked n (λ x. lowest n (has f) x and eqb (depth n (has f) x) d)
   unfolding inLayer Layered

@@ -1,12 +1,12 @@
--- Of tables that decide a settled set: the order lists the lowest variable of each group, and no other.
+-- Of tables that decide a settled set: the order lists the lowest variable of each group that is not root, and no other.
 use mathlib.Core.Path.{_≡_, sym, subst, _∙_}
 use mathlib.Core.List.{List, List·Memᴰ}
 use Prim.Native.Nat.{ℕ, _≤_, _<_}
 use native.Mathlib.Decide.{decLe}
 use native.Mathlib.Omega.{arith}
 use lib.Bits.{bitAnd}
-use Rattle.meaning.specs.Constraint.{Fact, below}
-use Rattle.meaning.specs.Settled.{self-below, chain}
+use Rattle.meaning.specs.Constraint.{Fact, below, root}
+use Rattle.meaning.specs.Settled.{self-below, chain, same-root}
 use Rattle.meaning.specs.Finite.{Yes}
 use Rattle.meaning.specs.ReadOff.{FactSet, Decides, same, lowest, order}
 use Rattle.meaning.proofs.Tests.{yes-eq, is-eq, eq-yes, and-left, and-right, and-both, no-neg}
@@ -33,6 +33,10 @@ module _ (n : ℕ) (S : List Fact) (h : FactSet) (d : Decides n S h) where
   unfolding same
   same-chain x y z t u = and-both (below-chain (and-left _ t) (and-left _ u)) (below-chain (and-right _ u) (and-right _ t))
 
+  root-same : (x y : ℕ) → Yes (same h x y) → Yes (h (root x)) → Yes (h (root y))
+  unfolding same
+  root-same x y t q = d .complete (same-root (d .sound (and-left _ t)) (d .sound (and-right _ t)) (d .sound q))
+
 -- ---- of the tables
 
 module _ (f : Facts) (n : ℕ) (few : n ≤ 16) (S : List Fact) (r : Ready n S f) where
@@ -47,9 +51,9 @@ module _ (f : Facts) (n : ℕ) (few : n ≤ 16) (S : List Fact) (r : Ready n S f
       go (yes q) = q
       go (no q) = absurd (w .none x (omega arith) (group-is x x l (omega arith) ∙ same-self n S (has f) (r .decides) x l))
 
-  pub led : Led (f .below) (f .above) n (order n (has f))
-  unfolding lowest
-  led x k l w = (
+  pub led : Led (f .below) (f .above) (f .root) n (order n (has f))
+  unfolding lowest has
+  led x k l under w = (
     order-in n (has f) k (omega (arith, most)) low,
     λ g m. yes-eq _ _
         (λ t. eq-yes (one-lead n (has f) g k (order-out n (has f) g m .1) low (same-chain n S (has f) (r .decides) g x k (sym (group-is x g l (inside g m)) ∙ t) (same-back n (has f) k x same-k))))
@@ -69,4 +73,4 @@ module _ (f : Facts) (n : ℕ) (few : n ≤ 16) (S : List Fact) (r : Ready n S f
       inside g m = omega (arith, order-out n (has f) g m .0)
 
       low : Yes (lowest n (has f) k)
-      low = no-neg (λ t. let q = any-elim k _ t in w .none (q .0) (q .1) (group-is x (q .0) l (omega (arith, small)) ∙ same-chain n S (has f) (r .decides) (q .0) k x (q .2) same-k))
+      low = and-both (no-neg (λ t. under (root-same n S (has f) (r .decides) k x same-k t))) (no-neg (λ t. let q = any-elim k _ t in w .none (q .0) (q .1) (group-is x (q .0) l (omega (arith, small)) ∙ same-chain n S (has f) (r .decides) (q .0) k x (q .2) same-k)))

@@ -12,7 +12,7 @@ use lib.Bits.{bitAnd}
 use lib.Dec.{eqb}
 use lib.ListN.{length, getD, take, drop, set, length-append, length-map, length-set, drop-of-length-le}
 use lib.Seq.{drop-cons, drop-nil, take-suc-set, length-take-le, getD-take, getD-set-same, getD-set-other}
-use Rattle.meaning.specs.Finite.{pick, position}
+use Rattle.meaning.specs.Finite.{Yes, pick, position}
 use Rattle.meaning.proofs.Tests.{pick-yes, pick-no, is-eq, eq-yes}
 use Rattle.meaning.proofs.Lists.{getD-mem}
 use Rattle.rowbits.specs.Bit.{bit}
@@ -136,9 +136,9 @@ unfolding Placing
 placing-all gs t w g m = w g m ∙ zero-add _
 
 -- the place of the lowest of a group is that of the first that is in the group
-pub place-led : (t u : List ℕ) (n : ℕ) (gs ps : List ℕ) → Led t u n gs → Placed gs ps → (x k : ℕ) → x < n → Lowest (bitAnd (row u x) (row t x)) k
+pub place-led : (t u : List ℕ) (root n : ℕ) (gs ps : List ℕ) → Led t u root n gs → Placed gs ps → (x k : ℕ) → x < n → ¬ Yes (bit root x) → Lowest (bitAnd (row u x) (row t x)) k
     → row ps k ≡ position (bit (bitAnd (row u x) (row t x))) gs
-place-led t u n gs ps w p x k l low = let c = w x k l low in p k (c .0) ∙ position-eq (λ y. eqb y k) (bit (bitAnd (row u x) (row t x))) gs (λ g m. sym (c .1 g m))
+place-led t u root n gs ps w p x k l under low = let c = w x k l under low in p k (c .0) ∙ position-eq (λ y. eqb y k) (bit (bitAnd (row u x) (row t x))) gs (λ g m. sym (c .1 g m))
 
 -- ---- the members of a row, put behind the groups
 

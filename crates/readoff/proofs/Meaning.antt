@@ -1,7 +1,8 @@
 -- What the rows say of groups is what the definitions say, where `above` has the columns of `below`.
 use mathlib.Core.Path.{_≡_, refl, sym, ap, _∙_}
 use mathlib.Core.Logic.{⊎-elim}
-use mathlib.Core.Bool.{Bool, true, false}
+use mathlib.Core.Bool.{Bool}
+use mathlib.Core.List.{[], _∷_}
 use Prim.Native.Nat.{ℕ, zero, suc, _-_, _^_, _≤_, _<_, suc-le-suc}
 use native.Mathlib.Nat.{le-refl, le-trans, le-step}
 use native.Mathlib.Omega.{arith}
@@ -9,8 +10,8 @@ use lib.Bits.{bitAnd, and-le-l, mask-lt}
 use lib.Dec.{eqb}
 use lib.ListN.{length, getD}
 use lib.Pow.{pow-mono}
-use Rattle.meaning.specs.Finite.{Yes, _and_, neg, one, smallest, tab}
-use Rattle.meaning.specs.ReadOff.{same, over, lowest, depth, order, nodeAt, place, nearest, parentOf, labelOf, places}
+use Rattle.meaning.specs.Finite.{Yes, pick, _and_, neg, one, smallest, tab}
+use Rattle.meaning.specs.ReadOff.{same, over, lowest, depth, order, element, nodeAt, place, nearest, parentOf, labelOf, nodeBytes, places}
 use Rattle.meaning.proofs.Tests.{clash, yes-case, is-eq, eq-yes, self-eq, and-left, and-right, and-both, no-neg}
 use Rattle.meaning.proofs.Finite.{any-intro, any-elim, smallest-passes, smallest-none}
 use Rattle.meaning.proofs.Lists.{getD-mem}
@@ -21,17 +22,11 @@ use Rattle.tables.specs.declared.Facts.{Facts}
 use Rattle.tables.specs.Rows.{without}
 use Rattle.tables.specs.Tables.{row, has, Columns}
 use Rattle.tables.proofs.Bits.{all-has}
-use Rattle.readoff.specs.Rows.{Gathered, overRow, isLow, deep, near}
-use Rattle.readoff.specs.Listing.{placeIn, parentIn, nodeIn}
-use Rattle.readoff.proofs.Bits.{and-true, bit-meet, bit-without, sum-eq, any-eq, counted, ones-zero, empty}
+use Rattle.readoff.specs.Rows.{Gathered, overRow, isLow, isLowest, deep, near}
+use Rattle.readoff.specs.Numbering.{numbered}
+use Rattle.readoff.specs.Listing.{placeIn, parentIn, nodeIn, groupRecord}
+use Rattle.readoff.proofs.Bits.{and-true, and-turn, bit-meet, bit-without, sum-eq, any-eq, counted, ones-zero, empty}
 use Rattle.readoff.proofs.Listing.{position-eq}
-
-and-turn : (a b : Bool) → (a and b) ≡ (b and a)
-unfolding _and_
-and-turn true true = refl
-and-turn true false = refl
-and-turn false true = refl
-and-turn false false = refl
 
 tab-eq : (n : ℕ) (f g : ℕ → ℕ) → ((x : ℕ) → x < n → f x ≡ g x) → tab n f ≡ tab n g
 unfolding tab
@@ -97,14 +92,15 @@ module _ (f : Facts) (n : ℕ) (few : n ≤ 16) (m : Columns (f .below) (f .abov
 
   -- ---- the lowest variables, and the depth of each
 
-  low-is : (x : ℕ) → x < 16 → isLow (f .below) (f .above) x ≡ lowest n (has f) x
-  unfolding isLow lowest
+  low-is : (x : ℕ) → x < 16 → isLowest (f .below) (f .above) (f .root) x ≡ lowest n (has f) x
+  unfolding isLowest isLow lowest has
   low-is x h =
-      empty x (bitAnd (bitAnd (row (f .above) x) (row (f .below) x)) (2 ^ x - 1)) (omega arith) (mask-lt (bitAnd (row (f .above) x) (row (f .below) x)) x)
+      ap (λ (b : Bool). neg (bit (f .root) x) and b)
+      (empty x (bitAnd (bitAnd (row (f .above) x) (row (f .below) x)) (2 ^ x - 1)) (omega arith) (mask-lt (bitAnd (row (f .above) x) (row (f .below) x)) x)
       ∙ ap neg (any-eq x _ (λ y. same (has f) y x) (λ y l. bit-meet (bitAnd (row (f .above) x) (row (f .below) x)) (2 ^ x - 1) y
-      ∙ ap (λ (b : Bool). bit (bitAnd (row (f .above) x) (row (f .below) x)) y and b) (all-has x y l) ∙ and-true _ ∙ same-is x y h (omega arith)))
+      ∙ ap (λ (b : Bool). bit (bitAnd (row (f .above) x) (row (f .below) x)) y and b) (all-has x y l) ∙ and-true _ ∙ same-is x y h (omega arith))))
 
-  module _ (lows : ℕ) (g : Gathered n (isLow (f .below) (f .above)) lows) where
+  module _ (lows : ℕ) (g : Gathered n (isLowest (f .below) (f .above) (f .root)) lows) where
     pub lows-is : (x : ℕ) → x < n → bit lows x ≡ lowest n (has f) x
     lows-is x l = g .each x l ∙ low-is x (omega arith)
 
@@ -123,28 +119,28 @@ module _ (f : Facts) (n : ℕ) (few : n ≤ 16) (m : Columns (f .below) (f .abov
         let p : 2 ^ n ≤ 2 ^ 16 = pow-mono few in
         sym (ones-zero (bitAnd (rowOf x) lows) (le-trans (above-small x) p)) ∙ ap (λ (k : ℕ). eqb k 0) (depth-is x h)
 
-    parent-is : (x : ℕ) → x < n → parentIn (f .below) (f .above) lows (nodeAt n (has f)) (order n (has f)) (rowOf x) ≡ parentOf n (has f) x
-    unfolding parentIn parentOf
+    parent-is : (x : ℕ) → x < n → parentIn (f .below) (f .above) lows (element n (has f)) (order n (has f)) (rowOf x) ≡ parentOf n (has f) x
+    unfolding parentIn parentOf numbered nodeAt
     parent-is x h =
         rw (
           top-is x (omega arith),
           position-eq (near (f .below) (f .above) (rowOf x)) (λ w. nearest n (has f) w x) (order n (has f)) (λ w k. near-is x w h (order-out n (has f) w k .0)),
         )
 
-    pub node-is : ((g : ℕ) → row (f .label) g < 256) → (i : ℕ) → i < length (order n (has f))
-        → nodeIn (f .below) (f .above) (f .label) n lows (nodeAt n (has f)) (order n (has f)) (getD (order n (has f)) i 0) ≡ node n (has f) (getD (order n (has f)) i 0)
-    unfolding nodeIn
-    node-is bytes i l =
+    pub record-is : ((g : ℕ) → row (f .label) g < 256) → (i : ℕ) → i < length (order n (has f))
+        → groupRecord (f .below) (f .above) (f .label) n lows (element n (has f)) (order n (has f)) i ≡ nodeBytes (nodeAt n (has f) i) (node n (has f) (getD (order n (has f)) i 0) ∷ [])
+    unfolding nodeIn numbered nodeAt
+    record-is bytes i l =
         let x : ℕ = getD (order n (has f)) i 0 in
         rw (parent-is x (order-out n (has f) x (getD-mem (order n (has f)) i l) .0), label-is f n x (bytes x))
 
-  place-is : (x : ℕ) → x < n → placeIn (f .below) (f .above) (nodeAt n (has f)) (order n (has f)) x ≡ place n (has f) x
-  unfolding placeIn place
+  place-is : (x : ℕ) → x < n → placeIn (f .below) (f .above) (f .root) (element n (has f)) (order n (has f)) x ≡ place n (has f) x
+  unfolding placeIn place numbered nodeAt has
   place-is x h =
-      ap (nodeAt n (has f))
+      ap (λ (i : ℕ). pick (bit (f .root) x) 0 (nodeAt n (has f) i))
       (position-eq (bit (bitAnd (row (f .above) x) (row (f .below) x))) (λ g. same (has f) g x) (order n (has f))
       (λ g k. same-is x g (omega arith) (let l = order-out n (has f) g k .0 in omega arith)))
 
-  pub places-are : tab n (placeIn (f .below) (f .above) (nodeAt n (has f)) (order n (has f))) ≡ places n (has f)
+  pub places-are : tab n (placeIn (f .below) (f .above) (f .root) (element n (has f)) (order n (has f))) ≡ places n (has f)
   unfolding places
   places-are = tab-eq n _ _ place-is

@@ -16,7 +16,8 @@ use Rattle.ids.specs.declared.Node.{Node}
 use Rattle.readoff.specs.declared.Order.{Order}
 use Rattle.readoff.specs.Rows.{overRow}
 use Rattle.readoff.specs.Listing.{groups, Small, nodeNumbers, parentIn, nodeIn, groupRecord}
-use Rattle.readoff.specs.Written.{Recorded, Put, nodeRecord, placeRecord}
+use Rattle.readoff.specs.Numbering.{numbered}
+use Rattle.readoff.specs.Written.{Recorded, Put, placeRecord}
 use Rattle.readoff.proofs.Listing.{member-at}
 
 -- ---- one record
@@ -88,6 +89,10 @@ quads-at f d cons four (a ∷ xs) i (suc v) j l m =
     ∙ ap (λ (bs : List ℕ). getD bs (length (f i (a ∷ [])) + (v * 4 + j)) 0) (cons i a xs) ∙ getD-append-add (f i (a ∷ [])) (f (suc i) xs) (v * 4 + j) 0
     ∙ quads-at f d cons four xs (suc i) v j (le-of-suc-le-suc l) m ∙ ap (λ (k : ℕ). getD (f k (getD xs v d ∷ [])) j 0) (omega arith)
 
+-- the record at a number of a list of nodes
+abbrev pub nodeRecord : List NodeRecord → ℕ → List ℕ
+nodeRecord ns v = nodeBytes v (getD ns v blankRecord ∷ [])
+
 pub nodeBytes-at : (ns : List NodeRecord) (v j : ℕ) → v < length ns → j < 4 → getD (nodeBytes 0 ns) (v * 4 + j) 0 ≡ getD (nodeRecord ns v) j 0
 unfolding nodeBytes
 nodeBytes-at ns v j l m = quads-at nodeBytes blankRecord (λ i a xs. refl) (λ i a. refl) ns 0 v j l m ∙ ap (λ (k : ℕ). getD (nodeBytes k (getD ns v blankRecord ∷ [])) j 0) (zero-add v)
@@ -97,11 +102,11 @@ unfolding placeBytes
 placeBytes-at vs x j l m = quads-at placeBytes 0 (λ i a xs. refl) (λ i a. refl) vs 0 x j l m ∙ ap (λ (k : ℕ). getD (placeBytes k (getD vs x 0 ∷ [])) j 0) (zero-add x)
 
 -- the record that is computed is that of the group
-pub group-record : (t u labels : List ℕ) (n lows : ℕ) (number : ℕ → ℕ) (o : Order) → length (o .group) ≡ 16 → Small o → (i : ℕ) → i < o .len → (own above up : ℕ) → own ≡ number i
-    → above ≡ overRow n (row u (getD (o .group) i record { 0 = 0 } .0)) (row t (getD (o .group) i record { 0 = 0 } .0)) → up ≡ parentIn t u lows number (groups o) above
-    → (1 ∷ own ∷ up ∷ row labels (getD (o .group) i record { 0 = 0 } .0) ∷ []) ≡ groupRecord t u labels n lows number (groups o) i
+pub group-record : (t u labels : List ℕ) (n lows element : ℕ) (o : Order) → length (o .group) ≡ 16 → Small o → (i : ℕ) → i < o .len → (own above up : ℕ) → own ≡ numbered element i
+    → above ≡ overRow n (row u (getD (o .group) i record { 0 = 0 } .0)) (row t (getD (o .group) i record { 0 = 0 } .0)) → up ≡ parentIn t u lows element (groups o) above
+    → (1 ∷ own ∷ up ∷ row labels (getD (o .group) i record { 0 = 0 } .0) ∷ []) ≡ groupRecord t u labels n lows element (groups o) i
 unfolding nodeIn nodeBytes
-group-record t u labels n lows number o long s i l own above up z a e = rw (member-at o long s i l, z, e, a)
+group-record t u labels n lows element o long s i l own above up z a e = rw (member-at o long s i l, z, e, a)
 
 -- ---- the assignment, variable by variable
 

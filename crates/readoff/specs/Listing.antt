@@ -16,6 +16,7 @@ use Rattle.ids.specs.declared.Var.{Var}
 use Rattle.ids.specs.declared.Node.{Node}
 use Rattle.readoff.specs.declared.Order.{Order}
 use Rattle.readoff.specs.Rows.{overRow, near}
+use Rattle.readoff.specs.Numbering.{numbered}
 
 -- the numbers of the groups' variables
 unfoldable pub groups : Order → List ℕ
@@ -56,25 +57,26 @@ pub record Listed (gs : List ℕ) (o : Order) : Type 0 where
 abbrev pub Placed : List ℕ → List ℕ → Type 0
 Placed gs t = (g : ℕ) → List·Memᴰ g gs → row t g ≡ position (λ y. eqb y g) gs
 
--- of the group of each variable below n its lowest one is in a list, and no other
-abbrev pub Led : (t u : List ℕ) (n : ℕ) (gs : List ℕ) → Type 0
-Led t u n gs = (x k : ℕ) → x < n → Lowest (bitAnd (row u x) (row t x)) k → List·Memᴰ k gs × ((g : ℕ) → List·Memᴰ g gs → bit (bitAnd (row u x) (row t x)) g ≡ eqb g k)
+-- of the group of each variable below n that is not root its lowest one is in a list, and no other
+abbrev pub Led : (t u : List ℕ) (root n : ℕ) (gs : List ℕ) → Type 0
+Led t u root n gs = (x k : ℕ) → x < n → ¬ Yes (bit root x) → Lowest (bitAnd (row u x) (row t x)) k
+    → List·Memᴰ k gs × ((g : ℕ) → List·Memᴰ g gs → bit (bitAnd (row u x) (row t x)) g ≡ eqb g k)
 
 -- the numbers of the first n nodes
 unfoldable pub nodeNumbers : ℕ → List Node → List ℕ
 nodeNumbers n vs = map (λ (v : Node). v .0) (take n vs)
 
--- the node of a variable, where gs are the groups in order and their nodes are numbered so
-unfoldable pub placeIn : (t u : List ℕ) (number : ℕ → ℕ) (gs : List ℕ) → ℕ → ℕ
-placeIn t u number gs x = number (position (bit (bitAnd (row u x) (row t x))) gs)
+-- the node of a variable, where gs are the groups in order; those that are root are on the document node
+unfoldable pub placeIn : (t u : List ℕ) (root element : ℕ) (gs : List ℕ) → ℕ → ℕ
+placeIn t u root element gs x = pick (bit root x) 0 (numbered element (position (bit (bitAnd (row u x) (row t x))) gs))
 
 -- the parent of a group with this row of variables over it
-unfoldable pub parentIn : (t u : List ℕ) (lows : ℕ) (number : ℕ → ℕ) (gs : List ℕ) → ℕ → ℕ
-parentIn t u lows number gs above = pick (eqb (bitAnd above lows) 0) 0 (number (position (near t u above) gs))
+unfoldable pub parentIn : (t u : List ℕ) (lows element : ℕ) (gs : List ℕ) → ℕ → ℕ
+parentIn t u lows element gs above = pick (eqb (bitAnd above lows) 0) element (numbered element (position (near t u above) gs))
 
-unfoldable pub nodeIn : (t u labels : List ℕ) (n lows : ℕ) (number : ℕ → ℕ) (gs : List ℕ) → ℕ → NodeRecord
-nodeIn t u labels n lows number gs g = record { up = parentIn t u lows number gs (overRow n (row u g) (row t g)); label = row labels g }
+unfoldable pub nodeIn : (t u labels : List ℕ) (n lows element : ℕ) (gs : List ℕ) → ℕ → NodeRecord
+nodeIn t u labels n lows element gs g = record { up = parentIn t u lows element gs (overRow n (row u g) (row t g)); label = row labels g }
 
 -- the record of the group at a place
-abbrev pub groupRecord : (t u labels : List ℕ) (n lows : ℕ) (number : ℕ → ℕ) (gs : List ℕ) → ℕ → List ℕ
-groupRecord t u labels n lows number gs i = nodeBytes (number i) (nodeIn t u labels n lows number gs (getD gs i 0) ∷ [])
+abbrev pub groupRecord : (t u labels : List ℕ) (n lows element : ℕ) (gs : List ℕ) → ℕ → List ℕ
+groupRecord t u labels n lows element gs i = nodeBytes (numbered element i) (nodeIn t u labels n lows element gs (getD gs i 0) ∷ [])

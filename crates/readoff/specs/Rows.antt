@@ -1,5 +1,5 @@
 -- What the rows of the tables say of groups: which variables are over one, which are the lowest of their group, and how deep one is.
--- t is the table `below` and u its columns, `above`.
+-- t is the table `below` and u its columns, `above`; the variables in `root` are on the document node, and no group.
 use mathlib.Core.Path.{_≡_}
 use mathlib.Core.Bool.{Bool}
 use mathlib.Core.List.{List}
@@ -7,7 +7,7 @@ use Prim.Native.Nat.{ℕ, _-_, _^_, _<_}
 use lib.Bits.{bitAnd}
 use lib.Count.{ones}
 use lib.Dec.{eqb}
-use Rattle.meaning.specs.Finite.{_and_}
+use Rattle.meaning.specs.Finite.{_and_, neg}
 use Rattle.rowbits.specs.Bit.{bit}
 use Rattle.tables.specs.Rows.{without}
 use Rattle.tables.specs.Tables.{row}
@@ -25,6 +25,10 @@ module _ (t u : List ℕ) where
   -- no smaller variable is the same
   unfoldable pub isLow : ℕ → Bool
   isLow x = eqb (bitAnd (bitAnd (row u x) (row t x)) (2 ^ x - 1)) 0
+
+  -- x stands for its group, which is not root
+  unfoldable pub isLowest : ℕ → ℕ → Bool
+  isLowest root x = neg (bit root x) and isLow x
 
   -- how many of the lowest variables are over x
   unfoldable pub deep : ℕ → ℕ → ℕ → ℕ

@@ -5,7 +5,7 @@ use mathlib.Core.List.{List, [], _∷_, _++_}
 use Prim.Native.Nat.{ℕ, _+_, _*_, _≤_, _<_}
 use lib.ListN.{length, getD, drop}
 use Rattle.meaning.specs.Constraint.{Fact}
-use Rattle.meaning.specs.ReadOff.{FactSet, NodeRecord, blankRecord, nodeBytes, placeBytes, answerFile}
+use Rattle.meaning.specs.ReadOff.{FactSet, blankRecord, nodeBytes, placeBytes, answerFile}
 use Rattle.tables.specs.Tables.{has, showing, Ready}
 use Rattle.tables.specs.declared.Facts.{Facts}
 
@@ -19,10 +19,11 @@ pub record Recorded (number : ℕ → ℕ) (bytes : ℕ → List ℕ) (k : ℕ) 
 abbrev pub Put : ℕ → List ℕ → List ℕ → List ℕ → Type 0
 Put v bytes old new = Recorded (λ i. v) (λ i. bytes) 1 old new
 
--- the records of a list of nodes, and of the nodes of the variables
-abbrev pub nodeRecord : List NodeRecord → ℕ → List ℕ
-nodeRecord ns v = nodeBytes v (getD ns v blankRecord ∷ [])
+-- the record of a blank node on node 0
+abbrev pub blankAt : ℕ → List ℕ
+blankAt v = nodeBytes v (blankRecord ∷ [])
 
+-- the records of the nodes of the variables
 abbrev pub placeRecord : List ℕ → ℕ → List ℕ
 placeRecord vs x = placeBytes x (getD vs x 0 ∷ [])
 
@@ -33,5 +34,5 @@ pub record FileWritten (n : ℕ) (h : FactSet) (old : List ℕ) (r : ℕ) (new :
   pub most : r ≤ 136
 
 -- so of any settled set whose rows these are
-abbrev pub WrittenOf : (below above after label : List ℕ) → ℕ → List ℕ → ℕ → List ℕ → Type 0
-WrittenOf b a s l n old r new = (S : List Fact) (g : Facts) → Ready n S (showing b a s l g) → FileWritten n (has (showing b a s l g)) old r new
+abbrev pub WrittenOf : (below above after label : List ℕ) (root n : ℕ) → List ℕ → ℕ → List ℕ → Type 0
+WrittenOf b a s l root n old r new = (S : List Fact) (g : Facts) → Ready n S (showing b a s l root g) → FileWritten n (has (showing b a s l root g)) old r new

@@ -1,9 +1,9 @@
-// The answer file of settled tables: a node for each group of same variables, by depth, then siblings in their order and otherwise by lowest
-// variable, and the node of each variable.
+// The answer file of settled tables: the document node, with the variables that are root on it, and a blank element unless one group stands next under
+// it; a node for each group of the other variables, by depth, then siblings in their order and otherwise by lowest variable; and the node of each variable.
 ghost use mathlib.Core.Path.{_≡_};
 ghost use mathlib.Core.Logic.{_≢_};
 ghost use mathlib.Core.List.{List, [], _∷_, _++_};
-ghost use Prim.Native.Nat.{ℕ, _+_, _-_, _*_, _^_, _<_, _≤_};
+ghost use Prim.Native.Nat.{ℕ, suc, _+_, _-_, _*_, _^_, _<_, _≤_};
 ghost use lib.Bits.{bitAnd};
 ghost use lib.Count.{ones};
 ghost use lib.Dec.{eqb};
@@ -14,10 +14,10 @@ ghost use Rattle.rowbits.specs.Bit.{bit};
 ghost use Rattle.tables.specs.Rows.{without};
 ghost use Rattle.tables.specs.Tables.{row, showing, Ready};
 ghost use Rattle.tables.specs.declared.Facts.{Facts};
-ghost use Rattle.readoff.specs.Rows.{Gathered, overRow, isLow, inLayer, near};
-ghost use Rattle.readoff.specs.Numbering.{frontOf, numbered, inFront};
+ghost use Rattle.readoff.specs.Rows.{Gathered, overRow, isLowest, inLayer, near};
+ghost use Rattle.readoff.specs.Numbering.{elementOf, numbered};
 ghost use Rattle.readoff.specs.Listing.{groups, Small, Strict, Earliest, inLine, listed, Listed, Placed, Led, nodeNumbers, placeIn, parentIn, groupRecord};
-ghost use Rattle.readoff.specs.Written.{Recorded, Put, nodeRecord, placeRecord, WrittenOf};
+ghost use Rattle.readoff.specs.Written.{Recorded, Put, blankAt, placeRecord, WrittenOf};
 use ids::Node;
 use ids::Var;
 
@@ -25,11 +25,6 @@ use ids::Var;
 struct Order {
     group: [Var; 16],
     len: usize,
-}
-
-// What is put in front of the groups' nodes, by which these are numbered.
-struct Front {
-    blank: usize,
 }
 
 // The variables below n that are over one, which has these rows of what is above and below it.
@@ -54,10 +49,10 @@ fn is_low(up: u16, down: u16, x: Var) -> bool
     up & down & tables::all(x.0 as usize) == 0
 }
 
-// The lowest variables of the groups.
-fn lows(below: [u16; 16], above: [u16; 16], n: usize) -> u16
+// The lowest variables of the groups. Those that are root are on the document node, and no group.
+fn lows(below: [u16; 16], above: [u16; 16], root: u16, n: usize) -> u16
     requires { ⌜ n ≤ 16 ⌝ }
-    ensures { λ r. ⌜ Gathered n (isLow below above) r ⌝ }
+    ensures { λ r. ⌜ Gathered n (isLowest below above root) r ⌝ }
 {
     let mut a: u16 = 0;
     for x in 0..n {
@@ -65,7 +60,7 @@ fn lows(below: [u16; 16], above: [u16; 16], n: usize) -> u16
         let down = below[x];
         a = tables::gain_one(is_low(up, down, Var(x as u8)), a, x);
     }
-    a
+    tables::except(a, root)
 }
 
 // The groups of each depth. A depth is a count of sixteen bits, so at most 16.
@@ -174,56 +169,67 @@ fn nearest(order: Order, over: u16, below: [u16; 16], above: [u16; 16]) -> usize
     len
 }
 
-// A blank node, unless there is exactly one group at the top.
-fn front_of(top: u16) -> Front
-    ensures { λ r. ⌜ r ≡ frontOf (ones top) ⌝ }
+// 1 if a blank element stands next under the document node: unless exactly one group does.
+fn element_of(top: u16) -> u8
+    ensures { λ r. ⌜ r ≡ elementOf (ones top) ⌝ }
 {
     if count(top) == 1 {
-        return Front { blank: 0 };
+        return 0;
     }
-    Front { blank: 1 }
+    1
 }
 
-// The node of the group at a place of the order.
-fn node_at(front: Front, place: usize) -> Node
-    requires { ⌜ numbered front place < 256 ⌝ }
-    ensures { λ r. ⌜ r .0 ≡ numbered front place ⌝ }
+// The node of the group at a place of the order, behind the document node and the blank element.
+fn node_at(element: u8, place: usize) -> Node
+    requires { ⌜ numbered element place < 256 ⌝ }
+    ensures { λ r. ⌜ r .0 ≡ numbered element place ⌝ }
 {
-    Node((front.blank + place) as u8)
+    Node((1 + element as usize + place) as u8)
 }
 
-// The parent of a group, where these variables are over it.
+// The parent of a group, where these variables are over it. Next under the document node that is the blank element, node 1, or else node 0.
 fn parent_of(
     order: Order,
     over: u16,
     lows: u16,
     below: [u16; 16],
     above: [u16; 16],
-    front: Front,
+    element: u8,
 ) -> Node
-    requires { ⌜ Small order × (numbered front (order .len) < 256) ⌝ }
-    ensures { λ r. ⌜ r .0 ≡ parentIn below above lows (numbered front) (groups order) over ⌝ }
+    requires { ⌜ Small order × (numbered element (order .len) < 256) ⌝ }
+    ensures { λ r. ⌜ r .0 ≡ parentIn below above lows element (groups order) over ⌝ }
 {
     if over & lows == 0 {
-        return Node(0);
+        return Node(element);
     }
-    node_at(front, nearest(order, over, below, above))
+    node_at(element, nearest(order, over, below, above))
 }
 
-// The node of each variable: that of the lowest of its group.
-fn assign(order: Order, below: [u16; 16], above: [u16; 16], front: Front, n: usize) -> [Node; 16]
-    requires { ⌜ Small order × (numbered front (order .len) < 256) × (n ≤ 16) × Led below above n (groups order) ⌝ }
-    ensures { λ r. ⌜ nodeNumbers n r ≡ tab n (placeIn below above (numbered front) (groups order)) ⌝ }
+// The node of each variable: the document node, or that of the lowest of its group.
+fn assign(
+    order: Order,
+    below: [u16; 16],
+    above: [u16; 16],
+    root: u16,
+    element: u8,
+    n: usize,
+) -> [Node; 16]
+    requires { ⌜ Small order × (numbered element (order .len) < 256) × (n ≤ 16) × Led below above root n (groups order) ⌝ }
+    ensures { λ r. ⌜ nodeNumbers n r ≡ tab n (placeIn below above root element (groups order)) ⌝ }
 {
     let first = Node(0);
     let mut nodes = [first; 16];
     let at = places(order);
     for x in 0..n {
+        if rowbits::has(root, x) {
+            nodes[x] = Node(0);
+            continue;
+        }
         let up = above[x];
         let down = below[x];
         let low = tables::lowest(up & down);
         let place = at[low];
-        nodes[x] = node_at(front, place as usize);
+        nodes[x] = node_at(element, place as usize);
     }
     nodes
 }
@@ -254,13 +260,14 @@ fn put_place(answer: &mut [u8], number: usize, own: Var, node: Node)
     put(answer, number, 2, own.0, node.0, 0);
 }
 
-// The nodes that are added.
-fn put_front(answer: &mut [u8], front: Front)
-    requires { ⌜ length (inFront front) * 4 ≤ length (now answer) ⌝ }
-    ensures { λ _. ⌜ Recorded (λ v. v) (nodeRecord (inFront front)) (length (inFront front)) (now (answer .entry)) (now (answer .exit)) ⌝ }
+// The document node and the blank element.
+fn put_front(answer: &mut [u8], element: u8)
+    requires { ⌜ (element ≤ 1) × (suc element * 4 ≤ length (now answer)) ⌝ }
+    ensures { λ _. ⌜ Recorded (λ v. v) blankAt (suc element) (now (answer .entry)) (now (answer .exit)) ⌝ }
 {
-    if front.blank == 1 {
-        put_node(answer, Node(0), Node(0), 0);
+    put_node(answer, Node(0), Node(0), 0);
+    if element == 1 {
+        put_node(answer, Node(1), Node(0), 0);
     }
 }
 
@@ -272,11 +279,11 @@ fn put_nodes(
     above: [u16; 16],
     label: [u8; 16],
     lows: u16,
-    front: Front,
+    element: u8,
     n: usize,
 )
-    requires { ⌜ Small order × (numbered front (order .len) < 256) × (n ≤ 16) × (numbered front (order .len) * 4 ≤ length (now answer)) ⌝ }
-    ensures { λ _. ⌜ Recorded (numbered front) (groupRecord below above label n lows (numbered front) (groups order)) (order .len) (now (answer .entry)) (now (answer .exit)) ⌝ }
+    requires { ⌜ Small order × (numbered element (order .len) < 256) × (n ≤ 16) × (numbered element (order .len) * 4 ≤ length (now answer)) ⌝ }
+    ensures { λ _. ⌜ Recorded (numbered element) (groupRecord below above label n lows element (groups order)) (order .len) (now (answer .entry)) (now (answer .exit)) ⌝ }
 {
     let len = order.len;
     for i in 0..len {
@@ -285,8 +292,8 @@ fn put_nodes(
         let up = above[x];
         let down = below[x];
         let l = label[x];
-        let parent = parent_of(order, over(up, down, n), lows, below, above, front);
-        put_node(answer, node_at(front, i), parent, l);
+        let parent = parent_of(order, over(up, down, n), lows, below, above, element);
+        put_node(answer, node_at(element, i), parent, l);
     }
 }
 
@@ -307,23 +314,24 @@ pub fn read_off(
     above: [u16; 16],
     after: [u16; 16],
     label: [u8; 16],
+    root: u16,
     n: usize,
     answer: &mut [u8],
 ) -> usize
-    requires { ⌜ (n ≤ 16) × (136 ≤ length (now answer)) × ((S : List Fact) × (g : Facts) × Ready n S (showing below above after label g)) ⌝ }
-    ensures { λ r. ⌜ WrittenOf below above after label n (now (answer .entry)) r (now (answer .exit)) ⌝ }
+    requires { ⌜ (n ≤ 16) × (136 ≤ length (now answer)) × ((S : List Fact) × (g : Facts) × Ready n S (showing below above after label root g)) ⌝ }
+    ensures { λ r. ⌜ WrittenOf below above after label root n (now (answer .entry)) r (now (answer .exit)) ⌝ }
 {
-    let low = lows(below, above, n);
+    let low = lows(below, above, root, n);
     let layer = layers(below, above, low, n);
     let order = in_order(layer, after, n);
     let top = layer[0];
-    let front = front_of(top);
-    put_front(answer, front);
-    put_nodes(answer, order, below, above, label, low, front, n);
+    let element = element_of(top);
+    put_front(answer, element);
+    put_nodes(answer, order, below, above, label, low, element, n);
     let len = order.len;
-    let size = node_at(front, len);
+    let size = node_at(element, len);
     let first = size.0 as usize;
-    let nodes = assign(order, below, above, front, n);
+    let nodes = assign(order, below, above, root, element, n);
     put_places(answer, first, nodes, n);
     (first + n) * 4
 }

@@ -1,17 +1,17 @@
--- `readoff::lows` meets its contract: at x the row holds the lowest variables below x.
+-- `readoff::lows` meets its contract: at x the row holds the lowest variables below x, of roots too, which are left out at the end.
 use mathlib.Core.Path.{_≡_}
 use Prim.Native.Nat.{_≤_, _-_}
-use Rattle.readoff.specs.Rows.{Gathered, isLow}
-use Rattle.readoff.proofs.Bits.{gather-none, gather-more}
+use Rattle.readoff.specs.Rows.{Gathered, isLow, isLowest}
+use Rattle.readoff.proofs.Bits.{gather-none, gather-more, gather-except}
 use borrow.Author.Needs.{needs}
 use Rattle.readoff.proofs.lows.Statement.{statement}
 use Rattle.readoff.proofs.lows.Tie as tie
 
 abbrev Inv-loop : tie.InvT-loop
-Inv-loop n below above a₀ x₀ a x = (x ≤ n) × Gathered x (isLow below above) a
+Inv-loop root n below above a₀ x₀ a x = (x ≤ n) × Gathered x (isLow below above) a
 
 abbrev μ-loop : tie.MeasureT-loop
-μ-loop n below above a₀ x₀ a x = n - x
+μ-loop root n below above a₀ x₀ a x = n - x
 
 loop-holds : tie.Need-loop-holds Inv-loop μ-loop
 loop-holds c = (search needs, gather-none _)
@@ -28,8 +28,8 @@ mul-down c = search needs
 array-read-down : tie.Need-array-read-down Inv-loop μ-loop
 array-read-down c = search needs
 
-cast-t17 : tie.Need-cast-t17 Inv-loop μ-loop
-cast-t17 c = search needs
+cast-t18 : tie.Need-cast-t18 Inv-loop μ-loop
+cast-t18 c = search needs
 
 is-low-requires : tie.Need-is-low-requires Inv-loop μ-loop
 is-low-requires c κs = search needs
@@ -47,8 +47,16 @@ loop-again : tie.Need-loop-again Inv-loop μ-loop
 unfolding isLow
 loop-again c = (search needs, gather-more _ _ _ _ _ (c .before .is-low .ensures) (c .gain-one .ensures) (c .before .before .before .loop .inv .1))
 
+except-requires : tie.Need-except-requires Inv-loop μ-loop
+except-requires c κs = search needs
+
 returns : tie.Need-returns Inv-loop μ-loop
-returns c = let e : c .before .loop .x ≡ c .before .before .args .n = search needs in rw (← e) (c .before .loop .inv .1)
+unfolding isLowest
+returns c =
+    let i = c .before .before in
+    let s = i .before in
+    let e : i .loop .x ≡ s .args .n = search needs in
+    gather-except (isLow (s .args .t1) (s .args .t2)) _ (i .loop .a) (s .args .root) _ (s .pre) (c .except .ensures) (rw (← e) (i .loop .inv .1))
 
 pub lows-spec : {M : Type 1} → statement M
 lows-spec =
@@ -61,10 +69,11 @@ lows-spec =
     array-read-up
     mul-down
     array-read-down
-    cast-t17
+    cast-t18
     is-low-requires
     gain-one-requires
     add-x
     loop-less
     loop-again
+    except-requires
     returns)

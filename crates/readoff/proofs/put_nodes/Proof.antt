@@ -15,10 +15,10 @@ use Rattle.readoff.proofs.put_nodes.Statement.{statement}
 use Rattle.readoff.proofs.put_nodes.Tie as tie
 
 abbrev Inv-loop : tie.InvT-loop
-Inv-loop answer₀ lows front n order below above label len i₀ answer i = (i ≤ len) × Recorded (numbered front) (groupRecord below above label n lows (numbered front) (groups order)) i answer₀ answer
+Inv-loop answer₀ lows element n order below above label len i₀ answer i = (i ≤ len) × Recorded (numbered element) (groupRecord below above label n lows element (groups order)) i answer₀ answer
 
 abbrev μ-loop : tie.MeasureT-loop
-μ-loop answer₀ lows front n order below above label len i₀ answer i = len - i
+μ-loop answer₀ lows element n order below above label len i₀ answer i = len - i
 
 order-long : (s : tie.Start Inv-loop μ-loop) → length (s .args .t2 .group) ≡ 16
 order-long s = search (needs, length-mapped)
@@ -69,7 +69,7 @@ put-node-requires : tie.Need-put-node-requires Inv-loop μ-loop
 put-node-requires c κs =
     let l = c .before .before .before .before .before .before in
     let s = l .before .before .before in
-    omega (arith, c .node-at .ensures, numbered-later (s .args .front) _ _ (l .loop-test .taken), s .pre .3, l .before .loop .inv .1 .long)
+    omega (arith, c .node-at .ensures, numbered-later (s .args .element) _ _ (l .loop-test .taken), s .pre .3, l .before .loop .inv .1 .long)
 
 add-i : tie.Need-add-i Inv-loop μ-loop
 add-i c = search needs
@@ -85,7 +85,7 @@ loop-again c =
     let i = l .before in
     let s = i .before .before in (
       search needs,
-      recorded-more (numbered (s .args .front)) _ (numbered-later (s .args .front)) (i .loop .i) _ _ (s .args .answer .now) (i .loop .answer) (c .before .before .put-node .last .0) (a .node-at .ensures)
+      recorded-more (numbered (s .args .element)) _ (numbered-later (s .args .element)) (i .loop .i) _ _ (s .args .answer .now) (i .loop .answer) (c .before .before .put-node .last .0) (a .node-at .ensures)
           (group-record _ _ _ _ _ _ _ (order-long s) (s .pre .0) (i .loop .i) (l .loop-test .taken) _ _ _ (a .node-at .ensures) (p .before .over .ensures) (p .parent-of .ensures)) (i .loop .inv .1) (c .before .before .put-node .ensures),
     )
 

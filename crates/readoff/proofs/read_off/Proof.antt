@@ -2,14 +2,14 @@
 use mathlib.Core.List.{List}
 use Prim.Native.Nat.{ℕ, _+_, _<_, _≤_}
 use native.Mathlib.Omega.{arith}
-use lib.ListN.{length, getD}
+use lib.ListN.{getD}
 use mir.Syntax.{w8, w16}
 use mir.Val.{Fits}
 use borrow.Author.Needs.{needs}
 use Rattle.meaning.specs.Constraint.{Fact}
 use Rattle.tables.specs.Tables.{row, showing, Ready}
 use Rattle.tables.specs.declared.Facts.{Facts}
-use Rattle.readoff.specs.Numbering.{numbered, inFront}
+use Rattle.readoff.specs.Numbering.{numbered}
 use Rattle.readoff.proofs.Preceding.{SayBefore, says-before, strict}
 use Rattle.readoff.proofs.Layered.{Layered}
 use Rattle.readoff.proofs.Listing.{length-mapped}
@@ -25,7 +25,7 @@ after-rows c g = let e : Fits w16 (getD (c .args .after) g 0) = search needs in 
 
 -- tables with the rows, whatever the others are; and those that are ready
 abbrev tables : tie.Start → Facts → Facts
-tables s g = showing (s .args .below) (s .args .above) (s .args .after) (s .args .label) g
+tables s g = showing (s .args .below) (s .args .above) (s .args .after) (s .args .label) (s .args .root) g
 
 abbrev ready : tie.Start → Facts
 ready s = tables s (s .pre .2 .1)
@@ -59,12 +59,12 @@ module _ (c : tie.After-in-order) where
   ready-ordered = let p = began .pre .2 in ordered (p .0) (p .1) (p .2)
 
 -- the bounds that the writers need
-module _ (c : tie.After-front-of) where
+module _ (c : tie.After-element-of) where
   abbrev s : tie.Start
   s = c .before .before .before .before .before
 
-  few : (numbered (c .front-of .result) (c .before .in-order .result .len) + s .args .n ≤ 33) × (length (inFront (c .front-of .result)) ≤ 33)
-  few = few-records (ready-ordered (c .before)) (c .front-of .result) (c .front-of .ensures)
+  few : (numbered (c .element-of .result) (c .before .in-order .result .len) + s .args .n ≤ 34) × (c .element-of .result ≤ 1)
+  few = few-records (ready-ordered (c .before)) (c .element-of .result) (c .element-of .ensures)
 
 -- the places before the one where the number of nodes is known
 module _ (c : tie.After-node-at) where
@@ -74,10 +74,10 @@ module _ (c : tie.After-node-at) where
   abbrev front-put : tie.After-put-front
   front-put = nodes-put .before .before .before .before
 
-  abbrev known : tie.After-front-of
+  abbrev known : tie.After-element-of
   known = front-put .before .before
 
-  all-few : c .node-at .result .0 + s known .args .n ≤ 33
+  all-few : c .node-at .result .0 + s known .args .n ≤ 34
   all-few = omega (arith, c .node-at .ensures, few known .0)
 
 lows-requires : tie.Need-lows-requires
@@ -98,11 +98,11 @@ in-order-requires c κs =
 array-read-top : tie.Need-array-read-top
 array-read-top c = search needs
 
-front-of-requires : tie.Need-front-of-requires
-front-of-requires c κs = search needs
+element-of-requires : tie.Need-element-of-requires
+element-of-requires c κs = search needs
 
 put-front-requires : tie.Need-put-front-requires
-put-front-requires c κs = omega (arith, few (c .before) .1, s (c .before) .pre .1)
+put-front-requires c κs = (few (c .before) .1, omega (arith, few (c .before) .1, s (c .before) .pre .1))
 
 put-nodes-requires : tie.Need-put-nodes-requires
 put-nodes-requires c κs =
@@ -147,7 +147,7 @@ returns c =
     let a = g .before .before in
     let b = known a in
     λ S t r.
-    file-written (ordered (b .before) S t r) (b .front-of .result) (b .front-of .ensures)
+    file-written (ordered (b .before) S t r) (b .element-of .result) (b .element-of .ensures)
     (a .node-at .result .0) (s b .args .answer .now) (front-put a .put-front .last .0) (nodes-put a .put-nodes .last .0) (p .put-places .last .0) _ (a .node-at .ensures) (s b .pre .1) (label-bytes (s b))
     (front-put a .put-front .ensures) (nodes-put a .put-nodes .ensures) (p .put-places .ensures) (g .assign .ensures)
 
@@ -159,7 +159,7 @@ read-off-spec =
     layers-requires
     in-order-requires
     array-read-top
-    front-of-requires
+    element-of-requires
     put-front-requires
     put-nodes-requires
     node-at-requires

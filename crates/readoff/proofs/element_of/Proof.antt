@@ -1,23 +1,23 @@
--- `readoff::front_of` meets its contract.
+-- `readoff::element_of` meets its contract.
 use mathlib.Core.Path.{sym, _∙_}
 use Rattle.meaning.specs.Finite.{one, neg}
 use Rattle.meaning.proofs.Tests.{eq-yes, is-eq}
-use Rattle.readoff.specs.Numbering.{frontOf}
+use Rattle.readoff.specs.Numbering.{elementOf}
 use Rattle.readoff.proofs.Bits.{yes-not}
 use borrow.Author.Needs.{needs}
-use Rattle.readoff.proofs.front_of.Statement.{statement}
-use Rattle.readoff.proofs.front_of.Tie as tie
+use Rattle.readoff.proofs.element_of.Statement.{statement}
+use Rattle.readoff.proofs.element_of.Tie as tie
 
 count-requires : tie.Need-count-requires
 count-requires c κs = search needs
 
 returns : tie.Need-returns
-unfolding one neg frontOf
+unfolding one neg elementOf
 returns c = rw (eq-yes (sym (c .before .count .ensures .0) ∙ c .if1 .taken))
 
 returns-2 : tie.Need-returns-2
-unfolding one neg frontOf
+unfolding one neg elementOf
 returns-2 c = rw (yes-not (λ y. c .if1 .left (c .before .count .ensures .0 ∙ is-eq y)))
 
-pub front-of-spec : {M : Type 1} → statement M
-front-of-spec = tie.close (tie.spec count-requires returns returns-2)
+pub element-of-spec : {M : Type 1} → statement M
+element-of-spec = tie.close (tie.spec count-requires returns returns-2)
