@@ -37,13 +37,21 @@ fn answer_questions() {
     mark_answer(b"a_35_bytes");
     mark_answer(b"a_late_node");
     mark_answer(b"a_empty");
+    mark_answer(b"a_one_node");
     mark_answer(b"a_257_nodes");
     mark_answer(b"a_long");
     mark_answer(b"a_long_bad_end");
     mark_answer(b"a_long_odd");
     mark_answer(b"a_own_parent");
+    mark_answer(b"a_document_named");
+    mark_answer(b"a_second_child");
     mark_answer(b"a_258_places");
     mark_answer(b"a_node_4");
+}
+
+// As few nodes as can be: the document node and its child.
+fn smallest() {
+    marking::mark_files(b"c_two_nodes", b"a_two_nodes");
 }
 
 // As many records, variables and nodes as can be.
@@ -64,6 +72,7 @@ fn main() {
     met_and_unmet();
     constraint_questions();
     answer_questions();
+    smallest();
     largest();
     unreadable();
 }
