@@ -57,15 +57,15 @@ module _ (A n : ℕ) (cs : List Constraint) (few : vars cs ≤ n) (r : Searched)
   solves-spent e = let l = was-spent A n _ _ r reports e in by-search .spent-iff .0 l ∙ ap (λ (z : Searched). a-spent (z .count)) (sym (reports .spent l))
 
   -- and of a tree, tables that it may be read off from
-  pub solves-tree : r .end ≡ Tree → (R : List Fact) × (g : Facts) × Ready n R (showing (r .below) (r .above) (r .after) (r .label) g)
-      × (solve A n cs ≡ a-tree (r .count) (answerFile n (has (showing (r .below) (r .above) (r .after) (r .label) g))))
+  pub solves-tree : r .end ≡ Tree → (R : List Fact) × (g : Facts) × Ready n R (showing (r .below) (r .above) (r .after) (r .label) (r .root) g)
+      × (solve A n cs ≡ a-tree (r .count) (answerFile n (has (showing (r .below) (r .above) (r .after) (r .label) (r .root) g))))
   solves-tree e =
       let w = was-tree A n _ _ r reports e in
       let q = reports .tree (w .within) (w .is) in (
         w .tree,
         q .2 .0,
         q .2 .1,
-        by-search .tree (w .within) (w .is) _ (q .2 .1 .decides) ∙ ap (λ (c : ℕ). a-tree c (answerFile n (has (showing (r .below) (r .above) (r .after) (r .label) (q .2 .0))))) (sym (q .1)),
+        by-search .tree (w .within) (w .is) _ (q .2 .1 .decides) ∙ ap (λ (c : ℕ). a-tree c (answerFile n (has (showing (r .below) (r .above) (r .after) (r .label) (r .root) (q .2 .0))))) (sym (q .1)),
       )
 
   pub decides : record { end = r .end; count = r .count } ≡ decidedAs (solve A n cs)

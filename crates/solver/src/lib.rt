@@ -76,7 +76,7 @@ pub fn solve_over(constraints: &[u8], n: usize, answer: &mut [u8], allowance: u3
             let above = found.above;
             let after = found.after;
             let label = found.label;
-            let bytes = readoff::read_off(below, above, after, label, n, answer);
+            let bytes = readoff::read_off(below, above, after, label, found.root, n, answer);
             Verdict::Tree {
                 bytes,
                 count: found.count,
