@@ -21,11 +21,11 @@ leaf-small : (c : tie.Start) → c .args .f .leaf < 65536
 leaf-small c = let h : Fits w16 (c .args .f .leaf) = search needs in h .fits
 
 -- the group is tested for a leaf and for a label beside a root
-tested : (c : tie.After-on-document) → let shown = c .before .before .before in
+document-seen : (c : tie.After-on-document) → let shown = c .before .before .before in
     let far = shown .before .before .before .before in
     let s = far .before .before .before .before .before .before .before .before .before .before .before .args in
     c .on-document .result ≡ onDocument (s .f .root) (s .f .leaf) (bitAnd (bitOr (bitOr (s .x) (s .upper)) (far .union-rows .result)) (bitOr (s .x) (s .lower))) (shown .label-of .result)
-tested c = c .on-document .ensures
+document-seen c = c .on-document .ensures
 
 meet-requires : tie.Need-meet-requires
 meet-requires c κs = search needs
@@ -93,7 +93,7 @@ returns-3 c =
     let met = leafy .before in
     let s = met .before .before .before .before .before .before .before .before .before in
     unify-document _ _ _ _ _ _ (x-small s) (s .pre .0) (s .pre .1) (far .union-rows .ensures) (rw (leafy .when .ensures, met .meet .ensures))
-    (root-small s) (leaf-small s) _ (shown .label-of .ensures) (sym (tested test) ∙ c .before .if3 .taken) _ (c .refused3 .ensures)
+    (root-small s) (leaf-small s) _ (shown .label-of .ensures) (sym (document-seen test) ∙ c .before .if3 .taken) _ (c .refused3 .ensures)
 
 union-rows-requires-3 : tie.Need-union-rows-requires-3
 union-rows-requires-3 c κs = search needs
@@ -176,7 +176,7 @@ returns-4 c =
       shown = _;
       is-shown = shown .label-of .ensures;
       only = test .two-labels .ensures .one (free .if2 .left);
-      bare = λ y. not-yes (sym (tested (bare .before)) ∙ bare .if3 .left) y;
+      bare = λ y. not-yes (sym (document-seen (bare .before)) ∙ bare .if3 .left) y;
       below = below .raise .ensures;
       above = above .raise2 .ensures;
       child = record { half = _; first = child .before .raise3 .ensures; last = child .raise4 .ensures };
