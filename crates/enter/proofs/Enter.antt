@@ -127,7 +127,11 @@ module _ (n : ℕ) (few : n ≤ 16) (S : List Fact) (f : Facts) (a b : ℕ) (ha 
       unfolding has
       raised-ready e = record {
         inside = inside';
-        free = free-clash n S' raised decides' (record { apart = no-clash .apart; clear = uncrossed-clear n few raised ancestors' within' c test e; bare = record { no-leaf = no-clash .bare .no-leaf; no-label = no-clash .bare .no-label } });
+        free = free-clash n S' raised decides' (record {
+          apart = no-clash .apart;
+          clear = uncrossed-clear n few raised ancestors' within' c test e;
+          bare = record { no-leaf = no-clash .bare .no-leaf; no-label = no-clash .bare .no-label };
+        });
         decides = decides';
         mirrored = record { parents = r .mirrored .parents; ancestors = ancestors'; siblings = r .mirrored .siblings };
       }

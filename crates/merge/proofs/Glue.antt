@@ -1,6 +1,6 @@
--- Gluing a set of facts that is closed under the rules, but perhaps for that of one parent: below is widened (tables/proofs/Wider), and what is
--- the same afterwards shares its facts (tables/proofs/Groups). Where no leaf gets anything properly below it, the set so glued is closed
--- again but for what passes through those that were glued, and only their parents have yet to become the same.
+-- Gluing a set of facts that is closed under the rules, but perhaps for those of one parent and one element: below is widened
+-- (tables/proofs/Wider), and what is the same afterwards shares its facts (tables/proofs/Groups). Where no leaf gets anything properly below
+-- it, the set so glued is closed again but for what passes through those that were glued, and of parents only theirs have yet to become the same.
 use mathlib.Core.Logic.{_⊎_, inl, inr, ⊎-elim}
 use Prim.Native.Nat.{ℕ, _<_}
 use Rattle.meaning.specs.Tree.{Var, Label}

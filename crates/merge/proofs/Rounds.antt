@@ -52,9 +52,9 @@ narrow n T f x r a p = go (ℕ-discrete r 0)
     }
 
 -- the children of the document node wait where no other variables do: all roots are the same, so that they are children of one
-elements : (n : ℕ) (T : List Fact) (f : Facts) (x : ℕ) → Union (f .child) (f .root) x → Pending n T 0 f → Pending n T x f
+elements-pending : (n : ℕ) (T : List Fact) (f : Facts) (x : ℕ) → Union (f .child) (f .root) x → Pending n T 0 f → Pending n T x f
 unfolding has
-elements n T f x u p = record {
+elements-pending n T f x u p = record {
   standing = p .standing;
   siblings = p .siblings;
   clear = p .clear;
@@ -80,7 +80,7 @@ elements n T f x u p = record {
 module _ (f : Facts) (parents next : ℕ) (h : NextOf (f .below) (f .child) (f .root) parents next) where
   next-pending : (n : ℕ) (T : List Fact) → Pending n T parents f → Pending n T next f
   next-pending n T p =
-      ⊎-elim (λ a. narrow n T f parents next (a .0) p) (λ a. narrow n T f (a .0) next (a .3) (elements n T f (a .0) (a .2) (narrow n T f parents 0 (a .1) p))) h
+      ⊎-elim (λ a. narrow n T f parents next (a .0) p) (λ a. narrow n T f (a .0) next (a .3) (elements-pending n T f (a .0) (a .2) (narrow n T f parents 0 (a .1) p))) h
 
   next-gap : next ≢ 0 → Gap (f .below) next
   next-gap z = ⊎-elim (λ a. gap (a .0)) (λ a. gap (a .3)) h

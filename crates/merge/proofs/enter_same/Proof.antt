@@ -73,7 +73,11 @@ loop-again : tie.Need-loop-again Inv-loop μ-loop
 loop-again c =
     let e = c .before .before .before .before .before in
     let u = e .before in
-    ((λ T p. u .next-round .ensures .goes-on (e .if1 .left) _ T (u .before .before .loop .inv .0 T p)), u .next-round .ensures .top (e .if1 .left), λ z. (u .next-round .ensures .gap (e .if1 .left) z, c .before .union-rows .ensures, c .union-rows2 .ensures))
+    let r = u .next-round .ensures in (
+      (λ T p. r .goes-on (e .if1 .left) _ T (u .before .before .loop .inv .0 T p)),
+      r .top (e .if1 .left),
+      λ z. (r .gap (e .if1 .left) z, c .before .union-rows .ensures, c .union-rows2 .ensures),
+    )
 
 returns-2 : tie.Need-returns-2 Inv-loop μ-loop
 returns-2 c =

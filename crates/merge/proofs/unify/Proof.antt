@@ -1,10 +1,9 @@
 -- `merge::unify` meets its contract: what its helpers ensure is what has to be made (proofs/Making.antt).
-use Prim.Native.Nat.{ℕ, _<_}
-use mathlib.Core.Path.{refl, sym, _∙_}
+use Prim.Native.Nat.{_<_}
+use mathlib.Core.Path.{_≡_, refl, sym, _∙_}
 use mir.Val.{Fits}
 use mir.Syntax.{w16}
 use lib.Bits.{bitOr, bitAnd}
-use Rattle.meaning.specs.Finite.{Yes}
 use Rattle.tables.specs.Rows.{onDocument}
 use Rattle.tables.proofs.Tested.{not-yes}
 use Rattle.merge.proofs.Making.{unify-differs, unify-labels, unify-document, unify-well}
@@ -21,17 +20,12 @@ root-small c = let h : Fits w16 (c .args .f .root) = search needs in h .fits
 leaf-small : (c : tie.Start) → c .args .f .leaf < 65536
 leaf-small c = let h : Fits w16 (c .args .f .leaf) = search needs in h .fits
 
-abbrev start : tie.After-union-rows → tie.Start
-start c = c .before .before .before .before .before .before .before .before .before .before .before
-
-abbrev group : tie.After-union-rows → ℕ
-group c = let a = start c .args in bitAnd (bitOr (bitOr (a .x) (a .upper)) (c .union-rows .result)) (bitOr (a .x) (a .lower))
-
--- where a group is made it has neither leaf nor label beside a root
-bare : (c : tie.Else3) → let shown = c .before .before .before .before in
+-- the group is tested for a leaf and for a label beside a root
+document-seen : (c : tie.After-on-document) → let shown = c .before .before .before in
     let far = shown .before .before .before .before in
-    ¬ Yes (onDocument (start far .args .f .root) (start far .args .f .leaf) (group far) (shown .label-of .result))
-bare c = not-yes (sym (c .before .on-document .ensures) ∙ c .if3 .left)
+    let s = far .before .before .before .before .before .before .before .before .before .before .before .args in
+    c .on-document .result ≡ onDocument (s .f .root) (s .f .leaf) (bitAnd (bitOr (bitOr (s .x) (s .upper)) (far .union-rows .result)) (bitOr (s .x) (s .lower))) (shown .label-of .result)
+document-seen c = c .on-document .ensures
 
 meet-requires : tie.Need-meet-requires
 meet-requires c κs = search needs
@@ -99,7 +93,7 @@ returns-3 c =
     let met = leafy .before in
     let s = met .before .before .before .before .before .before .before .before .before in
     unify-document _ _ _ _ _ _ (x-small s) (s .pre .0) (s .pre .1) (far .union-rows .ensures) (rw (leafy .when .ensures, met .meet .ensures))
-    (root-small s) (leaf-small s) _ (shown .label-of .ensures) (sym (test .on-document .ensures) ∙ c .before .if3 .taken) _ (c .refused3 .ensures)
+    (root-small s) (leaf-small s) _ (shown .label-of .ensures) (sym (document-seen test) ∙ c .before .if3 .taken) _ (c .refused3 .ensures)
 
 union-rows-requires-3 : tie.Need-union-rows-requires-3
 union-rows-requires-3 c κs = search needs
@@ -159,8 +153,8 @@ returns-4 c =
     let below = above .before in
     let parents = below .before in
     let children = parents .before in
-    let made = children .before in
-    let free = made .before .before in
+    let bare = children .before in
+    let free = bare .before .before in
     let test = free .before in
     let shown = test .before in
     let differs-not = shown .before in
@@ -182,7 +176,7 @@ returns-4 c =
       shown = _;
       is-shown = shown .label-of .ensures;
       only = test .two-labels .ensures .one (free .if2 .left);
-      bare = bare made;
+      bare = λ y. not-yes (sym (document-seen (bare .before)) ∙ bare .if3 .left) y;
       below = below .raise .ensures;
       above = above .raise2 .ensures;
       child = record { half = _; first = child .before .raise3 .ensures; last = child .raise4 .ensures };
