@@ -16,8 +16,8 @@ use solver::Verdict;
 // What `solve` allows itself.
 pub const ALLOWANCE: u32 = 1_000_000;
 
-// Room for every text: a first line of at most 16 bytes and 33 records of at most 17.
-pub const TEXT_BYTES: usize = 577;
+// Room for every text: a first line of at most 16 bytes and 34 records of at most 17.
+pub const TEXT_BYTES: usize = 594;
 
 // Room for the records of every text of paths: as much as question 7 asks of the buffer that is lent for them.
 pub const RECORDS_BYTES: usize = 1024;
@@ -137,7 +137,7 @@ fn put_mark(out: &mut [u8], verdict: marker::Verdict) -> usize
 }
 
 fn put_solved(out: &mut [u8], verdict: Verdict, answer: &[u8]) -> usize
-    requires { ⌜ (577 ≤ length (now out)) × (length (now answer) ≤ 136) ⌝ }
+    requires { ⌜ (594 ≤ length (now out)) × (length (now answer) ≤ 136) ⌝ }
     ensures { λ r. ⌜ Put (now (out .entry)) 0 (solverText verdict (now (answer .entry))) r (now (out .exit)) ⌝ }
 {
     match verdict {
