@@ -7,8 +7,8 @@
 //   against differ and label before anything is written, and then its parents are merged in turn.
 // - Only rows whose ancestors grew can have got a join, so the rows known to have none are kept as masks.
 // - The first alternative works on a copy of the state, the second on the state itself.
-// - All is compiled four times, for sets with and without a before record, and with and without a root record: a set without the one carries
-//   no rows of siblings, a set without the other none of the document node, and neither asks anything of them.
+// - All is compiled four times, for sets with and without a before record, and with and without a root record: a set without before carries
+//   no rows of siblings and asks nothing of them, and a set without a root asks nothing of the document node.
 use crate::gate;
 
 type Rows = [u16; 16];
@@ -109,7 +109,7 @@ struct Given {
     differ: Rows,
     label: [u8; 16],
     leaf: u16,
-    // variables that are root, all the same, and variables that have a child
+    // variables that are root, which are the same, and variables that have a child
     root: u16,
     parents: u16,
 }
@@ -412,7 +412,7 @@ impl<const K: usize, const R: bool> Search<'_, K, R> {
         }
     }
 
-    // The end of a line without another join than of the root, or its second alternative entered.
+    // Where there is no other join: the end of the line, or nothing if it goes on with the second alternative of a root join.
     #[inline(always)]
     fn last(&mut self, s: &mut State<K>) -> Option<End> {
         if R {
@@ -425,7 +425,7 @@ impl<const K: usize, const R: bool> Search<'_, K, R> {
         Some(End::Tree)
     }
 
-    // w is below the outermost element, or on the document node.
+    // A root join: w below the outermost element y, then on the document node r.
     fn rooted(&mut self, s: &mut State<K>, r: usize, y: usize, w: usize) -> Option<End> {
         if !self.choose() {
             return Some(End::Spent);
@@ -474,9 +474,11 @@ impl<const K: usize> State<K> {
                 up |= union(&self.above, down);
             }
             let group = up & down;
-            // what is above all opens no join
-            let opened = if R && group & given.root != 0 { 0 } else { down };
-            let rooted = R && group & given.root != 0 && group & given.parents & !self.above[low(given.root)] != 0;
+            let root = R && group & given.root != 0;
+            // members that bring children to the document node
+            let brought = root && group & given.parents & !self.above[low(given.root)] != 0;
+            // what is above all opens no join; of the group one opens for all, since they have the same rows
+            let opened = if root { 0 } else { down & !group | one(low(group)) };
             if given.clashes(group) || !self.enter(up, down, opened) {
                 return false;
             }
@@ -494,12 +496,9 @@ impl<const K: usize> State<K> {
                 self.parent = raised(&self.parent, family, parents);
                 next = self.apart(parents);
             }
-            if R && next == 0 {
-                let root = low(given.root);
-                // else no variable has become a child of the document node that is not the same as an old one
-                if rooted || K != 0 && family != group && parents & self.above[root] != 0 {
-                    next = self.under_root(root);
-                }
+            // else the document node has no new child, or one in the group of the old ones
+            if R && next == 0 && (brought || K != 0 && family != group) {
+                next = self.under_root(low(given.root));
             }
             if next == 0 {
                 return true;
@@ -716,7 +715,7 @@ fn read_off<const K: usize, const R: bool>(s: &State<K>, label: &[u8; 16], n: us
         layers[depth] |= one(x);
     }
     let records: &mut [[u8; 4]] = answer.as_chunks_mut().0;
-    // the document node is the one group of the first layer, or none's
+    // the document node, which is the one group of the first layer if a variable is root
     records[0] = [1, 0, 0, 0];
     let mut len = 1;
     let mut top = 0;
@@ -756,8 +755,8 @@ fn read_off<const K: usize, const R: bool>(s: &State<K>, label: &[u8; 16], n: us
     len * 4
 }
 
-// Solves a set whose before facts, if there are any, have K rows; R is 1 if it has a root. A call, so that a set without them has no part
-// in the other's frame.
+// Solves a set whose before facts, if there are any, have K rows; R tells whether it has a root. A call, so that a set without them has
+// no part in the other's frame.
 #[inline(never)]
 fn search<const K: usize, const R: bool>(facts: &Facts, n: usize, answer: &mut [u8], allowance: u32) -> u64 {
     let Some((given, mut state)) = settled::<K, R>(facts, n) else {
