@@ -115,6 +115,20 @@ struct Given {
 }
 
 impl Given {
+    // What is asked only of a set with a root.
+    #[inline(always)]
+    fn add_root(&mut self, children: &Rows) {
+        let mut never_root = self.leaf;
+        for x in 0..16 {
+            self.parents |= ((children[x] != 0) as u16) << x;
+            never_root |= ((self.label[x] != 0) as u16) << x;
+        }
+        // a leaf or a label on the document node is a clash: as if they differed from it
+        for r in Members(self.root) {
+            self.differ[r] |= never_root;
+        }
+    }
+
     // Whether a group has differ(x, x) or two labels.
     #[inline(always)]
     fn clashes(&self, group: u16) -> bool {
@@ -639,13 +653,11 @@ fn settled<const K: usize, const R: bool>(facts: &Facts, n: usize) -> Option<(Gi
     let mut below = [0; 16];
     for x in 0..16 {
         given.differ[x] = rows[1][x] | rows[3][x] | rows[5][x];
-        given.parents |= ((rows[1][x] != 0) as u16) << x;
         below[x] = rows[1][x] | rows[2][x] | rows[3][x] | rows[4][x] | columns[4][x];
         below[x] |= if R && root & 1 << x != 0 { all } else { 1 << x };
     }
-    // a leaf or a label on the document node is a clash: as if they differed from it
-    for r in Members(if R { root } else { 0 }) {
-        given.differ[r] |= (0..16).fold(leaf, |set, x| set | ((labels[1][x] != 0) as u16) << x);
+    if R {
+        given.add_root(&rows[1]);
     }
     let given_parents = columns[1];
     let mut has_parent = 0;
