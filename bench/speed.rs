@@ -268,8 +268,8 @@ fn days() -> [Day; 3] {
     ]
 }
 
-fn time_day(Day { name, sets: day }: &Day) {
-    head(&format!("(b) a day of 40,000 {name}, ns"));
+fn time_day(mark: &str, Day { name, sets: day }: &Day) {
+    head(&format!("{mark:<3} a day of 40,000 {name}, ns"));
     let mut answers = [[0u8; BUFFER]; 2];
     let [a, b] = &mut answers;
     let whole = |solve: Solver, answer: &mut [u8]| {
@@ -377,7 +377,9 @@ fn main() {
     agree(&inputs, &days, 200_000);
     readers::agree(100_000);
     time_files(&inputs);
-    days.iter().for_each(time_day);
+    for (mark, day) in ["(b)", "", ""].iter().zip(&days) {
+        time_day(mark, day);
+    }
     time_marker();
     time_gate(&inputs, &days);
     time_growth();
