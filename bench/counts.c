@@ -63,5 +63,5 @@ int main(int argc, char **argv)
     }
     fclose(counts);
     printf("counts: %d benchmark files have their verdict and count, each in a thread of %d bytes\n", files, CUDRETH_STACK);
-    return files == 24 ? 0 : 1;
+    return files == 35 ? 0 : 1;
 }

@@ -34,11 +34,11 @@ pub fn free(rng: &mut Rng, n: usize, records: usize, often: &[u8]) -> Vec<u8> {
     file
 }
 
-// Records that one tree of `nodes` nodes meets; `wrong` in a hundred of the sets get one record that need not be met.
+// Records that one tree of `nodes` nodes, 2 or more, meets; `wrong` in a hundred of the sets get one record that need not be met.
 pub fn planted(rng: &mut Rng, n: usize, nodes: usize, records: usize, wrong: usize, often: &[u8]) -> Vec<u8> {
-    // a new node hangs near the last ones, so that trees are neither stars nor chains
-    let parent: Vec<usize> = (0..nodes).map(|v| if v == 0 { 0 } else { v - 1 - rng.below(v.min(3)) }).collect();
-    let label: Vec<u8> = (0..nodes).map(|_| 1 + rng.below(3) as u8).collect();
+    // a new node hangs near the last ones, so that trees are neither stars nor chains; the document node has one child and no label
+    let parent: Vec<usize> = (0..nodes).map(|v| if v < 2 { 0 } else { v - 1 - rng.below(3.min(v - 1)) }).collect();
+    let label: Vec<u8> = (0..nodes).map(|v| if v == 0 { 0 } else { 1 + rng.below(3) as u8 }).collect();
     let place: Vec<usize> = (0..n).map(|_| rng.below(nodes)).collect();
     let above = |u: usize, mut v: usize| {
         while v > u {
@@ -92,22 +92,25 @@ pub fn planted(rng: &mut Rng, n: usize, nodes: usize, records: usize, wrong: usi
 pub const MIXED: [u8; 16] = [1, 1, 1, 1, 2, 2, 2, 3, 3, 4, 5, 5, 6, 7, 8, 8];
 const CROWDED: [u8; 12] = [1, 2, 2, 2, 2, 2, 2, 3, 5, 5, 4, 8];
 const MERGING: [u8; 12] = [1, 1, 1, 1, 2, 2, 4, 4, 7, 7, 5, 8];
-// The same with before.
+const ROOTED: [u8; 12] = [1, 1, 1, 1, 2, 5, 5, 6, 6, 6, 7, 8];
+// The same with more roots, and with before.
+pub const MIXED_ROOT: [u8; 17] = [1, 1, 1, 1, 2, 2, 2, 3, 3, 4, 5, 5, 6, 6, 7, 8, 8];
 pub const MIXED_BEFORE: [u8; 20] = [1, 1, 1, 1, 2, 2, 2, 3, 3, 4, 5, 5, 6, 7, 8, 8, 9, 9, 9, 9];
 const CROWDED_BEFORE: [u8; 12] = [1, 2, 2, 2, 2, 2, 2, 3, 5, 9, 9, 8];
 const MERGING_BEFORE: [u8; 14] = [1, 1, 1, 1, 2, 2, 4, 4, 7, 7, 5, 9, 9, 9];
+const ROOTED_BEFORE: [u8; 13] = [1, 1, 1, 1, 2, 5, 6, 6, 6, 7, 8, 9, 9];
 
-// A day of ordinary sets: n 4 to 12, 1 to 30 records, one set in ten with a record that need not be met. Where before is asked for,
-// each has one.
-pub fn day(seed: u64, sets: usize, often: &[u8]) -> Vec<Vec<u8>> {
+// A day of ordinary sets: n 4 to 12, 1 to 30 records, one set in ten with a record that need not be met. Each has a record of the kinds
+// in `all`.
+pub fn day(seed: u64, sets: usize, often: &[u8], all: &[u8]) -> Vec<Vec<u8>> {
     let mut rng = Rng(seed);
     let mut day = Vec::new();
     while day.len() < sets {
         let n = 4 + rng.below(9);
         let records = 1 + rng.below(30);
-        let nodes = 2 + rng.below(n + 2);
+        let nodes = 3 + rng.below(n + 2);
         let file = planted(&mut rng, n, nodes, records, 10, often);
-        if !often.contains(&9) || file.chunks_exact(4).any(|r| r[0] == 9) {
+        if all.iter().all(|&kind| file.chunks_exact(4).any(|r| r[0] == kind)) {
             day.push(file);
         }
     }
@@ -138,12 +141,22 @@ pub fn trial(rng: &mut Rng) -> Vec<u8> {
     let n = 1 + rng.below(16);
     let most = [4, 12, 30, 60][rng.below(4)];
     let records = rng.below(most + 1);
-    let lists = [&MIXED[..], &CROWDED, &MERGING, &MIXED_BEFORE, &CROWDED_BEFORE, &MERGING_BEFORE];
-    let often = lists[rng.below(6)];
+    let lists = [
+        &MIXED[..],
+        &CROWDED,
+        &MERGING,
+        &ROOTED,
+        &MIXED_ROOT,
+        &MIXED_BEFORE,
+        &CROWDED_BEFORE,
+        &MERGING_BEFORE,
+        &ROOTED_BEFORE,
+    ];
+    let often = lists[rng.below(lists.len())];
     let mut file = match rng.below(3) {
         0 => free(rng, n, records, often),
         _ => {
-            let nodes = 1 + rng.below(2 * n);
+            let nodes = 2 + rng.below(2 * n);
             planted(rng, n, nodes, records, 30, often)
         }
     };

@@ -7,7 +7,8 @@
 //   against differ and label before anything is written, and then its parents are merged in turn.
 // - Only rows whose ancestors grew can have got a join, so the rows known to have none are kept as masks.
 // - The first alternative works on a copy of the state, the second on the state itself.
-// - All is compiled twice, for sets with a before record and for those without: the latter carry no rows of siblings and ask nothing of them.
+// - All is compiled four times, for sets with and without a before record, and with and without a root record: a set without before carries
+//   no rows of siblings and asks nothing of them, and a set without a root asks nothing of the document node.
 use crate::gate;
 
 type Rows = [u16; 16];
@@ -108,9 +109,26 @@ struct Given {
     differ: Rows,
     label: [u8; 16],
     leaf: u16,
+    // variables that are root, which are the same, and variables that have a child
+    root: u16,
+    parents: u16,
 }
 
 impl Given {
+    // What is asked only of a set with a root.
+    #[inline(always)]
+    fn add_root(&mut self, children: &Rows) {
+        let mut never_root = self.leaf;
+        for x in 0..16 {
+            self.parents |= ((children[x] != 0) as u16) << x;
+            never_root |= ((self.label[x] != 0) as u16) << x;
+        }
+        // a leaf or a label on the document node is a clash: as if they differed from it
+        for r in Members(self.root) {
+            self.differ[r] |= never_root;
+        }
+    }
+
     // Whether a group has differ(x, x) or two labels.
     #[inline(always)]
     fn clashes(&self, group: u16) -> bool {
@@ -241,14 +259,19 @@ impl<const K: usize> State<K> {
     fn raise(&mut self, up: u16, down: u16) {
         self.below = raised(&self.below, up, down);
         self.above = raised(&self.above, down, up);
-        self.parent_open |= down;
-        self.chain_open |= down;
+    }
+
+    // Variables that may have got a join.
+    #[inline(always)]
+    fn open(&mut self, set: u16) {
+        self.parent_open |= set;
+        self.chain_open |= set;
         if K != 0 {
-            self.siblings.open |= down;
+            self.siblings.open |= set;
         }
     }
 
-    // Parent(z, x, y), Chain(x, y) or Sibling(y, a, x)
+    // The first join that is no root join: Parent(z, x, y), Chain(x, y) or Sibling(y, a, x)
     #[inline(always)]
     fn first_join(&mut self) -> Join {
         let mut open = self.parent_open & self.child;
@@ -283,6 +306,19 @@ impl<const K: usize> State<K> {
         }
     }
 
+    // y and w of the first root join, where there is no other join. Roots are the same, and so are their children: which of them is asked
+    // makes no difference.
+    #[inline(always)]
+    fn root_join(&self, r: usize) -> Option<(usize, usize)> {
+        let y = Members(self.child).find(|&y| self.parent[y] & self.above[r] != 0)?;
+        let ws = self.below[r] & !(self.above[r] | self.below[y]);
+        if ws == 0 {
+            None
+        } else {
+            Some((y, low(ws)))
+        }
+    }
+
     #[inline(always)]
     fn sibling_join(&mut self) -> Join {
         let mut open = self.siblings.open & self.siblings.linked;
@@ -309,14 +345,14 @@ enum End {
     Spent,
 }
 
-struct Search<'a, const K: usize> {
+struct Search<'a, const K: usize, const R: bool> {
     given: &'a Given,
     allowance: u32,
     count: u32,
     found: State<K>,
 }
 
-impl<const K: usize> Search<'_, K> {
+impl<const K: usize, const R: bool> Search<'_, K, R> {
     // One more alternative, if the allowance has it.
     #[inline(always)]
     fn choose(&mut self) -> bool {
@@ -335,17 +371,18 @@ impl<const K: usize> Search<'_, K> {
         }
         let mut first = *s;
         first.raise(up, down);
+        first.open(down);
         self.line(&mut first)
     }
 
-    // A first alternative that makes x and y the same, where y is above x already.
+    // A first alternative that makes x and y the same, in a group with all of `within`.
     #[inline(always)]
-    fn merged(&mut self, s: &State<K>, x: usize, y: usize) -> End {
-        if self.given.clashes(s.below[y] & s.above[x]) {
+    fn merged(&mut self, s: &State<K>, x: usize, y: usize, within: u16) -> End {
+        if self.given.clashes(within) {
             return End::None;
         }
         let mut first = *s;
-        if first.merge(self.given, x, y) {
+        if first.merge::<R>(self.given, x, y) {
             self.line(&mut first)
         } else {
             End::None
@@ -356,14 +393,16 @@ impl<const K: usize> Search<'_, K> {
         loop {
             let join = s.first_join();
             if let Join::Nothing = join {
-                self.found = *s;
-                return End::Tree;
+                match self.last(s) {
+                    Some(end) => return end,
+                    None => continue,
+                }
             }
             if !self.choose() {
                 return End::Spent;
             }
             let end = match join {
-                Join::Parent(_, x, y) if s.above[x] & one(y) != 0 => self.merged(s, x, y),
+                Join::Parent(_, x, y) if s.above[x] & one(y) != 0 => self.merged(s, x, y, s.below[y] & s.above[x]),
                 Join::Parent(_, x, y) | Join::Chain(x, y) | Join::Sibling(_, x, y) => {
                     self.inner(s, s.above[x], s.below[y])
                 }
@@ -377,8 +416,8 @@ impl<const K: usize> Search<'_, K> {
                 return End::Spent;
             }
             let holds = match join {
-                Join::Chain(x, y) => s.enter(s.above[y], s.below[x]),
-                Join::Parent(z, x, _) | Join::Sibling(z, x, _) => s.merge(self.given, z, x),
+                Join::Chain(x, y) => s.enter(s.above[y], s.below[x], s.below[x]),
+                Join::Parent(z, x, _) | Join::Sibling(z, x, _) => s.merge::<R>(self.given, z, x),
                 Join::Nothing => false,
             };
             if !holds {
@@ -386,21 +425,61 @@ impl<const K: usize> Search<'_, K> {
             }
         }
     }
+
+    // Where there is no other join: the end of the line, or nothing if it goes on with the second alternative of a root join.
+    #[inline(always)]
+    fn last(&mut self, s: &mut State<K>) -> Option<End> {
+        if R {
+            let r = low(self.given.root);
+            if let Some((y, w)) = s.root_join(r) {
+                return self.rooted(s, r, y, w);
+            }
+        }
+        self.found = *s;
+        Some(End::Tree)
+    }
+
+    // A root join: w below the outermost element y, then on the document node r.
+    fn rooted(&mut self, s: &mut State<K>, r: usize, y: usize, w: usize) -> Option<End> {
+        if !self.choose() {
+            return Some(End::Spent);
+        }
+        let end = if s.above[y] & self.given.leaf != 0 {
+            // all below a leaf is the same as the leaf
+            self.merged(s, y, w, s.below[y] | s.below[w])
+        } else {
+            self.inner(s, s.above[y], s.below[w])
+        };
+        match end {
+            End::None => {}
+            end => return Some(end),
+        }
+        if !self.choose() {
+            return Some(End::Spent);
+        }
+        if s.merge::<R>(self.given, w, r) {
+            None
+        } else {
+            Some(End::None)
+        }
+    }
 }
 
 impl<const K: usize> State<K> {
-    // below(u, v) for u in up and v in down, where it makes no two variables the same. False: a clash.
+    // below(u, v) for u in up and v in down, which opens joins of some of down. False: a clash.
     #[inline(always)]
-    fn enter(&mut self, up: u16, down: u16) -> bool {
+    fn enter(&mut self, up: u16, down: u16, opened: u16) -> bool {
         if self.siblings.crossed(up, down) {
             return false;
         }
         self.raise(up, down);
+        self.open(opened);
         true
     }
 
-    // a and b made the same, where one is above the other or a is a leaf; then the parents of the group, and so on. False: a clash.
-    fn merge(&mut self, given: &Given, a: usize, b: usize) -> bool {
+    // a and b made the same, where one is above the other or a is a leaf; then the parents of the group, or the children of the document
+    // node, and so on. False: a clash.
+    fn merge<const R: bool>(&mut self, given: &Given, a: usize, b: usize) -> bool {
         let mut down = self.below[a] | self.below[b];
         let mut up = self.above[a] | self.above[b];
         loop {
@@ -409,7 +488,12 @@ impl<const K: usize> State<K> {
                 up |= union(&self.above, down);
             }
             let group = up & down;
-            if given.clashes(group) || !self.enter(up, down) {
+            let root = R && group & given.root != 0;
+            // members that bring children to the document node
+            let brought = root && group & given.parents & !self.above[low(given.root)] != 0;
+            // what is above all opens no join; of the group one opens for all, since they have the same rows
+            let opened = if root { 0 } else { down & !group | one(low(group)) };
+            if given.clashes(group) || !self.enter(up, down, opened) {
                 return false;
             }
             let parents = union(&self.parent, group);
@@ -420,17 +504,40 @@ impl<const K: usize> State<K> {
                     None => return false,
                 }
             }
-            if parents == 0 {
+            let mut next = 0;
+            if parents != 0 {
+                self.child |= family;
+                self.parent = raised(&self.parent, family, parents);
+                next = self.apart(parents);
+            }
+            // else the document node has no new child, or one in the group of the old ones
+            if R && next == 0 && (brought || K != 0 && family != group) {
+                next = self.under_root(low(given.root));
+            }
+            if next == 0 {
                 return true;
             }
-            self.child |= family;
-            self.parent = raised(&self.parent, family, parents);
-            let p = low(parents);
-            if parents & !(self.below[p] & self.above[p]) == 0 {
-                return true;
-            }
-            down = union(&self.below, parents);
-            up = union(&self.above, parents);
+            down = union(&self.below, next);
+            up = union(&self.above, next);
+        }
+    }
+
+    // A set that is not empty, if its members are not all the same; else no variable.
+    #[inline(always)]
+    fn apart(&self, set: u16) -> u16 {
+        let x = low(set);
+        if set & !(self.below[x] & self.above[x]) == 0 {
+            0
+        } else {
+            set
+        }
+    }
+
+    // The children of the document node, if they are not all the same; else no variable.
+    fn under_root(&self, r: usize) -> u16 {
+        match children(self.child, &self.parent, self.above[r]) {
+            0 => 0,
+            children => self.apart(children),
         }
     }
 
@@ -446,13 +553,21 @@ impl<const K: usize> State<K> {
         let mut family = group;
         if parents != 0 {
             family = self.siblings.family(group);
-            self.raise(union(&self.above, parents), union(&self.below, family));
+            let under = union(&self.below, family);
+            self.raise(union(&self.above, parents), under);
+            self.open(under);
         }
         if self.siblings.clash(&self.below, &self.above) {
             return None;
         }
         Some(family)
     }
+}
+
+// The variables that have a parent in a group; all parents of one are in one group.
+#[inline(always)]
+fn children(child: u16, parent: &Rows, group: u16) -> u16 {
+    Members(child).fold(0, |set, z| set | if parent[z] & group != 0 { one(z) } else { 0 })
 }
 
 // The records of an accepted file.
@@ -529,17 +644,20 @@ fn passed<const K: usize>(
 
 // The settled set of the facts, or a clash.
 #[inline]
-fn settled<const K: usize>(facts: &Facts, n: usize) -> Option<(Given, State<K>)> {
+fn settled<const K: usize, const R: bool>(facts: &Facts, n: usize) -> Option<(Given, State<K>)> {
     let all = ((1u32 << n) - 1) as u16;
     let Facts { rows, columns, labels } = facts;
     let root = columns[6][0];
     let leaf = columns[7][0];
-    let mut given = Given { differ: [0; 16], label: labels[1], leaf };
+    let mut given = Given { differ: [0; 16], label: labels[1], leaf, root, parents: 0 };
     let mut below = [0; 16];
     for x in 0..16 {
         given.differ[x] = rows[1][x] | rows[3][x] | rows[5][x];
         below[x] = rows[1][x] | rows[2][x] | rows[3][x] | rows[4][x] | columns[4][x];
-        below[x] |= if root & 1 << x != 0 { all } else { 1 << x };
+        below[x] |= if R && root & 1 << x != 0 { all } else { 1 << x };
+    }
+    if R {
+        given.add_root(&rows[1]);
     }
     let given_parents = columns[1];
     let mut has_parent = 0;
@@ -580,6 +698,13 @@ fn settled<const K: usize>(facts: &Facts, n: usize) -> Option<(Given, State<K>)>
                 changed = true;
             }
         }
+        if R {
+            let top = children(child, &parent, above[low(root)]);
+            for x in Members(top) {
+                changed |= top & !below[x] != 0;
+                below[x] |= top;
+            }
+        }
         if !changed {
             if given.clash(&below, &above, grouped) || siblings.clash(&below, &above) {
                 return None;
@@ -591,7 +716,7 @@ fn settled<const K: usize>(facts: &Facts, n: usize) -> Option<(Given, State<K>)>
 }
 
 // The answer file at the front of the buffer, and its length.
-fn read_off<const K: usize>(s: &State<K>, label: &[u8; 16], n: usize, answer: &mut [u8]) -> usize {
+fn read_off<const K: usize, const R: bool>(s: &State<K>, label: &[u8; 16], n: usize, answer: &mut [u8]) -> usize {
     let mut lows = 0u16;
     for x in 0..n {
         lows |= ((s.below[x] & s.above[x] & (one(x) - 1) == 0) as u16) << x;
@@ -602,14 +727,19 @@ fn read_off<const K: usize>(s: &State<K>, label: &[u8; 16], n: usize, answer: &m
         layers[depth] |= one(x);
     }
     let records: &mut [[u8; 4]] = answer.as_chunks_mut().0;
-    let mut len = 0;
-    if layers[0] == 0 || layers[0] & (layers[0] - 1) != 0 {
-        records[0] = [1, 0, 0, 0];
-        len = 1;
+    // the document node, which is the one group of the first layer if a variable is root
+    records[0] = [1, 0, 0, 0];
+    let mut len = 1;
+    let mut top = 0;
+    let next_under = layers[R as usize];
+    if next_under == 0 || next_under & (next_under - 1) != 0 {
+        records[1] = [1, 1, 0, 0];
+        len = 2;
+        top = 1;
     }
     let mut numbers = [0u8; 16];
     let mut upper = 0u16;
-    for layer in layers {
+    for &layer in &layers[R as usize..] {
         if layer == 0 {
             break;
         }
@@ -620,7 +750,7 @@ fn read_off<const K: usize>(s: &State<K>, label: &[u8; 16], n: usize, answer: &m
             let x = low(next);
             // the one group of the layer above that is over x
             let over = s.above[x] & upper;
-            let parent = if over == 0 { 0 } else { numbers[low(over)] };
+            let parent = if over == 0 { top } else { numbers[low(over)] };
             let group = s.below[x] & s.above[x];
             let name = Members(group).fold(0, |l, g| l | label[g]);
             records[len] = [1, len as u8, parent, name];
@@ -637,16 +767,17 @@ fn read_off<const K: usize>(s: &State<K>, label: &[u8; 16], n: usize, answer: &m
     len * 4
 }
 
-// Solves a set whose before facts, if there are any, have K rows. A call, so that a set without them has no part in the other's frame.
+// Solves a set whose before facts, if there are any, have K rows; R tells whether it has a root. A call, so that a set without them has
+// no part in the other's frame.
 #[inline(never)]
-fn search<const K: usize>(facts: &Facts, n: usize, answer: &mut [u8], allowance: u32) -> u64 {
-    let Some((given, mut state)) = settled::<K>(facts, n) else {
+fn search<const K: usize, const R: bool>(facts: &Facts, n: usize, answer: &mut [u8], allowance: u32) -> u64 {
+    let Some((given, mut state)) = settled::<K, R>(facts, n) else {
         return NONE;
     };
-    let mut search = Search { given: &given, allowance, count: 0, found: state };
+    let mut search: Search<K, R> = Search { given: &given, allowance, count: 0, found: state };
     match search.line(&mut state) {
         End::Tree => {
-            let bytes = read_off(&search.found, &given.label, n, answer);
+            let bytes = read_off::<K, R>(&search.found, &given.label, n, answer);
             TREE | (bytes as u64) << 32 | search.count as u64
         }
         End::None => NONE | search.count as u64,
@@ -659,16 +790,17 @@ pub fn solve(file: &[u8], answer: &mut [u8], allowance: u32) -> u64 {
         Ok(n) => n,
         Err(question) => return REFUSED | question as u64,
     };
-    if answer.len() < 132 {
+    if answer.len() < 136 {
         return REFUSED | 7;
     }
     let mut facts = Facts::NONE;
     if !facts.read(file) {
         return NONE;
     }
-    if facts.rows[9] == [0; 16] {
-        search::<0>(&facts, n, answer, allowance)
-    } else {
-        search::<16>(&facts, n, answer, allowance)
+    match (facts.rows[9] == [0; 16], facts.columns[6][0] == 0) {
+        (true, true) => search::<0, false>(&facts, n, answer, allowance),
+        (true, false) => search::<0, true>(&facts, n, answer, allowance),
+        (false, true) => search::<16, false>(&facts, n, answer, allowance),
+        (false, false) => search::<16, true>(&facts, n, answer, allowance),
     }
 }

@@ -39,6 +39,9 @@ fn proved_mark(file: &[u8], answer: &[u8]) -> u64 {
     unsafe { cudreth_mark(file.as_ptr(), file.len(), answer.as_ptr(), answer.len()) }
 }
 
+// The shortest buffer that the solver takes: 18 nodes and 16 places.
+const BUFFER: usize = 136;
+
 const SOLVERS: [Solver; 2] = [proved_solve, solver::solve];
 const MARKERS: [Marker; 3] = [proved_mark, plain::mark, plain::mark_by_sets];
 
@@ -113,7 +116,7 @@ impl Times {
 
 // Both solvers on a file, for each of `each` things.
 fn solving(file: &[u8], allowance: u32, each: f64) -> Times {
-    let mut answers = [[0u8; 132]; 2];
+    let mut answers = [[0u8; BUFFER]; 2];
     let [a, b] = &mut answers;
     let times = rounds(
         31,
@@ -124,8 +127,8 @@ fn solving(file: &[u8], allowance: u32, each: f64) -> Times {
 
 // Both solvers, for each choice, without what the set costs before its first one: with an allowance of 0 both stop there.
 fn choosing(file: &[u8], allowance: u32) -> (u64, Times) {
-    let end = both(file, 132, allowance, 0);
-    let mut answers = [[0u8; 132]; 4];
+    let end = both(file, BUFFER, allowance, 0);
+    let mut answers = [[0u8; BUFFER]; 4];
     let [a, b, c, d] = &mut answers;
     let times = rounds(
         31,
@@ -157,42 +160,43 @@ fn inputs(dir: &str) -> Vec<Input> {
     counts.lines().map(line).collect()
 }
 
-fn has_before(file: &[u8]) -> bool {
-    file.chunks_exact(4).any(|r| r[0] == cudreth::BEFORE)
+fn has(file: &[u8], kind: u8) -> bool {
+    file.chunks_exact(4).any(|r| r[0] == kind)
 }
 
-fn agree(inputs: &[Input], days: [&[Vec<u8>]; 2], trials: usize) {
+fn agree(inputs: &[Input], days: &[Day], trials: usize) {
     let mut verdicts = [0usize; 4];
     let mut choices = 0;
-    let mut before = 0;
+    let [mut before, mut root] = [0, 0];
     let mut seen = |file: &[u8], end: u64| {
         verdicts[(end >> 48) as usize] += 1;
         choices += count(end);
-        before += has_before(file) as usize;
+        before += has(file, cudreth::BEFORE) as usize;
+        root += has(file, cudreth::ROOT) as usize;
     };
     for input in inputs {
-        let end = both(&input.file, 132, u32::MAX, 7);
+        let end = both(&input.file, BUFFER, u32::MAX, 7);
         assert!(format!("{} {}", verdict(end), count(end)) == input.expected, "{}: {end:x}", input.name);
         seen(&input.file, end);
         for allowance in [0, count(end).saturating_sub(1) as u32, count(end) as u32] {
-            seen(&input.file, both(&input.file, 140, allowance, 7));
+            seen(&input.file, both(&input.file, BUFFER + 8, allowance, 7));
         }
-        seen(&input.file, both(&input.file, 131, u32::MAX, 7));
+        seen(&input.file, both(&input.file, BUFFER - 1, u32::MAX, 7));
     }
-    for file in days.into_iter().flatten() {
-        seen(file, both(file, 132, u32::MAX, 7));
+    for file in days.iter().flat_map(|day| &day.sets) {
+        seen(file, both(file, BUFFER, u32::MAX, 7));
     }
     let mut rng = sets::Rng(0x9e37_79b9_7f4a_7c15);
     for _ in 0..trials {
         let file = sets::trial(&mut rng);
-        let buffer = if rng.below(30) == 0 { rng.below(132) } else { 132 + rng.below(3) };
+        let buffer = if rng.below(30) == 0 { rng.below(BUFFER) } else { BUFFER + rng.below(3) };
         let allowance = [0, 1, 2, 5, 100, 5000][rng.below(6)];
         seen(&file, both(&file, buffer, allowance, rng.below(256) as u8));
     }
     let [tree, none, spent, refused] = verdicts;
     println!(
-        "solvers: equal results and bytes on {} inputs, {before} of them with before ({tree} tree, {none} none, {spent} spent, \
-        {refused} refused; {choices} choices)",
+        "solvers: equal results and bytes on {} inputs, {before} of them with before and {root} with a root ({tree} tree, \
+        {none} none, {spent} spent, {refused} refused; {choices} choices)",
         verdicts.iter().sum::<usize>()
     );
     println!(
@@ -225,10 +229,15 @@ fn time_files(inputs: &[Input]) {
     };
     let (many, few): (Vec<_>, Vec<_>) = inputs
         .iter()
-        .map(|input| (input, count(both(&input.file, 132, u32::MAX, 0))))
+        .map(|input| (input, count(both(&input.file, BUFFER, u32::MAX, 0))))
         .partition(|(_, choices)| *choices > 1000);
-    let (ordered, many): (Vec<_>, Vec<_>) = many.into_iter().partition(|(input, _)| has_before(&input.file));
-    for (title, files) in [("(a) benchmark files", many), ("    benchmark files with before", ordered)] {
+    let (ordered, many): (Vec<_>, Vec<_>) = many.into_iter().partition(|(input, _)| has(&input.file, cudreth::BEFORE));
+    let (rooted, many): (Vec<_>, Vec<_>) = many.into_iter().partition(|(input, _)| has(&input.file, cudreth::ROOT));
+    for (title, files) in [
+        ("(a) benchmark files", many),
+        ("    benchmark files with a root", rooted),
+        ("    benchmark files with before", ordered),
+    ] {
         head(&format!("{title}, ns for each choice"));
         for (input, choices) in files {
             bounded(&shape(input, choices), solving(&input.file, u32::MAX, choices as f64), 3.0);
@@ -240,24 +249,43 @@ fn time_files(inputs: &[Input]) {
     }
 }
 
-fn time_day(title: &str, day: &[Vec<u8>]) {
-    head(title);
-    let mut answers = [[0u8; 132]; 2];
+struct Day {
+    name: &'static str,
+    sets: Vec<Vec<u8>>,
+}
+
+fn days() -> [Day; 3] {
+    [
+        Day { name: "ordinary sets", sets: sets::day(20_261_115, 40_000, &sets::MIXED, &[]) },
+        Day {
+            name: "ordinary sets with a root",
+            sets: sets::day(20_261_119, 40_000, &sets::MIXED_ROOT, &[cudreth::ROOT]),
+        },
+        Day {
+            name: "ordinary sets with before",
+            sets: sets::day(20_261_116, 40_000, &sets::MIXED_BEFORE, &[cudreth::BEFORE]),
+        },
+    ]
+}
+
+fn time_day(mark: &str, Day { name, sets: day }: &Day) {
+    head(&format!("{mark:<3} a day of 40,000 {name}, ns"));
+    let mut answers = [[0u8; BUFFER]; 2];
     let [a, b] = &mut answers;
     let whole = |solve: Solver, answer: &mut [u8]| {
         day.iter().fold(0, |sum: u64, file| sum.wrapping_add(solve(file, answer, u32::MAX)))
     };
     let times = rounds(31, [&mut || whole(proved_solve, a), &mut || whole(solver::solve, b)]);
     bounded("for each set", Times::of(&times, day.len() as f64), 2.0);
-    let ends: Vec<u64> = day.iter().map(|file| both(file, 132, u32::MAX, 0)).collect();
+    let ends: Vec<u64> = day.iter().map(|file| both(file, BUFFER, u32::MAX, 0)).collect();
     let trees = ends.iter().filter(|&end| end >> 48 == 0).count();
     let choices: u64 = ends.iter().map(|&end| count(end)).sum();
     let records: usize = day.iter().map(|file| file.len() / 4).sum();
     let each = |sum: f64| sum / day.len() as f64;
     let [records, choices] = [each(records as f64), each(choices as f64)];
-    let before = day.iter().filter(|file| has_before(file)).count();
+    let [before, root] = [cudreth::BEFORE, cudreth::ROOT].map(|kind| day.iter().filter(|file| has(file, kind)).count());
     println!(
-        "    {trees} trees, {} none; {records:.1} records and {choices:.2} choices a set; {before} sets with before",
+        "    {trees} trees, {} none; {records:.1} records and {choices:.2} choices a set; {before} sets with before, {root} with a root",
         day.len() - trees
     );
 }
@@ -278,14 +306,14 @@ fn time_marker() {
     }
 }
 
-// Questions 1 to 6 of each of the files: one byte stops the marker at 8, and a buffer of 131 the solver at 7.
+// Questions 1 to 6 of each of the files: one byte stops the marker at 8, and a buffer that is too short the solver at 7.
 fn gates(name: &str, files: &[&[u8]]) {
     for file in files {
         let refused = MARKERS.map(|mark| mark(file, &[1]));
         assert!(refused[0] >> 48 == 3 && refused == [refused[0]; 3], "{name}: {refused:x?}");
-        assert_eq!(both(file, 131, 9, 0) >> 48, 3);
+        assert_eq!(both(file, BUFFER - 1, 9, 0) >> 48, 3);
     }
-    let mut answers = [[0; 131]; 2];
+    let mut answers = [[0; BUFFER - 1]; 2];
     let [a, b] = &mut answers;
     let marked = |mark: Marker| files.iter().fold(0u64, |sum, file| sum.wrapping_add(mark(black_box(file), &[1])));
     let solved = |solve: Solver, answer: &mut [u8]| {
@@ -302,17 +330,13 @@ fn gates(name: &str, files: &[&[u8]]) {
 }
 
 // Different sheets, of which no branch can be learnt by heart; and one file again and again, where it can.
-fn time_gate(inputs: &[Input], days: [&[Vec<u8>]; 2]) {
+fn time_gate(inputs: &[Input], days: &[Day]) {
     head("    gate alone, 40,000 different sheets, ns a sheet");
     let full = sets::full_sheets(20_261_117, 40_000);
     let bad = sets::bad_sheets(20_261_118, &full);
-    let sheets = [
-        ("ordinary sets", days[0]),
-        ("ordinary sets with before", days[1]),
-        ("256 records of all kinds", &full[..]),
-        ("256 records of all kinds, one of them bad", &bad[..]),
-    ];
-    for (name, files) in sheets {
+    let ordinary = days.iter().map(|day| (day.name, &day.sets));
+    let whole = [("256 records of all kinds", &full), ("256 records of all kinds, one of them bad", &bad)];
+    for (name, files) in ordinary.chain(whole) {
         gates(name, &files.iter().map(Vec::as_slice).collect::<Vec<_>>());
     }
     head("    gate alone, one file of 256 records again and again, ns");
@@ -341,7 +365,7 @@ fn time_growth() {
     head("    growth with records, a set without choices, n 3, ns for each set");
     for records in [1, 2, 4, 8, 16, 32, 64, 128, 256] {
         let file = sets::repeated(&[5, 1, 2, 0, 1, 0, 1, 0, 2, 0, 2, 0, 8, 1, 0, 5], records);
-        let end = both(&file, 132, u32::MAX, 0);
+        let end = both(&file, BUFFER, u32::MAX, 0);
         row(&format!("{records:>3} records, {} {}", verdict(end), count(end)), solving(&file, u32::MAX, 1.0));
     }
 }
@@ -349,15 +373,15 @@ fn time_growth() {
 fn main() {
     let dir = std::env::args().nth(1).expect("the directory of the inputs");
     let inputs = inputs(&dir);
-    let day = sets::day(20_261_115, 40_000, &sets::MIXED);
-    let ordered = sets::day(20_261_116, 40_000, &sets::MIXED_BEFORE);
-    agree(&inputs, [&day, &ordered], 200_000);
+    let days = days();
+    agree(&inputs, &days, 200_000);
     readers::agree(100_000);
     time_files(&inputs);
-    time_day("(b) a day of 40,000 ordinary sets, ns", &day);
-    time_day("    a day of 40,000 ordinary sets with before, ns", &ordered);
+    for (mark, day) in ["(b)", "", ""].iter().zip(&days) {
+        time_day(mark, day);
+    }
     time_marker();
-    time_gate(&inputs, [&day, &ordered]);
+    time_gate(&inputs, &days);
     time_growth();
     readers::time();
 }

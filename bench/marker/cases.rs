@@ -56,10 +56,11 @@ fn sibling(parents: &[u8], v: u8) -> u8 {
 
 pub fn cases() -> Vec<Case> {
     let mut rng = Rng(88172645463325252);
+    // below the document node, which has one child and no label
     let chain: Vec<u8> = (0..64).map(|v: u8| v.saturating_sub(1)).collect();
-    let star = vec![0u8; 64];
-    let random: Vec<u8> = (0..64u64).map(|v| if v == 0 { 0 } else { rng.below(v) as u8 }).collect();
-    let labels: Vec<u8> = (0..64).map(|_| 1 + rng.below(4) as u8).collect();
+    let star: Vec<u8> = (0..64).map(|v| u8::from(v > 1)).collect();
+    let random: Vec<u8> = (0..64u64).map(|v| if v < 2 { 0 } else { 1 + rng.below(v - 1) as u8 }).collect();
+    let labels: Vec<u8> = (0..64).map(|v| if v == 0 { 0 } else { 1 + rng.below(4) as u8 }).collect();
     // each kind is met by some variables: some pairs are parent and child, some share a node, and some are siblings
     let mut spread: Vec<u8> = Vec::new();
     for x in 0..16usize {
@@ -82,7 +83,7 @@ pub fn cases() -> Vec<Case> {
             kind => [kind, x, y, 0],
         }
     });
-    let leaves: Vec<u8> = (0..16).map(|_| 1 + rng.below(63) as u8).collect();
+    let leaves: Vec<u8> = (0..16).map(|_| 2 + rng.below(62) as u8).collect();
     let star_answer = answer(&star, &labels, &leaves);
     let leaf = met(&star_answer, &mut |_| [7, rng.below(16) as u8, 0, 0]);
     let depths: Vec<u8> = (0..16).map(|_| rng.below(64) as u8).collect();
@@ -119,9 +120,15 @@ pub fn agree(markers: [fn(&[u8], &[u8]) -> u64; 3], rounds: usize) -> usize {
             n = n.max(x + 1).max(if matches!(kind, 6..=8) { 0 } else { y + 1 });
         }
         let most = if rng.below(50) == 0 { 70 } else { 6 };
-        let nodes = 1 + rng.below(most);
-        let parents: Vec<u8> = (0..nodes).map(|v| if v == 0 { 0 } else { rng.below(v) as u8 }).collect();
-        let labels: Vec<u8> = (0..nodes).map(|_| rng.below(3) as u8).collect();
+        let nodes = if rng.below(20) == 0 { 1 } else { 2 + rng.below(most) };
+        // one sheet in ten may have a second child of the document node, one in ten a label on it
+        let least = u64::from(rng.below(10) > 0);
+        let parents: Vec<u8> =
+            (0..nodes).map(|v| if v < 2 { 0 } else { (least + rng.below(v - least)) as u8 }).collect();
+        let mut labels: Vec<u8> = (0..nodes).map(|_| rng.below(3) as u8).collect();
+        if rng.below(10) > 0 {
+            labels[0] = 0;
+        }
         let places: Vec<u8> = (0..n).map(|_| rng.below(nodes) as u8).collect();
         let mut sheet = answer(&parents, &labels, &places);
         // half of them with a byte changed, put in or taken out

@@ -76,7 +76,7 @@ fn sheet(answer: &[u8], n: usize) -> Result<Sheet, u64> {
             _ => return Err(9),
         }
     }
-    if nodes < 1 || nodes > 64 {
+    if nodes < 2 || nodes > 64 {
         return Err(10);
     }
     let mut sheet = Sheet { nodes, parent: [0; 64], label: [0; 64], inner: 0, place: [0; 16] };
@@ -85,11 +85,13 @@ fn sheet(answer: &[u8], n: usize) -> Result<Sheet, u64> {
             return Err(11);
         }
         if v == 0 {
-            if r[2] != 0 {
+            // the document node has no name
+            if r[2] != 0 || r[3] != 0 {
                 return Err(11);
             }
         } else {
-            if r[2] as usize >= v {
+            // nor a second child
+            if r[2] as usize >= v || r[2] == 0 && v > 1 {
                 return Err(11);
             }
             sheet.inner |= 1 << r[2];
