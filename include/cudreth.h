@@ -27,17 +27,17 @@ extern "C" {
 #endif
 
 /* Rises with each landing that a host can notice. The archive does not know it: take header and archive from one commit. */
-#define CUDRETH_VERSION 3
+#define CUDRETH_VERSION 4
 
 /* Every record has 4 bytes; a file has no header. */
 #define CUDRETH_RECORD_BYTES 4
 /* The longest constraint file; a longer one is refused with 1. */
 #define CUDRETH_CONSTRAINTS_BYTES 1024
-/* The shortest buffer that may be lent to cudreth_solve, and the longest answer it writes: 17 node and 16 place records. */
-#define CUDRETH_ANSWER_BYTES 132
+/* The shortest buffer that may be lent to cudreth_solve, and the longest answer it writes: 18 node and 16 place records. */
+#define CUDRETH_ANSWER_BYTES 136
 /* Variables are 0 to 15. */
 #define CUDRETH_VARIABLES 16
-/* The most nodes that a candidate's tree may have. */
+/* The most nodes that a candidate's tree may have, the document node counted; it has at least 2. */
 #define CUDRETH_NODES 64
 /* The longest text of paths, and the most lines that it may have; more are refused with 13. */
 #define CUDRETH_TEXT_BYTES 1024
@@ -56,7 +56,7 @@ enum cudreth_kind {
     CUDRETH_STRICTLY_BELOW = 3, /* the node of x is a proper ancestor of that of y */
     CUDRETH_SAME = 4,           /* x and y are on one node */
     CUDRETH_DIFFER = 5,         /* x and y are on two nodes */
-    CUDRETH_ROOT = 6,           /* the node of x has no parent */
+    CUDRETH_ROOT = 6,           /* x is on the document node, node 0 */
     CUDRETH_LEAF = 7,           /* the node of x has no child */
     CUDRETH_LABEL = 8,          /* the node of x has that label, 1 to 255 */
     CUDRETH_BEFORE = 9          /* x and y are on siblings, and the node of x has the smaller number */
@@ -64,7 +64,7 @@ enum cudreth_kind {
 
 /* The first byte of an answer record. Node records come first. */
 enum cudreth_answer_record {
-    CUDRETH_NODE = 1, /* own number, parent (0 for node 0), label (0 is blank) */
+    CUDRETH_NODE = 1, /* own number, parent, label (0 is blank); node 0 is the document node: 0, 0, 0 */
     CUDRETH_PLACE = 2 /* variable, its node, 0 */
 };
 
@@ -153,11 +153,11 @@ static inline const char *cudreth_question_words(uint32_t question)
     case CUDRETH_Q_VARIABLE: return "a constraint record names a variable above 15";
     case CUDRETH_Q_LABEL: return "a label record has the label 0";
     case CUDRETH_Q_UNUSED: return "a byte that the record's kind does not use is not 0";
-    case CUDRETH_Q_BUFFER: return "the lent buffer has less than 132 bytes for an answer, or less than 1,024 for records";
+    case CUDRETH_Q_BUFFER: return "the lent buffer has less than 136 bytes for an answer, or less than 1,024 for records";
     case CUDRETH_Q_ANSWER_CUT: return "the length of the answer file is not a multiple of 4";
     case CUDRETH_Q_ANSWER_KIND: return "an answer record is neither node nor place, or a node comes after a place";
-    case CUDRETH_Q_NODE_COUNT: return "there are not 1 to 64 node records";
-    case CUDRETH_Q_NODES: return "a node's number is not its position, or its parent is not smaller (0 for node 0)";
+    case CUDRETH_Q_NODE_COUNT: return "there are not 2 to 64 node records";
+    case CUDRETH_Q_NODES: return "a node's number is not its position or its parent is not smaller, or node 0 is not blank with parent 0 and one child";
     case CUDRETH_Q_PLACES: return "the places are not variables 0 to n-1 in order, each on a node of the tree, fourth byte 0";
     case CUDRETH_Q_TEXT_FORM: return "the text is not 1 to 8 lines of paths, each ended by byte 10, in at most 1,024 bytes";
     case CUDRETH_Q_TEXT_VARIABLES: return "the paths need more than 16 variables";

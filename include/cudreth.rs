@@ -17,17 +17,17 @@
 #![allow(dead_code)]
 
 /// Rises with each landing that a host can notice. The archive does not know it: take this file and the archive from one commit.
-pub const VERSION: u32 = 3;
+pub const VERSION: u32 = 4;
 
 /// Every record has 4 bytes; a file has no header.
 pub const RECORD_BYTES: usize = 4;
 /// The longest constraint file; a longer one is refused with 1.
 pub const CONSTRAINTS_BYTES: usize = 1024;
-/// The shortest buffer that may be lent to `solve`, and the longest answer it writes: 17 node and 16 place records.
-pub const ANSWER_BYTES: usize = 132;
+/// The shortest buffer that may be lent to `solve`, and the longest answer it writes: 18 node and 16 place records.
+pub const ANSWER_BYTES: usize = 136;
 /// Variables are 0 to 15.
 pub const VARIABLES: usize = 16;
-/// The most nodes that a candidate's tree may have.
+/// The most nodes that a candidate's tree may have, the document node counted; it has at least 2.
 pub const NODES: usize = 64;
 /// The longest text of paths; a longer one is refused with 13.
 pub const TEXT_BYTES: usize = 1024;
@@ -51,7 +51,7 @@ pub const STRICTLY_BELOW: u8 = 3;
 pub const SAME: u8 = 4;
 /// x and y are on two nodes.
 pub const DIFFER: u8 = 5;
-/// The node of x has no parent.
+/// x is on the document node, node 0.
 pub const ROOT: u8 = 6;
 /// The node of x has no child.
 pub const LEAF: u8 = 7;
@@ -61,7 +61,7 @@ pub const LABEL: u8 = 8;
 pub const BEFORE: u8 = 9;
 
 // The first byte of an answer record. Node records come first.
-/// Own number, parent (0 for node 0), label (0 is blank).
+/// Own number, parent, label (0 is blank); node 0 is the document node: 0, 0, 0.
 pub const NODE: u8 = 1;
 /// Variable, its node, 0.
 pub const PLACE: u8 = 2;
@@ -219,11 +219,11 @@ pub fn question_words(question: u32) -> &'static str {
         Q_VARIABLE => "a constraint record names a variable above 15",
         Q_LABEL => "a label record has the label 0",
         Q_UNUSED => "a byte that the record's kind does not use is not 0",
-        Q_BUFFER => "the lent buffer has less than 132 bytes for an answer, or less than 1,024 for records",
+        Q_BUFFER => "the lent buffer has less than 136 bytes for an answer, or less than 1,024 for records",
         Q_ANSWER_CUT => "the length of the answer file is not a multiple of 4",
         Q_ANSWER_KIND => "an answer record is neither node nor place, or a node comes after a place",
-        Q_NODE_COUNT => "there are not 1 to 64 node records",
-        Q_NODES => "a node's number is not its position, or its parent is not smaller (0 for node 0)",
+        Q_NODE_COUNT => "there are not 2 to 64 node records",
+        Q_NODES => "a node's number is not its position or its parent is not smaller, or node 0 is not blank with parent 0 and one child",
         Q_PLACES => "the places are not variables 0 to n-1 in order, each on a node of the tree, fourth byte 0",
         Q_TEXT_FORM => "the text is not 1 to 8 lines of paths, each ended by byte 10, in at most 1,024 bytes",
         Q_TEXT_VARIABLES => "the paths need more than 16 variables",
