@@ -1,6 +1,7 @@
 //! Random questions, and all that is asked about each.
 
 use crate::{disagree, Comparison};
+use questions::document::{crowded_document, with_document};
 use questions::{
     crowded_path, crowded_siblings, free, planted, random_assignment, random_constraint, random_tree, Mix,
 };
@@ -26,12 +27,18 @@ impl Comparison {
             _ => self.random.below(3 * variables + 2),
         };
         let mix = Mix::random(&mut self.random);
-        let number_of_nodes = 1 + self.random.below(variables + 3);
+        let number_of_nodes = 2 + self.random.below(variables + 3);
         let tree = random_tree(&mut self.random, number_of_nodes);
         let assignment = random_assignment(&mut self.random, variables, &tree);
-        let (sort, constraints) = match self.random.below(16) {
+        let (sort, constraints) = match self.random.below(18) {
             0 if self.random.one_in(2) => ("crowded paths", crowded_path(&mut self.random)),
             0 => ("crowded siblings", crowded_siblings(&mut self.random)),
+            16 => ("crowded documents", crowded_document(&mut self.random)),
+            17 => {
+                let mut constraints = planted(&mut self.random, &tree, &assignment, records.min(250), &mix);
+                with_document(&mut self.random, &mut constraints, variables, &mix);
+                ("questions with a root in front", constraints)
+            }
             1..=7 => ("planted questions", planted(&mut self.random, &tree, &assignment, records, &mix)),
             8..=11 => {
                 let mut constraints = planted(&mut self.random, &tree, &assignment, records.min(254), &mix);
@@ -66,7 +73,7 @@ impl Comparison {
 
     /// Every fourth verdict on few variables, against trees of so many nodes that they stay few.
     pub fn check_some_meanings(&mut self, constraints: &[Constraint], verdict: &SolverVerdict) {
-        let most_nodes = [7, 7, 6, 6, 5, 6].get(number_of_variables(constraints));
+        let most_nodes = [8, 8, 7, 7, 6, 7].get(number_of_variables(constraints));
         if let Some(&most_nodes) = most_nodes.filter(|_| self.random.one_in(4)) {
             self.check_meaning(constraints, verdict, most_nodes);
         }
@@ -108,10 +115,10 @@ impl Comparison {
     }
 
     fn buffers(&mut self, solved: &Solved) {
-        for buffer in [0, 1, 131] {
+        for buffer in [0, 1, 135] {
             self.solve("answer buffers", &solved.file, buffer, solved.allowance);
         }
-        for buffer in [132, 133, 200] {
+        for buffer in [136, 137, 200] {
             self.hold_solver("answer buffers", &solved.file, buffer, solved.allowance, &solved.verdict);
         }
     }
@@ -130,7 +137,7 @@ impl Comparison {
     fn damaged(&mut self, solved: &Solved) {
         for _ in 0..6 {
             let file = self.damage(&solved.file);
-            let buffer = self.random.pick(&[0, 1, 131, 132, 133, 200]);
+            let buffer = self.random.pick(&[0, 1, 135, 136, 137, 200]);
             let verdict = self.solve("damaged questions", &file, buffer, solved.allowance.min(60));
             if let SolverVerdict::Refused(refusal @ Refusal(1 | 3..=6)) = verdict {
                 self.refused_in_another_order(&file, refusal);
@@ -138,7 +145,7 @@ impl Comparison {
             self.split_damaged(&file);
             let answer_file = match &solved.verdict {
                 SolverVerdict::Tree { answer, .. } => answer.clone(),
-                _ => vec![1, 0, 0, 0],
+                _ => vec![1, 0, 0, 0, 1, 1, 0, 0],
             };
             let answer_length = self.random.pick(&[answer_file.len(), answer_file.len() - 1, 0]);
             self.mark("damaged questions", &file, &answer_file[..answer_length]);
@@ -190,7 +197,7 @@ impl Comparison {
         if let Some(places) = assignment.0.get(..variables) {
             answer_files.push(answer::write(tree, &Assignment(places.to_vec())));
         }
-        let nodes = 1 + self.random.below(64);
+        let nodes = 2 + self.random.below(63);
         let other_tree = random_tree(&mut self.random, nodes);
         for tree in [tree, &other_tree] {
             let assignment = random_assignment(&mut self.random, variables, tree);

@@ -136,13 +136,13 @@ impl Comparison {
         }
     }
 
-    /// Every tree of up to 3 nodes with every assignment, to every two records over 2 variables.
+    /// Every tree of up to 4 nodes with every assignment, to every two records over 2 variables.
     fn all_small_answers_in_both_orders(&mut self) {
         const SORT: &str = "small answers to two records in both orders";
-        for nodes in 1..=3 {
+        for nodes in brute::LEAST_NODES..=4 {
             for shape in brute::shapes(nodes) {
-                // Each label that the records name, and a blank.
-                let tree = brute::tree_of_shape(&shape, [97, 98, 0][..nodes].to_vec());
+                // The document node, each label that the records name, and a blank.
+                let tree = brute::tree_of_shape(&shape, [0, 97, 98, 0][..nodes].to_vec());
                 for_each_choice(&all_records(2), 2, &mut Vec::new(), &mut |pair| {
                     let file = constraint::write(pair);
                     for assignment in brute::assignments(number_of_variables(pair), nodes) {

@@ -136,7 +136,7 @@ fn random_question(random: &mut Random) -> Vec<Constraint> {
     let variables = 2 + random.below(11);
     let records = 1 + random.below(2 * variables);
     let mix = Mix::random(random);
-    let nodes = 1 + random.below(variables + 1);
+    let nodes = 2 + random.below(variables + 1);
     let tree = random_tree(random, nodes);
     let assignment = random_assignment(random, variables, &tree);
     let mut constraints = planted(random, &tree, &assignment, records, &mix);
