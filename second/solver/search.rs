@@ -101,7 +101,8 @@ pub struct Trace {
     pub clashes: BTreeSet<Clash>,
     /// Were two children of a root made the same, by their own rule alone?
     pub made_one_child: bool,
-    /// How many alternatives of fourth joins were entered.
+    /// Was a fourth join come to, and how many alternatives of such joins were entered?
+    pub came_to_fourth_join: bool,
     pub of_fourth_joins: u32,
     /// The alternatives of the line that ended in a tree, the innermost first: the join, and 0 or 1.
     pub line: Vec<(Join, usize)>,
@@ -135,12 +136,14 @@ impl Search {
         let Some(join) = first_join(&settled) else {
             return Outcome::Solved(settled);
         };
+        let is_fourth = matches!(join, Join::Element { .. });
+        self.trace.came_to_fourth_join |= is_fourth;
         for (at, alternative) in join.alternatives().iter().enumerate() {
             if self.count == self.allowance {
                 return Outcome::Spent;
             }
             self.count += 1;
-            self.trace.of_fourth_joins += matches!(join, Join::Element { .. }) as u32;
+            self.trace.of_fourth_joins += is_fourth as u32;
             match self.explore(settled.with(alternative)) {
                 Outcome::None => continue,
                 Outcome::Spent => return Outcome::Spent,
