@@ -2,7 +2,7 @@
 
 use crate::Comparison;
 use second::closure::Clash;
-use second::constraint::{self, number_of_variables};
+use second::constraint::{self, number_of_variables, Constraint};
 use second::search::{Join, Trace};
 use second::tree::{Assignment, DOCUMENT_NODE, OUTERMOST_ELEMENT};
 use second::verdict::{MarkerVerdict, SolverVerdict};
@@ -48,7 +48,7 @@ impl Comparison {
                     0 => "a tree by the first alternative of a fourth join",
                     _ => "a tree by the second alternative of a fourth join",
                 });
-                let is_named = file.chunks(4).any(|record| names(record, w.0));
+                let is_named = read(file).iter().any(|record| record.variables().contains(&w));
                 self.document.note_if(!is_named, "a fourth join of a variable that no record names");
             }
         }
@@ -69,7 +69,7 @@ impl Comparison {
 
     /// Nodes without a variable are those that were added.
     fn note_tree(&mut self, file: &[u8], answer_file: &[u8]) {
-        let variables = number_of_variables(&constraint::read(file).expect("an accepted file"));
+        let variables = number_of_variables(&read(file));
         let (tree, assignment) = answer::read(answer_file, variables).expect("an answer of the second solver");
         let is_added = |node| assignment.lowest_variable_on(node).is_none();
         let (document_node, element) = (is_added(DOCUMENT_NODE), is_added(OUTERMOST_ELEMENT));
@@ -108,8 +108,6 @@ impl Comparison {
     }
 }
 
-/// Of a good record.
-fn names(record: &[u8], variable: u8) -> bool {
-    let names_y = !(6..=8).contains(&record[0]);
-    record[1] == variable || (names_y && record[2] == variable)
+fn read(file: &[u8]) -> Vec<Constraint> {
+    constraint::read(file).expect("an accepted file")
 }

@@ -3,6 +3,7 @@
 //!
 //! usage: compare [--seconds N] [--seed S]
 
+mod answers;
 mod brothers;
 mod came_up;
 mod document;

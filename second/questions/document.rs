@@ -3,9 +3,9 @@
 use crate::{random_constraint, Mix, Random};
 use second::constraint::{Constraint, Variable};
 
-/// A long search by the fourth join: a root with a child, and others of which each must stand at or below that child or on the root. Some
-/// have what keeps them off the root, a label, a parent or an earlier sibling; some must stand apart from the child. Often one has no
-/// place left: there is no tree, and every way is tried.
+/// A long search by the fourth join: a root with a child, and others of which each must stand at or below that child or on the root. Some must
+/// stand apart from the root, from the child or from one another, or have a label or a sibling, which keeps them off the root. Often one
+/// has no place left, since the child is a leaf: there is no tree, and every way is tried.
 pub fn crowded_document(random: &mut Random) -> Vec<Constraint> {
     let others = 2 + random.below(5);
     let mut names: Vec<Variable> = (0..(others + 2) as u8).map(Variable).collect();
@@ -21,6 +21,7 @@ pub fn crowded_document(random: &mut Random) -> Vec<Constraint> {
             3 => constraints.push(Constraint::Below(w, other)),
             4 => constraints.push(Constraint::Differ(w, other)),
             5 => constraints.push(Constraint::Child(w, random.pick(crowd))),
+            6 if random.one_in(2) => constraints.push(Constraint::Before(w, random.pick(crowd))),
             _ => {}
         }
     }
