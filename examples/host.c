@@ -95,7 +95,7 @@ static void solve_and_mark(uint8_t *answer)
     };
     printf("allowance 1: ");
     print_solved(cudreth_solve(question, sizeof question, answer, CUDRETH_ANSWER_BYTES, 1), answer);
-    printf("buffer 131: ");
+    printf("buffer 135: ");
     print_solved(cudreth_solve(question, sizeof question, answer, CUDRETH_ANSWER_BYTES - 1, 1), answer);
     uint64_t solved = cudreth_solve(question, sizeof question, answer, CUDRETH_ANSWER_BYTES, UINT32_MAX);
     print_solved(solved, answer);
@@ -174,9 +174,10 @@ static void solve_brothers(uint8_t *answer)
     const uint8_t turned[] = {
         CUDRETH_NODE,  0, 0, 0,
         CUDRETH_NODE,  1, 0, 0,
-        CUDRETH_NODE,  2, 0, 0,
-        CUDRETH_PLACE, 0, 2, 0,
-        CUDRETH_PLACE, 1, 1, 0,
+        CUDRETH_NODE,  2, 1, 0,
+        CUDRETH_NODE,  3, 1, 0,
+        CUDRETH_PLACE, 0, 3, 0,
+        CUDRETH_PLACE, 1, 2, 0,
     };
     printf("the second child before the first: ");
     print_marked(cudreth_mark(pair, sizeof pair, turned, sizeof turned));

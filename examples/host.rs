@@ -123,12 +123,13 @@ const PAIR: [u8; 4] = [
 ];
 
 #[rustfmt::skip]
-const TURNED: [u8; 20] = [
+const TURNED: [u8; 24] = [
     NODE,  0, 0, 0,
     NODE,  1, 0, 0,
-    NODE,  2, 0, 0,
-    PLACE, 0, 2, 0,
-    PLACE, 1, 1, 0,
+    NODE,  2, 1, 0,
+    NODE,  3, 1, 0,
+    PLACE, 0, 3, 0,
+    PLACE, 1, 2, 0,
 ];
 
 const LINES: &str = "/child::a/descendant::c\nchild::b/child::c\n";
@@ -137,7 +138,7 @@ const LINES: &str = "/child::a/descendant::c\nchild::b/child::c\n";
 fn solve_and_mark(answer: &mut [u8]) {
     print!("allowance 1: ");
     print_solved(cudreth::solve(&QUESTION, answer, 1), answer);
-    print!("buffer 131: ");
+    print!("buffer 135: ");
     print_solved(cudreth::solve(&QUESTION, &mut answer[..ANSWER_BYTES - 1], 1), answer);
     let solved = cudreth::solve(&QUESTION, answer, u32::MAX);
     print_solved(solved, answer);

@@ -31,14 +31,15 @@ static void put(uint8_t *record, int a, int b, int c, int d)
     record[3] = (uint8_t)d;
 }
 
-/* Variable k is labelled 'a' + k and stands k steps below the root, on a path: record 0 is root, records 1 to 15 the steps, records 16
- * to 31 the labels; the rest say below and strictly below of pairs on the path. */
+/* Variable 0 is the document node; each other variable k is labelled 'a' + k and stands k steps below it, on a path: record 0 is root, records 1 to
+ * 15 the steps, record 16 is root again, records 17 to 31 the labels; the rest say below and strictly below of pairs on the path. */
 static void set_question(uint8_t *question)
 {
     int at = 0;
     put(question, CUDRETH_ROOT, 0, 0, 0);
     for (at = 1; at < 16; at++)
         put(question + 4 * at, CUDRETH_CHILD, at - 1, at, 0);
+    put(question + 4 * at++, CUDRETH_ROOT, 0, 0, 0);
     for (; at < 32; at++)
         put(question + 4 * at, CUDRETH_LABEL, at - 16, 0, 'a' + at - 16);
     while (at < RECORDS)
@@ -47,12 +48,12 @@ static void set_question(uint8_t *question)
                 put(question + 4 * at, at % 2 ? CUDRETH_BELOW : CUDRETH_STRICTLY_BELOW, x, y, 0);
 }
 
-/* Nodes 0 to 15 are the path; the others hang anywhere. */
+/* Nodes 0 to 15 are the path, node 0 blank; the others hang anywhere below node 1. */
 static void draw_sheet(uint8_t *sheet)
 {
     for (int node = 0; node < CUDRETH_NODES; node++) {
-        int parent = node == 0 ? 0 : node < 16 ? node - 1 : (int)draw((uint32_t)node);
-        put(sheet + 4 * node, CUDRETH_NODE, node, parent, node < 16 ? 'a' + node : (int)draw(256));
+        int parent = node == 0 ? 0 : node < 16 ? node - 1 : 1 + (int)draw((uint32_t)node - 1);
+        put(sheet + 4 * node, CUDRETH_NODE, node, parent, node == 0 ? 0 : node < 16 ? 'a' + node : (int)draw(256));
     }
     for (int variable = 0; variable < CUDRETH_VARIABLES; variable++)
         put(sheet + 4 * (CUDRETH_NODES + variable), CUDRETH_PLACE, variable, variable, 0);
@@ -92,8 +93,13 @@ static uint64_t put_fault_in(uint8_t *sheet, size_t *length, int number)
         *length -= 4 * CUDRETH_NODES;
         memmove(sheet, sheet + 4 * CUDRETH_NODES, *length);
         return refused(10);
-    case 13: /* a node its own parent */
-        sheet[4 * k + 2] = (uint8_t)k;
+    case 13: /* a node its own parent, a label on node 0, or a second child of it */
+        if (k % 3 == 0)
+            sheet[4 * k + 2] = (uint8_t)k;
+        else if (k % 3 == 1)
+            sheet[3] = (uint8_t)k;
+        else
+            sheet[4 * k + 2] = 0;
         return refused(11);
     case 15: /* a place on a node that is not there */
         sheet[4 * (CUDRETH_NODES + k) + 2] = CUDRETH_NODES;

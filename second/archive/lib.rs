@@ -153,27 +153,27 @@ pub fn is_refused(file: &[u8], by_solver: u8, by_marker: u8) -> bool {
 }
 
 /// The archive's own number of a file or its own n, by its answers alone. The solver without a buffer tells the number, or 7 where it has
-/// none. Of one node with 0 to 17 places the marker refuses all with 12 but the answer that has n.
+/// none. Of the smallest tree with 0 to 17 places the marker refuses all with 12 but the answer that has n.
 pub fn number_or_n(file: &[u8]) -> Result<NumberOrN, Disagreement> {
     let solved = solved_without_a_buffer(file);
     if let Some(question) = (1..=6).find(|&question| solved == refused(question as u64)) {
         return Ok(Err(Refusal(question)));
     }
-    let not_12: Vec<usize> = (0..=17).filter(|&places| marked(file, &one_node(places)) != refused(12)).collect();
+    let not_12: Vec<usize> = (0..=17).filter(|&places| marked(file, &smallest_tree(places)) != refused(12)).collect();
     match not_12.as_slice() {
         &[n] if solved == refused(7) => Ok(Ok(n)),
         _ => Err(Disagreement(format!(
-            "neither a number nor one n\nconstraints {}\nsolver without a buffer {solved:#x}\nmarker on one node, not 12 with so many places: {not_12:?}",
+            "neither a number nor one n\nconstraints {}\nsolver without a buffer {solved:#x}\nmarker on the smallest tree, not 12 with so many places: {not_12:?}",
             hex(file)
         ))),
     }
 }
 
-/// An answer of one node with so many variables on it.
-pub fn one_node(places: usize) -> Vec<u8> {
-    let mut answer = vec![1, 0, 0, 0];
+/// An answer of two nodes, the document node and one element, with so many variables on the element.
+pub fn smallest_tree(places: usize) -> Vec<u8> {
+    let mut answer = vec![1, 0, 0, 0, 1, 1, 0, 0];
     for variable in 0..places {
-        answer.extend([2, variable as u8, 0, 0]);
+        answer.extend([2, variable as u8, 1, 0]);
     }
     answer
 }

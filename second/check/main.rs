@@ -1,12 +1,16 @@
 //! Holds the second side and the archive to the stored questions and to the examples. After a change of the rules, `again` prints a
 //! stored file with the verdicts that the second solver now gives: its diff with the file lists the stored answers that change.
 //!
-//! `before` prints a stored file as it was before request (iii), and fails if more than that request asks has changed since.
+//! `before` prints a stored file as it was before request iii or v, and fails if more than that request asks has changed since; `changes`
+//! prints what the request changed.
 //!
-//! usage: check stored FILE... | check examples FILE... | check again FILE | check before LINES FILE
+//! usage: check stored FILE... | check examples FILE... | check again FILE | check before|changes REQUEST LINES FILE
 
+mod before;
+mod changes;
+
+use before::{Request, REQUESTS};
 use second::verdict::hex;
-use std::collections::BTreeMap;
 use written::{Expected, Question};
 
 fn main() {
@@ -15,14 +19,21 @@ fn main() {
         ["stored", files @ ..] => hold_files(files, written::stored),
         ["examples", files @ ..] => hold_files(files, written::examples),
         ["again", file] => print_again(file),
-        ["before", lines, file] => print_before(lines, file),
-        _ => {
-            eprintln!(
-                "usage: check stored FILE... | check examples FILE... | check again FILE | check before LINES FILE"
-            );
-            std::process::exit(2);
-        }
+        ["before", request, lines, file] => before::print(request_named(request), lines, file),
+        ["changes", request, lines, file] => changes::print(request_named(request), lines, file),
+        _ => usage(),
     }
+}
+
+fn usage() -> ! {
+    eprintln!(
+        "usage: check stored FILE... | check examples FILE... | check again FILE | check before|changes REQUEST LINES FILE"
+    );
+    std::process::exit(2);
+}
+
+fn request_named(name: &str) -> &'static Request {
+    REQUESTS.iter().find(|(request, _)| *request == name).map_or_else(|| usage(), |(_, request)| request)
 }
 
 fn hold_files(files: &[&str], read: fn(&str) -> Result<Vec<Question>, String>) {
@@ -60,41 +71,6 @@ fn print_again(path: &str) {
             // No stored question is set as paths.
             Expected::Paths { .. } => println!("{line}"),
         }
-    }
-}
-
-/// `lines` are the questions that have changed, as they were; each stands in the file under its name.
-fn print_before(lines: &str, path: &str) {
-    let changed = text_of(lines);
-    let changed = changed.lines().filter(|line| !line.starts_with('#'));
-    let mut left: BTreeMap<&str, &str> = changed.map(|line| (name_of(line), line)).collect();
-    for line in text_of(path).lines() {
-        let before = left.remove(name_of(line));
-        if let Some(Err(how)) = before.map(|before| hold_change(before, line)) {
-            fail(lines, &format!("{}: {how}", name_of(line)));
-        }
-        println!("{}", before.unwrap_or(line));
-    }
-    if let Some(name) = left.keys().next() {
-        fail(lines, &format!("{name}: no such question in {path}"));
-    }
-}
-
-fn name_of(line: &str) -> &str {
-    line.split(' ').next().unwrap_or(line)
-}
-
-/// Question 3 refused a record of kind 9, and lets it pass now; all else of the question is as it was.
-fn hold_change(before: &str, now: &str) -> Result<(), String> {
-    let asked = before.strip_suffix("refused 3").ok_or("was not refused with 3")?;
-    let question = written::stored_question(before).ok_or("is no stored question")?;
-    if !question.file.chunks(4).any(|record| record[0] == 9) {
-        return Err("has no record of kind 9".to_string());
-    }
-    match now.strip_prefix(asked) {
-        None => Err("is another question now".to_string()),
-        Some("refused 3") => Err("has not changed".to_string()),
-        Some(_) => Ok(()),
     }
 }
 

@@ -25,7 +25,7 @@ impl Comparison {
             match clash {
                 Clash::LaterSiblingBelow => self.brothers.note("before(x,y) with below(x,y)"),
                 Clash::EarlierSiblingBelow => self.brothers.note("before(x,y) with below(y,x)"),
-                Clash::DiffersFromItself | Clash::TwoLabels => {}
+                _ => {}
             }
         }
         for (join, alternative) in &trace.line {

@@ -3,8 +3,11 @@
 //!
 //! usage: compare [--seconds N] [--seed S]
 
+mod answers;
 mod brothers;
 mod came_up;
+mod document;
+mod meaning;
 mod one_pass;
 mod path_rounds;
 mod path_sorts;
@@ -15,20 +18,23 @@ mod rounds;
 mod selection;
 mod shuffled;
 mod small;
+mod small_document;
 mod small_passes;
 mod small_shuffles;
 
 use brothers::BROTHERS;
 use came_up::CameUp;
+use document::DOCUMENT;
+use meaning::all_ordered_trees;
 use one_pass::PASSES;
 use path_sorts::PathSorts;
 use questions::Random;
-use second::constraint::{self, number_of_variables, Constraint};
-use second::verdict::{hex, MarkerVerdict, SolverVerdict};
-use second::{answer, brute, Refusal};
+use second::constraint;
+use second::verdict::{MarkerVerdict, SolverVerdict};
+use second::Refusal;
 use selection::{Selections, SmallTrees};
 use shuffled::SHUFFLES;
-use std::collections::{BTreeMap, BTreeSet};
+use std::collections::BTreeMap;
 use std::time::{Duration, Instant};
 
 struct Comparison {
@@ -42,6 +48,7 @@ struct Comparison {
     /// How many verdicts of the second solver were held against every small tree.
     against_all_small_trees: u64,
     brothers: CameUp,
+    document: CameUp,
     shuffles: CameUp,
     passes: CameUp,
     path_sorts: PathSorts,
@@ -72,6 +79,7 @@ fn main() {
         counts: BTreeMap::new(),
         against_all_small_trees: 0,
         brothers: CameUp::new(&BROTHERS),
+        document: CameUp::new(&DOCUMENT),
         shuffles: CameUp::new(&SHUFFLES),
         passes: CameUp::new(&PASSES),
         path_sorts: PathSorts::default(),
@@ -83,6 +91,7 @@ fn main() {
     comparison.long_answers();
     comparison.all_small_questions();
     comparison.all_small_answers();
+    comparison.all_small_documents();
     comparison.all_small_shuffles();
     comparison.all_small_passes();
     comparison.all_small_paths();
@@ -93,16 +102,6 @@ fn main() {
         comparison.path_round();
     }
     comparison.report(start.elapsed());
-}
-
-/// The trees that verdicts are held against are all there: without labels there are as many ordered trees as Catalan's numbers say.
-fn all_ordered_trees() {
-    for (trees, nodes) in [1, 1, 2, 5, 14, 42, 132].into_iter().zip(1..) {
-        let made = brute::ordered_shapes(nodes).iter().collect::<BTreeSet<_>>().len();
-        if made != trees {
-            disagree("all small trees", &format!("{made} ordered trees of {nodes} nodes, expected {trees}"));
-        }
-    }
 }
 
 fn disagree(sort: &str, how: &str) -> ! {
@@ -143,6 +142,7 @@ impl Comparison {
         let (verdict, trace) = second::solve_traced(file, buffer, allowance);
         self.hold_solver(sort, file, buffer, allowance, &verdict);
         self.note_brothers(file, &verdict, &trace);
+        self.note_document(file, buffer, &verdict, &trace);
         verdict
     }
 
@@ -157,33 +157,8 @@ impl Comparison {
             MarkerVerdict::Refused(Refusal(question)) => format!("marker refused {question}"),
         };
         self.tally(sort, verdict);
+        self.note_document_marked(answer_file, &expected);
         expected
-    }
-
-    /// The second solver's verdict against every tree of at most `most_nodes` nodes, and its tree against the marker.
-    fn check_meaning(&mut self, constraints: &[Constraint], verdict: &SolverVerdict, most_nodes: usize) {
-        const SORT: &str = "verdicts against all small trees";
-        let file = constraint::write(constraints);
-        let variables = number_of_variables(constraints);
-        match verdict {
-            SolverVerdict::None { .. } => {
-                if brute::some_tree_meets(constraints, most_nodes) {
-                    disagree(SORT, &format!("second says none, yet a tree meets\nconstraints {}", hex(&file)));
-                }
-            }
-            SolverVerdict::Tree { answer: answer_file, .. } => {
-                let (drawn, _) =
-                    answer::read(answer_file, variables).unwrap_or_else(|_| disagree(SORT, "no answer file"));
-                if drawn.parents.len() > variables + 1 || !brute::some_tree_meets(constraints, variables + 1) {
-                    disagree(SORT, &format!("a tree of the wrong size\nconstraints {}", hex(&file)));
-                }
-                if self.mark("solver's trees marked", &file, answer_file) != MarkerVerdict::Met {
-                    disagree(SORT, &format!("second's tree is not met\nconstraints {}", hex(&file)));
-                }
-            }
-            SolverVerdict::Spent { .. } | SolverVerdict::Refused(_) => return,
-        }
-        self.against_all_small_trees += 1;
     }
 
     fn report(&self, took: Duration) {
@@ -194,7 +169,7 @@ impl Comparison {
             .chain([7, 13, 14].map(|question| format!("paths refused {question}")))
             .chain(["tree", "none", "spent", "met", "paths written"].map(String::from));
         let not_seen = must_be_seen.into_iter().find(|verdict| !self.seen.contains_key(verdict));
-        let came_up = [&self.brothers, &self.shuffles, &self.passes];
+        let came_up = [&self.brothers, &self.document, &self.shuffles, &self.passes];
         let not_seen = not_seen.or_else(|| came_up.into_iter().find_map(CameUp::missing));
         if let Some(sort) = not_seen.or_else(|| self.path_sort_not_seen()) {
             println!("compare: '{sort}' never came up; a longer run is needed");
@@ -206,12 +181,13 @@ impl Comparison {
         println!("compare: digits of the count of choices in random questions: {}", counts.join(", "));
         println!("compare: {} verdicts of the second solver agree with all small trees", self.against_all_small_trees);
         println!("compare: brothers in order: {}", self.brothers);
+        println!("compare: the document node: {}", self.document);
         println!("compare: shuffled papers: {}", self.shuffles);
         println!("compare: one pass: {}", self.passes);
         let Selections { trees, nones, tree_by_tree } = self.selections;
         println!(
             "compare: paths against definition 2.3: variable 0 selected in {trees} trees found; {nones} times none, and no tree of up to \
-             n + 1 nodes has a node selected; {tree_by_tree} texts tree by tree"
+             n + 2 nodes has a node selected; {tree_by_tree} texts tree by tree"
         );
         let sorts: Vec<String> = self.compared.iter().map(|(sort, count)| format!("{count} {sort}")).collect();
         let total: u64 = self.compared.iter().map(|(_, count)| count).sum();

@@ -3,7 +3,7 @@
 
 use crate::small_passes::RECORDS;
 use crate::{disagree, Comparison};
-use archive::one_node;
+use archive::smallest_tree;
 use questions::{random_constraint, Mix};
 use second::constraint::{self, number_of_variables};
 use second::one_pass::{self, onwards, step, NumberOrN, Record, NOTHING_READ};
@@ -123,14 +123,14 @@ impl Comparison {
 
     fn hold_marker(&mut self, sort: &'static str, file: &[u8], expected: NumberOrN) {
         let answer_files = match expected {
-            Err(_) => vec![vec![], vec![1], one_node(0), one_node(1)],
-            Ok(n) => (n.saturating_sub(1)..=n + 1).map(one_node).collect(),
+            Err(_) => vec![vec![], vec![1], smallest_tree(0), smallest_tree(1)],
+            Ok(n) => (n.saturating_sub(1)..=n + 1).map(smallest_tree).collect(),
         };
         for answer_file in answer_files {
             let marked = self.mark(sort, file, &answer_file);
             let is_so = match expected {
                 Err(refusal) => marked == MarkerVerdict::Refused(refusal),
-                Ok(n) => (marked == MarkerVerdict::Refused(Refusal(12))) == (answer_file != one_node(n)),
+                Ok(n) => (marked == MarkerVerdict::Refused(Refusal(12))) == (answer_file != smallest_tree(n)),
             };
             if !is_so {
                 not_so(sort, file, expected, &format!("the marker says {marked} to {}", hex(&answer_file)));

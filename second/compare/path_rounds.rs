@@ -56,7 +56,7 @@ impl Comparison {
         let variables = translate(lines).variables;
         if variables <= 5 && self.random.one_in(2) {
             self.hold_selection(lines, 2_000);
-            self.hold_tree_by_tree(lines, if variables <= 3 { 4 } else { 3 });
+            self.hold_tree_by_tree(lines, if variables <= 3 { 5 } else { 4 });
         } else if self.random.one_in(8) {
             self.hold_selection(lines, 60);
         }

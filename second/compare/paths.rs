@@ -113,7 +113,7 @@ impl Comparison {
 
     fn ask_definition(&mut self, lines: &[Path]) {
         self.hold_selection(lines, u32::MAX);
-        self.hold_tree_by_tree(lines, 3);
+        self.hold_tree_by_tree(lines, 4);
     }
 
     /// Shorter ones first.

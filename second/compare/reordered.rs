@@ -60,7 +60,7 @@ impl Comparison {
             _ => other.chunks(4).find_map(|record| constraint::read(record).err()).expect("a bad record"),
         };
         let solved = [0, LEAST_BUFFER].map(|buffer| self.solve(sort, other, buffer, 0));
-        let marked = self.mark(sort, other, &[1, 0, 0, 0]);
+        let marked = self.mark(sort, other, &[1, 0, 0, 0, 1, 1, 0, 0]);
         let refused = SolverVerdict::Refused(now);
         if solved != [refused.clone(), refused.clone()] || marked != MarkerVerdict::Refused(now) {
             let said = format!("{}, {}, marker {marked}", solved[0], solved[1]);

@@ -1,13 +1,14 @@
 //! Random questions, and all that is asked about each.
 
 use crate::{disagree, Comparison};
+use questions::document::{crowded_document, with_document};
 use questions::{
     crowded_path, crowded_siblings, free, planted, random_assignment, random_constraint, random_tree, Mix,
 };
 use second::constraint::{self, number_of_variables, Constraint};
 use second::tree::{Assignment, Tree};
 use second::verdict::{hex, SolverVerdict};
-use second::{answer, Refusal, LEAST_BUFFER};
+use second::{Refusal, LEAST_BUFFER};
 
 /// What the second solver says, and under which conditions.
 pub struct Solved {
@@ -16,33 +17,18 @@ pub struct Solved {
     pub verdict: SolverVerdict,
 }
 
+/// A random question.
+struct Drawn {
+    sort: &'static str,
+    constraints: Vec<Constraint>,
+    tree: Tree,
+    assignment: Assignment,
+}
+
 impl Comparison {
     /// One random question and all that is asked about it.
     pub fn round(&mut self) {
-        let variables = 1 + self.random.below(16);
-        let records = match self.random.below(10) {
-            0 => self.random.below(257),
-            1 | 2 => self.random.below(8),
-            _ => self.random.below(3 * variables + 2),
-        };
-        let mix = Mix::random(&mut self.random);
-        let number_of_nodes = 1 + self.random.below(variables + 3);
-        let tree = random_tree(&mut self.random, number_of_nodes);
-        let assignment = random_assignment(&mut self.random, variables, &tree);
-        let (sort, constraints) = match self.random.below(16) {
-            0 if self.random.one_in(2) => ("crowded paths", crowded_path(&mut self.random)),
-            0 => ("crowded siblings", crowded_siblings(&mut self.random)),
-            1..=7 => ("planted questions", planted(&mut self.random, &tree, &assignment, records, &mix)),
-            8..=11 => {
-                let mut constraints = planted(&mut self.random, &tree, &assignment, records.min(254), &mix);
-                for _ in 0..1 + self.random.below(2) {
-                    let at = self.random.below(constraints.len() + 1);
-                    constraints.insert(at, random_constraint(&mut self.random, variables, &mix));
-                }
-                ("nearly planted questions", constraints)
-            }
-            _ => ("free questions", free(&mut self.random, variables, records, &mix)),
-        };
+        let Drawn { sort, constraints, tree, assignment } = self.draw();
         let allowance = self.affordable(number_of_variables(&constraints));
         let file = constraint::write(&constraints);
         let verdict = self.solve(sort, &file, LEAST_BUFFER, allowance);
@@ -64,9 +50,44 @@ impl Comparison {
         self.answers(&solved, &constraints, &tree, &assignment);
     }
 
+    /// A question, and the tree and assignment that it may have been drawn for.
+    fn draw(&mut self) -> Drawn {
+        let variables = 1 + self.random.below(16);
+        let records = match self.random.below(10) {
+            0 => self.random.below(257),
+            1 | 2 => self.random.below(8),
+            _ => self.random.below(3 * variables + 2),
+        };
+        let mix = Mix::random(&mut self.random);
+        let number_of_nodes = 2 + self.random.below(variables + 3);
+        let tree = random_tree(&mut self.random, number_of_nodes);
+        let assignment = random_assignment(&mut self.random, variables, &tree);
+        let (sort, constraints) = match self.random.below(18) {
+            0 if self.random.one_in(2) => ("crowded paths", crowded_path(&mut self.random)),
+            0 => ("crowded siblings", crowded_siblings(&mut self.random)),
+            1 => ("crowded documents", crowded_document(&mut self.random)),
+            2 => {
+                let mut constraints = planted(&mut self.random, &tree, &assignment, records.min(250), &mix);
+                with_document(&mut self.random, &mut constraints, variables, &mix);
+                ("questions with a root in front", constraints)
+            }
+            3..=9 => ("planted questions", planted(&mut self.random, &tree, &assignment, records, &mix)),
+            10..=13 => {
+                let mut constraints = planted(&mut self.random, &tree, &assignment, records.min(254), &mix);
+                for _ in 0..1 + self.random.below(2) {
+                    let at = self.random.below(constraints.len() + 1);
+                    constraints.insert(at, random_constraint(&mut self.random, variables, &mix));
+                }
+                ("nearly planted questions", constraints)
+            }
+            _ => ("free questions", free(&mut self.random, variables, records, &mix)),
+        };
+        Drawn { sort, constraints, tree, assignment }
+    }
+
     /// Every fourth verdict on few variables, against trees of so many nodes that they stay few.
     pub fn check_some_meanings(&mut self, constraints: &[Constraint], verdict: &SolverVerdict) {
-        let most_nodes = [7, 7, 6, 6, 5, 6].get(number_of_variables(constraints));
+        let most_nodes = [8, 8, 7, 7, 6, 7].get(number_of_variables(constraints));
         if let Some(&most_nodes) = most_nodes.filter(|_| self.random.one_in(4)) {
             self.check_meaning(constraints, verdict, most_nodes);
         }
@@ -108,10 +129,10 @@ impl Comparison {
     }
 
     fn buffers(&mut self, solved: &Solved) {
-        for buffer in [0, 1, 131] {
+        for buffer in [0, 1, 135] {
             self.solve("answer buffers", &solved.file, buffer, solved.allowance);
         }
-        for buffer in [132, 133, 200] {
+        for buffer in [136, 137, 200] {
             self.hold_solver("answer buffers", &solved.file, buffer, solved.allowance, &solved.verdict);
         }
     }
@@ -130,7 +151,7 @@ impl Comparison {
     fn damaged(&mut self, solved: &Solved) {
         for _ in 0..6 {
             let file = self.damage(&solved.file);
-            let buffer = self.random.pick(&[0, 1, 131, 132, 133, 200]);
+            let buffer = self.random.pick(&[0, 1, 135, 136, 137, 200]);
             let verdict = self.solve("damaged questions", &file, buffer, solved.allowance.min(60));
             if let SolverVerdict::Refused(refusal @ Refusal(1 | 3..=6)) = verdict {
                 self.refused_in_another_order(&file, refusal);
@@ -138,7 +159,7 @@ impl Comparison {
             self.split_damaged(&file);
             let answer_file = match &solved.verdict {
                 SolverVerdict::Tree { answer, .. } => answer.clone(),
-                _ => vec![1, 0, 0, 0],
+                _ => vec![1, 0, 0, 0, 1, 1, 0, 0],
             };
             let answer_length = self.random.pick(&[answer_file.len(), answer_file.len() - 1, 0]);
             self.mark("damaged questions", &file, &answer_file[..answer_length]);
@@ -177,54 +198,5 @@ impl Comparison {
             }
         }
         bytes
-    }
-
-    /// Marks right answers, wrong ones, and each of some with every byte changed.
-    fn answers(&mut self, solved: &Solved, constraints: &[Constraint], tree: &Tree, assignment: &Assignment) {
-        let variables = number_of_variables(constraints);
-        let mut answer_files = Vec::new();
-        if let SolverVerdict::Tree { answer, .. } = &solved.verdict {
-            answer_files.push(answer.clone());
-        }
-        // The planted answer; a crowded question can have more variables than were placed.
-        if let Some(places) = assignment.0.get(..variables) {
-            answer_files.push(answer::write(tree, &Assignment(places.to_vec())));
-        }
-        let nodes = 1 + self.random.below(64);
-        let other_tree = random_tree(&mut self.random, nodes);
-        for tree in [tree, &other_tree] {
-            let assignment = random_assignment(&mut self.random, variables, tree);
-            answer_files.push(answer::write(tree, &assignment));
-        }
-        for answer_file in &answer_files {
-            self.mark("whole answers", &solved.file, answer_file);
-            self.marked_in_another_order(&solved.file, answer_file);
-        }
-        if self.random.one_in(4) {
-            let at = self.random.below(answer_files.len());
-            self.mutated(&solved.file, &answer_files[at]);
-        }
-    }
-
-    fn mutated(&mut self, file: &[u8], answer_file: &[u8]) {
-        const SORT: &str = "mutated answers";
-        let mut mutant = answer_file.to_vec();
-        for at in 0..answer_file.len() {
-            let right = answer_file[at];
-            let chance = self.random.byte();
-            for wrong in [right.wrapping_add(1), right.wrapping_sub(1), 0, 1, 2, 255, chance] {
-                mutant[at] = wrong;
-                self.mark(SORT, file, &mutant);
-            }
-            mutant[at] = right;
-        }
-        for length in 0..answer_file.len() {
-            self.mark("shortened answers", file, &answer_file[..length]);
-        }
-        for at in (0..answer_file.len()).step_by(4) {
-            let (front, back) = answer_file.split_at(at);
-            self.mark("answers lacking a record", file, &[front, &back[4..]].concat());
-            self.mark("answers with a doubled record", file, &[front, &back[..4], back].concat());
-        }
     }
 }

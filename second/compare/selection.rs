@@ -1,6 +1,7 @@
 //! The theorem of request (i), run: the records written can be met if and only if some tree has a node that every line selects, by the
 //! meaning in source 004, definition 2.3. The records are the second reader's, to which the archive is held byte by byte.
 
+use crate::meaning::MORE_NODES;
 use crate::{disagree, Comparison};
 use second::constraint::{self, number_of_variables, Constraint};
 use second::path::{text_of, Path, Step, Test};
@@ -57,11 +58,12 @@ impl Comparison {
         }
     }
 
-    /// Trees of up to n + 1 nodes, and of so many that they stay few, with the labels named and blanks.
+    /// Trees of up to n + 2 nodes, and of so many that they stay few, with the labels named and blanks.
     fn hold_none(&mut self, lines: &[Path], variables: usize) {
         let (labels, expressions) = (labels_of(lines), expressions(lines));
-        let affordable = [7, 6, 5, 4][labels.len().min(4) - 1];
-        for nodes in 1..=affordable.min(variables + 1) {
+        let affordable = [8, 7, 6, 5][labels.len().min(4) - 1];
+        let bound = variables + MORE_NODES;
+        for nodes in brute::LEAST_NODES..=affordable.min(bound) {
             for tree in self.small_trees.of(nodes, &labels).iter() {
                 if !selected_by_all(tree, &expressions).is_empty() {
                     let tree = hex(&answer::write(tree, &Assignment(Vec::new())));
@@ -69,7 +71,7 @@ impl Comparison {
                 }
             }
         }
-        if affordable > variables {
+        if affordable >= bound {
             self.selections.nones += 1;
         }
     }
@@ -78,7 +80,7 @@ impl Comparison {
     /// the records are met. This tells a parent from a child where both can be met.
     pub fn hold_tree_by_tree(&mut self, lines: &[Path], most_nodes: usize) {
         let (records, expressions) = (translate(lines).records, expressions(lines));
-        for nodes in 1..=most_nodes {
+        for nodes in brute::LEAST_NODES..=most_nodes {
             for tree in self.small_trees.of(nodes, &labels_of(lines)).iter() {
                 let (selected, met) = (selected_by_all(tree, &expressions), ends_that_meet(tree, &records));
                 if selected != met {

@@ -1,5 +1,6 @@
 //! What is compared whatever the seed: empty files, long answers, and all small questions and answers.
 
+use crate::meaning::MORE_NODES;
 use crate::rounds::Solved;
 use crate::Comparison;
 use questions::has_siblings;
@@ -9,16 +10,17 @@ use second::{answer, brute, LEAST_BUFFER};
 
 impl Comparison {
     pub fn empty_files(&mut self) {
-        for buffer in [0, 1, 131, 132, 133, 200] {
+        for buffer in [0, 1, 135, 136, 137, 200] {
             for allowance in [0, 1, u32::MAX] {
                 self.solve("empty files", &[], buffer, allowance);
             }
         }
         let one_node = [1, 0, 0, 0];
-        for (file, answer_file) in
-            [(&[][..], &[][..]), (&[], &one_node), (&[6, 0, 0, 0], &[]), (&[6, 0, 0, 0], &one_node)]
-        {
-            self.mark("empty files", file, answer_file);
+        let two_nodes = [1, 0, 0, 0, 1, 1, 0, 0];
+        for file in [&[][..], &[6, 0, 0, 0]] {
+            for answer_file in [&[][..], &one_node, &two_nodes] {
+                self.mark("empty files", file, answer_file);
+            }
         }
     }
 
@@ -72,23 +74,28 @@ impl Comparison {
                 if !is_chosen(constraints) {
                     return;
                 }
-                let file = constraint::write(constraints);
-                let verdict = self.solve(sort, &file, LEAST_BUFFER, u32::MAX);
-                self.check_meaning(constraints, &verdict, number_of_variables(constraints) + 1);
-                if let SolverVerdict::Tree { count: 1.., .. } | SolverVerdict::None { count: 1.. } = verdict {
-                    self.allowances(&Solved { file, allowance: u32::MAX, verdict });
-                }
+                self.set(sort, constraints);
             });
         }
     }
 
-    /// Every tree of up to 4 nodes, every assignment of 3 variables, every single record.
+    /// One question, its verdict against all small trees, and the allowances around its count.
+    pub fn set(&mut self, sort: &'static str, constraints: &[Constraint]) {
+        let file = constraint::write(constraints);
+        let verdict = self.solve(sort, &file, LEAST_BUFFER, u32::MAX);
+        self.check_meaning(constraints, &verdict, number_of_variables(constraints) + MORE_NODES);
+        if let SolverVerdict::Tree { count: 1.., .. } | SolverVerdict::None { count: 1.. } = verdict {
+            self.allowances(&Solved { file, allowance: u32::MAX, verdict });
+        }
+    }
+
+    /// Every tree of up to 5 nodes, every assignment of 3 variables, every single record.
     pub fn all_small_answers(&mut self) {
         let records = all_records(3);
-        for nodes in 1..=4 {
+        for nodes in brute::LEAST_NODES..=5 {
             for shape in brute::shapes(nodes) {
-                // Each label that the records name, and a blank.
-                let labels = [97, 98, 0, 97][..nodes].to_vec();
+                // The document node, each label that the records name, and a blank.
+                let labels = [0, 97, 98, 0, 97][..nodes].to_vec();
                 let tree = brute::tree_of_shape(&shape, labels);
                 for &record in &records {
                     let variables = number_of_variables(&[record]);
@@ -116,7 +123,7 @@ pub fn all_records(variables: u8) -> Vec<Constraint> {
 }
 
 /// Without x = y and without the mirror images of same and differ.
-fn plain_records(variables: u8) -> Vec<Constraint> {
+pub fn plain_records(variables: u8) -> Vec<Constraint> {
     let is_plain = |&record: &Constraint| match record {
         Constraint::Child(x, y) | Constraint::Below(x, y) | Constraint::StrictlyBelow(x, y) => x != y,
         Constraint::Before(x, y) => x != y,

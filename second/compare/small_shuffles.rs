@@ -34,6 +34,7 @@ impl Comparison {
             has_siblings,
         );
         self.all_numbers_of_third_joins();
+        self.all_numbers_of_fourth_joins();
         self.all_orders_of_bad_records();
         self.all_small_answers_in_both_orders();
     }
@@ -72,12 +73,30 @@ impl Comparison {
             &[[2, 1, 2, 0], [3, 0, 2, 0], [2, 4, 2, 0], [9, 0, 3, 0], [9, 2, 3, 0]],
             &[[1, 0, 1, 0], [2, 2, 1, 0], [9, 3, 4, 0], [2, 1, 3, 0], [2, 2, 4, 0]],
         ];
+        self.all_numbers_of("renumberings of questions with third joins", &questions);
+    }
+
+    /// The order of fourth joins by w, and after all other joins, shows where one w is above another, or a w takes part in another join.
+    fn all_numbers_of_fourth_joins(&mut self) {
+        let questions: [&[[u8; 4]]; 6] = [
+            &[[6, 0, 0, 0], [1, 0, 1, 0], [2, 2, 3, 0], [2, 3, 4, 0]],
+            &[[6, 0, 0, 0], [1, 0, 1, 0], [2, 2, 4, 0], [2, 3, 4, 0]],
+            &[[6, 0, 0, 0], [1, 0, 1, 0], [2, 2, 3, 0], [9, 3, 4, 0]],
+            &[[6, 0, 0, 0], [1, 0, 1, 0], [7, 1, 0, 0], [5, 1, 2, 0], [5, 2, 3, 0], [5, 1, 3, 0], [2, 3, 4, 0]],
+            &[[6, 0, 0, 0], [1, 0, 1, 0], [7, 1, 0, 0], [1, 2, 3, 0], [8, 4, 0, 97]],
+            &[[6, 0, 0, 0], [6, 1, 0, 0], [1, 0, 2, 0], [1, 1, 3, 0], [7, 4, 0, 0]],
+        ];
+        self.all_numbers_of("renumberings of questions with fourth joins", &questions);
+    }
+
+    /// Over 5 variables.
+    fn all_numbers_of(&mut self, sort: &'static str, questions: &[&[[u8; 4]]]) {
         for question in questions {
             let file = question.concat();
             let verdict = second::solve(&file, LEAST_BUFFER, u32::MAX);
             let solved = Solved { file, allowance: u32::MAX, verdict };
             for numbers in permutations(5) {
-                self.hold_renumbered("renumberings of questions with third joins", &solved, &numbers);
+                self.hold_renumbered(sort, &solved, &numbers);
             }
         }
     }
@@ -136,13 +155,13 @@ impl Comparison {
         }
     }
 
-    /// Every tree of up to 3 nodes with every assignment, to every two records over 2 variables.
+    /// Every tree of up to 4 nodes with every assignment, to every two records over 2 variables.
     fn all_small_answers_in_both_orders(&mut self) {
         const SORT: &str = "small answers to two records in both orders";
-        for nodes in 1..=3 {
+        for nodes in brute::LEAST_NODES..=4 {
             for shape in brute::shapes(nodes) {
-                // Each label that the records name, and a blank.
-                let tree = brute::tree_of_shape(&shape, [97, 98, 0][..nodes].to_vec());
+                // The document node, each label that the records name, and a blank.
+                let tree = brute::tree_of_shape(&shape, [0, 97, 98, 0][..nodes].to_vec());
                 for_each_choice(&all_records(2), 2, &mut Vec::new(), &mut |pair| {
                     let file = constraint::write(pair);
                     for assignment in brute::assignments(number_of_variables(pair), nodes) {

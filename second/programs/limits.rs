@@ -5,6 +5,7 @@ use crate::run::in_pieces;
 use crate::{hold_verdict, text, Trial, ALLOWANCE};
 use second::LEAST_BUFFER;
 
+/// One node, which question 10 refuses.
 pub const NODE_0: [u8; 4] = [1, 0, 0, 0];
 pub const CHILD_0_1: [u8; 4] = [1, 0, 1, 0];
 /// Node 1 under node 0, with variable 0 on node 0 and variable 1 on node 1.
@@ -41,6 +42,7 @@ impl Trial {
             self.solve_as_second(&name, &file);
             self.mark_as_second(&name, &file, &PARENT_AND_CHILD);
             self.mark_as_second(&name, &file, &NODE_0);
+            self.mark_as_second(&name, &file, &PARENT_AND_CHILD[..8]);
         }
     }
 

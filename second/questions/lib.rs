@@ -1,10 +1,11 @@
 //! Seeded questions for the comparison and for the stored corpus.
 
+pub mod document;
 pub mod paths;
 pub mod shuffle;
 
 use second::constraint::{Constraint, Variable};
-use second::tree::{meets, Assignment, Node, Tree};
+use second::tree::{meets, Assignment, Node, Tree, DOCUMENT_NODE};
 
 /// Splitmix64: the same seed gives the same questions on every machine.
 pub struct Random(u64);
@@ -86,6 +87,10 @@ pub fn random_constraint(random: &mut Random, variables: usize, mix: &Mix) -> Co
         8 => Constraint::Label(x, random.pick(&LABELS)),
         _ => Constraint::Before(x, y),
     }
+}
+
+pub fn has_root(constraints: &[Constraint]) -> bool {
+    constraints.iter().any(|constraint| matches!(constraint, Constraint::Root(_)))
 }
 
 pub fn has_siblings(constraints: &[Constraint]) -> bool {
@@ -180,16 +185,23 @@ pub fn crowded_siblings(random: &mut Random) -> Vec<Constraint> {
     constraints
 }
 
-/// Path-like, bushy or flat, with blanks.
+/// Path-like, bushy or flat, with blanks; below the document node one element over all others. At least 2 nodes.
 pub fn random_tree(random: &mut Random, nodes: usize) -> Tree {
     let reach = random.pick(&[1, 2, 3, nodes]);
-    let mut tree = Tree { parents: Vec::new(), labels: Vec::new() };
-    for node in 0..nodes {
-        let parent = (node > 0).then(|| Node(node - 1 - random.below(reach.min(node))));
-        tree.parents.push(parent);
-        tree.labels.push(if random.one_in(3) { 0 } else { random.pick(&LABELS) });
+    let mut tree = Tree { parents: vec![None, Some(DOCUMENT_NODE)], labels: vec![0, random_label(random)] };
+    for node in 2..nodes {
+        tree.parents.push(Some(Node(node - 1 - random.below(reach.min(node - 1)))));
+        tree.labels.push(random_label(random));
     }
     tree
+}
+
+fn random_label(random: &mut Random) -> u8 {
+    if random.one_in(3) {
+        0
+    } else {
+        random.pick(&LABELS)
+    }
 }
 
 pub fn random_assignment(random: &mut Random, variables: usize, tree: &Tree) -> Assignment {

@@ -1,6 +1,6 @@
 //! Answer files: questions 8 to 12, and the writer.
 
-use crate::tree::{Assignment, Node, Tree};
+use crate::tree::{Assignment, Node, Tree, OUTERMOST_ELEMENT};
 use crate::Refusal;
 
 const NODE_RECORD: u8 = 1;
@@ -16,15 +16,11 @@ pub fn read(file: &[u8], variables: usize) -> Result<(Tree, Assignment), Refusal
     if places.iter().any(|record| record[0] != PLACE_RECORD) {
         return Err(Refusal(9));
     }
-    if !(1..=64).contains(&nodes.len()) {
+    if !(2..=64).contains(&nodes.len()) {
         return Err(Refusal(10));
     }
-    for (position, record) in nodes.iter().enumerate() {
-        let (own, parent) = (record[1] as usize, record[2] as usize);
-        let parent_fits = if position == 0 { parent == 0 } else { parent < position };
-        if own != position || !parent_fits {
-            return Err(Refusal(11));
-        }
+    if !nodes.iter().enumerate().all(|(position, record)| is_well_formed(position, record)) {
+        return Err(Refusal(11));
     }
     let in_order = places.iter().enumerate().all(|(position, record)| {
         let (variable, node) = (record[1] as usize, record[2] as usize);
@@ -40,6 +36,16 @@ pub fn read(file: &[u8], variables: usize) -> Result<(Tree, Assignment), Refusal
     };
     let assignment = Assignment(places.iter().map(|record| Node(record[2] as usize)).collect());
     Ok((tree, assignment))
+}
+
+/// Question 11 of one node record. Node 0 is blank, and has no second child.
+fn is_well_formed(position: usize, record: &[u8]) -> bool {
+    let (own, parent, label) = (record[1] as usize, record[2] as usize, record[3]);
+    own == position
+        && match position {
+            0 => parent == 0 && label == 0,
+            _ => parent < position && (parent > 0 || Node(position) == OUTERMOST_ELEMENT),
+        }
 }
 
 pub fn write(tree: &Tree, assignment: &Assignment) -> Vec<u8> {

@@ -1,5 +1,5 @@
 //! Facts and the settled set: the least set that holds the given facts and is closed under the rules (source 000, rules 1 to 9, and
-//! document 02, request (iii), for before).
+//! document 02, request (iii), for before, and request (v), for the document node).
 //! A round draws every conclusion of every rule from the facts held; rounds are repeated until one brings nothing new.
 
 use crate::constraint::{Constraint, Variable};
@@ -48,6 +48,10 @@ pub enum Clash {
     LaterSiblingBelow,
     /// before(x,y) with below(y,x).
     EarlierSiblingBelow,
+    /// The document node has a child.
+    LeafOnDocumentNode,
+    /// The document node has no name.
+    LabelOnDocumentNode,
 }
 
 /// A settled set without a clash.
@@ -74,34 +78,51 @@ impl Settled {
         self.holds(Before(x, y))
     }
 
+    pub fn is_root(&self, x: Variable) -> bool {
+        self.holds(Root(x))
+    }
+
     pub fn label(&self, x: Variable) -> Option<u8> {
         labels_of(&self.facts, x).next()
     }
 
     /// The settled set of these facts and some more, or its clash.
-    pub fn with(&self, more: &[Fact]) -> Result<Settled, Clash> {
+    pub fn with(&self, more: &[Fact]) -> Settling {
         let mut facts = self.facts.clone();
         facts.extend(more);
         settle(self.variables.clone(), facts)
     }
 }
 
+pub struct Settling {
+    pub result: Result<Settled, Clash>,
+    /// Were two children of a root made the same, for no other reason?
+    pub made_one_child: bool,
+}
+
 /// The settled set of the constraints over variables 0 to n−1, or its clash.
-pub fn settle_constraints(constraints: &[Constraint], variables: usize) -> Result<Settled, Clash> {
+pub fn settle_constraints(constraints: &[Constraint], variables: usize) -> Settling {
     let variables = (0..variables as u8).map(Variable).collect();
     let facts = constraints.iter().flat_map(|&constraint| facts_of(constraint)).collect();
     settle(variables, facts)
 }
 
-fn settle(variables: Vec<Variable>, mut facts: BTreeSet<Fact>) -> Result<Settled, Clash> {
+/// What the other rules give goes first, so that it shows where two children of a root are the same by their own rule alone. The least set
+/// is the same.
+fn settle(variables: Vec<Variable>, mut facts: BTreeSet<Fact>) -> Settling {
+    let mut made_one_child = false;
     loop {
         if let Some(clash) = first_clash(&facts) {
-            return Err(clash);
+            return Settling { result: Err(clash), made_one_child };
         }
         let held = facts.len();
         facts.extend(conclusions(&variables, &facts));
         if facts.len() == held {
-            return Ok(Settled { variables, facts });
+            facts.extend(children_of_roots_made_one(&variables, &facts));
+            if facts.len() == held {
+                return Settling { result: Ok(Settled { variables, facts }), made_one_child };
+            }
+            made_one_child = true;
         }
     }
 }
@@ -112,6 +133,8 @@ fn first_clash(facts: &BTreeSet<Fact>) -> Option<Clash> {
         Label(x, label) if labels_of(facts, x).any(|other| other != label) => Some(Clash::TwoLabels),
         Before(x, y) if facts.contains(&Below(x, y)) => Some(Clash::LaterSiblingBelow),
         Before(x, y) if facts.contains(&Below(y, x)) => Some(Clash::EarlierSiblingBelow),
+        Root(x) if facts.contains(&Leaf(x)) => Some(Clash::LeafOnDocumentNode),
+        Root(x) if labels_of(facts, x).next().is_some() => Some(Clash::LabelOnDocumentNode),
         _ => None,
     })
 }
@@ -156,6 +179,13 @@ fn conclusions(variables: &[Variable], facts: &BTreeSet<Fact>) -> Vec<Fact> {
         }
     }
     drawn
+}
+
+/// "Two children of it are the same": of the document node, which root(r) names.
+fn children_of_roots_made_one(variables: &[Variable], facts: &BTreeSet<Fact>) -> Vec<Fact> {
+    let children_of = |r: Variable| variables.iter().copied().filter(move |&x| facts.contains(&Child(r, x)));
+    let roots = variables.iter().copied().filter(|&r| facts.contains(&Root(r)));
+    roots.flat_map(|r| children_of(r).flat_map(move |x| children_of(r).flat_map(move |y| same(x, y)))).collect()
 }
 
 /// From before(x,y): before chains, gives differ, and passes a child fact to the other sibling.

@@ -43,7 +43,7 @@ impl Constraint {
         }
     }
 
-    fn variables(self) -> Vec<Variable> {
+    pub fn variables(self) -> Vec<Variable> {
         match self {
             Child(x, y) | Below(x, y) | StrictlyBelow(x, y) | Same(x, y) | Differ(x, y) | Before(x, y) => vec![x, y],
             Root(x) | Leaf(x) | Label(x, _) => vec![x],

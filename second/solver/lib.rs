@@ -22,8 +22,8 @@ use verdict::{MarkerVerdict, PathsVerdict, SolverVerdict};
 #[derive(Clone, Copy, PartialEq, Eq, Debug)]
 pub struct Refusal(pub u8);
 
-/// The shortest answer buffer that question 7 lets pass: 17 node records and 16 place records.
-pub const LEAST_BUFFER: usize = 132;
+/// The shortest answer buffer that question 7 lets pass: 18 node records and 16 place records.
+pub const LEAST_BUFFER: usize = 136;
 /// The shortest buffer that question 7 lets pass for the records of paths.
 pub const LEAST_RECORDS_BUFFER: usize = 1024;
 

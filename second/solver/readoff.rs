@@ -2,7 +2,7 @@
 
 use crate::closure::Settled;
 use crate::constraint::Variable;
-use crate::tree::{Assignment, Node, Tree};
+use crate::tree::{Assignment, Node, Tree, DOCUMENT_NODE};
 
 /// A group of same variables, named by its lowest one.
 type Group = Variable;
@@ -43,21 +43,25 @@ fn in_order_of_nodes(settled: &Settled) -> Vec<Group> {
     ordered
 }
 
+/// A document node is added where no variable is root; unless exactly one group stands next under it, a blank element does, over those.
 pub fn read_off(settled: &Settled) -> (Tree, Assignment) {
-    let groups = in_order_of_nodes(settled);
-    let tops = groups.iter().filter(|&&group| parent_group(settled, group).is_none()).count();
-    let blank_top = tops != 1;
+    let (roots, groups): (Vec<Group>, Vec<Group>) =
+        in_order_of_nodes(settled).into_iter().partition(|&group| settled.is_root(group));
+    assert!(roots.len() <= 1, "each root is above the others");
+    let parent_element = |group: Group| parent_group(settled, group).filter(|above| !roots.contains(above));
+    let next_under = groups.iter().filter(|&&group| parent_element(group).is_none()).count();
 
-    let first = if blank_top { 1 } else { 0 };
-    let node_of = |group: Group| Node(first + groups.iter().position(|&other| other == group).expect("a group"));
-    let mut tree = Tree { parents: Vec::new(), labels: Vec::new() };
-    if blank_top {
-        tree.parents.push(None);
+    let mut tree = Tree { parents: vec![None], labels: vec![0] };
+    if next_under != 1 {
+        tree.parents.push(Some(DOCUMENT_NODE));
         tree.labels.push(0);
     }
+    let first = tree.parents.len();
+    let over_all_groups = Node(first - 1);
+    let number_of = |group: Group| groups.iter().position(|&other| other == group).map(|at| Node(first + at));
+    let node_of = |group: Group| number_of(group).unwrap_or(DOCUMENT_NODE);
     for &group in &groups {
-        let parent = parent_group(settled, group).map(node_of);
-        tree.parents.push(if blank_top { parent.or(Some(Node(0))) } else { parent });
+        tree.parents.push(Some(parent_element(group).map_or(over_all_groups, node_of)));
         tree.labels.push(settled.label(group).unwrap_or(0));
     }
     let places = settled.variables.iter().map(|&x| node_of(group_of(settled, x)));

@@ -1,6 +1,7 @@
-//! Joins, choices and the allowance (source 000, section 3.4, in document 01's fixed order; document 02, request (iii), for the third join).
+//! Joins, choices and the allowance (source 000, section 3.4, in document 01's fixed order; document 02, request (iii), for the third join,
+//! and request (v), for the fourth).
 
-use crate::closure::{same, settle_constraints, Clash, Fact, Settled};
+use crate::closure::{same, settle_constraints, Clash, Fact, Settled, Settling};
 use crate::constraint::{number_of_variables, Constraint, Variable};
 use std::collections::BTreeSet;
 
@@ -14,9 +15,26 @@ pub enum Outcome {
 
 #[derive(Clone, Copy, PartialEq, Eq, Debug)]
 pub enum Join {
-    Parent { x: Variable, y: Variable, z: Variable },
-    Chain { x: Variable, y: Variable },
-    Sibling { a: Variable, x: Variable, y: Variable },
+    Parent {
+        x: Variable,
+        y: Variable,
+        z: Variable,
+    },
+    Chain {
+        x: Variable,
+        y: Variable,
+    },
+    Sibling {
+        a: Variable,
+        x: Variable,
+        y: Variable,
+    },
+    /// r is the document node and y the element next under it: w is at or below y, or on r.
+    Element {
+        r: Variable,
+        y: Variable,
+        w: Variable,
+    },
 }
 
 impl Join {
@@ -26,11 +44,13 @@ impl Join {
             Join::Parent { x, y, z } => [vec![Fact::Below(x, y)], same(x, z)],
             Join::Chain { x, y } => [vec![Fact::Below(x, y)], vec![Fact::Below(y, x)]],
             Join::Sibling { a, x, y } => [vec![Fact::Below(a, x)], same(a, y)],
+            Join::Element { r, y, w } => [vec![Fact::Below(y, w)], same(w, r)],
         }
     }
 }
 
-/// Parent joins, then chain joins, each by the smallest z, then x, then y; then sibling joins, the third kind, by y, then a, then x.
+/// Parent joins, then chain joins, each by the smallest z, then x, then y; then sibling joins, the third kind, by y, then a, then x; then
+/// element joins, the fourth and last kind, by r, then y, then w.
 pub fn first_join(settled: &Settled) -> Option<Join> {
     first_triple(settled, |z, x, y| {
         settled.holds(Fact::Child(y, z)) && settled.below(x, z) && !settled.same(x, z) && !settled.below(x, y)
@@ -48,6 +68,12 @@ pub fn first_join(settled: &Settled) -> Option<Join> {
             are_siblings && settled.below(a, y) && !settled.same(a, y) && !settled.below(a, x)
         })
         .map(|(y, a, x)| Join::Sibling { a, x, y })
+    })
+    .or_else(|| {
+        first_triple(settled, |r, y, w| {
+            settled.is_root(r) && settled.holds(Fact::Child(r, y)) && !settled.same(w, r) && !settled.below(y, w)
+        })
+        .map(|(r, y, w)| Join::Element { r, y, w })
     })
 }
 
@@ -73,6 +99,11 @@ fn first_triple(
 pub struct Trace {
     /// What ended its lines.
     pub clashes: BTreeSet<Clash>,
+    /// Were two children of a root made the same, by their own rule alone?
+    pub made_one_child: bool,
+    /// Was a fourth join come to, and how many alternatives of such joins were entered?
+    pub came_to_fourth_join: bool,
+    pub of_fourth_joins: u32,
     /// The alternatives of the line that ended in a tree, the innermost first: the join, and 0 or 1.
     pub line: Vec<(Join, usize)>,
 }
@@ -93,8 +124,9 @@ pub fn search(constraints: &[Constraint], allowance: u32) -> (Outcome, u32, Trac
 
 impl Search {
     /// Searches one line to its end.
-    fn explore(&mut self, settled: Result<Settled, Clash>) -> Outcome {
-        let settled = match settled {
+    fn explore(&mut self, settling: Settling) -> Outcome {
+        self.trace.made_one_child |= settling.made_one_child;
+        let settled = match settling.result {
             Ok(settled) => settled,
             Err(clash) => {
                 self.trace.clashes.insert(clash);
@@ -104,11 +136,14 @@ impl Search {
         let Some(join) = first_join(&settled) else {
             return Outcome::Solved(settled);
         };
+        let is_fourth = matches!(join, Join::Element { .. });
+        self.trace.came_to_fourth_join |= is_fourth;
         for (at, alternative) in join.alternatives().iter().enumerate() {
             if self.count == self.allowance {
                 return Outcome::Spent;
             }
             self.count += 1;
+            self.trace.of_fourth_joins += is_fourth as u32;
             match self.explore(settled.with(alternative)) {
                 Outcome::None => continue,
                 Outcome::Spent => return Outcome::Spent,

@@ -1,8 +1,8 @@
 //! What a path selects on a tree: source 004, definitions 2.2 and 2.3, the cases by their numbers there. Cases 12 to 14 (intersection, union,
-//! difference) are none of requests (i) and (iii).
+//! difference) are none of requests (i) and (iii). The root is the document node (request (v)), which has no name: no letter passes it.
 
 use crate::path::{Axis, Path, Step, Test};
-use crate::tree::{Node, Tree};
+use crate::tree::{Node, Tree, DOCUMENT_NODE};
 
 /// Definition 2.2.
 pub enum Expression {
@@ -31,7 +31,8 @@ pub fn expression(path: &Path) -> Expression {
     path.steps.iter().fold(start, |before, step| then(before, step_expression(step)))
 }
 
-/// "The tag names steps behave as if they follow the self axis": `child::a` is child, then a. `*` passes any node.
+/// "The tag names steps behave as if they follow the self axis": `child::a` is child, then a. `*` passes any node, the
+/// document node too.
 fn step_expression(step: &Step) -> Expression {
     let axis = match step.axis {
         Axis::Itself => Itself,
@@ -86,7 +87,7 @@ fn pairs(tree: &Tree, expression: &Expression) -> Pairs {
         // (8)
         Root => Pairs::of(tree, |_, m| tree.parent(m).is_none()),
         // (9)
-        Tag(tag) => Pairs::of(tree, |n, m| n == m && tree.label(n) == *tag),
+        Tag(tag) => Pairs::of(tree, |n, m| n == m && n != DOCUMENT_NODE && tree.label(n) == *tag),
         // (10)
         Then(first, second) => {
             let (first, second) = (pairs(tree, first), pairs(tree, second));

@@ -1,5 +1,5 @@
-//! Trees (source 004, definition 2.1, with the order of siblings in place of document order), assignments, and when a constraint is met
-//! (source 000, section 2).
+//! Trees (source 004, definition 2.1, with the order of siblings in place of document order, and document 02, request (v), for node 0),
+//! assignments, and when a constraint is met (source 000, section 2).
 
 use crate::constraint::{Constraint, Variable};
 
@@ -9,10 +9,16 @@ pub struct Node(pub usize);
 #[derive(Clone, PartialEq, Eq, Debug)]
 pub struct Tree {
     /// The parent of each node; only node 0 has none, and every other parent has a smaller number than its node. The children of a node
-    /// stand in the order of their numbers.
+    /// stand in the order of their numbers. Node 0 is the document node: blank, with exactly one child, so that node 1 is the outermost
+    /// element and only it has parent 0.
     pub parents: Vec<Option<Node>>,
     pub labels: Vec<u8>,
 }
+
+/// Above the one outermost element, without a name.
+pub const DOCUMENT_NODE: Node = Node(0);
+/// The one child of the document node.
+pub const OUTERMOST_ELEMENT: Node = Node(1);
 
 /// The node of each variable. Only here does a variable become a node.
 #[derive(Clone, PartialEq, Eq, Debug)]

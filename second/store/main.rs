@@ -1,7 +1,7 @@
-//! Makes stored questions with the second solver alone: `store solve` and `store mark` print the files of `stored/` that have brothers in
-//! order. (The two older ones, solve.txt and mark.txt, were made in the same way when there were eight kinds.)
-//! Questions are drawn at random, always the same ones, and kept until each sort has its share. Each has a record of kind 9, or had one
-//! before a byte of it was changed.
+//! Makes stored questions with the second solver alone: `store solve` and `store mark` print the files of `stored/` that have a document node,
+//! solve-document.txt and mark-document.txt. (The older ones were made in the same way, by earlier states of this program: solve.txt and
+//! mark.txt when there were eight kinds, solve-brothers.txt and mark-brothers.txt before node 0 was the document node.)
+//! Questions are drawn at random, always the same ones, and kept until each sort has its share.
 
 mod answers;
 mod questions_to_solve;

@@ -1,12 +1,12 @@
-//! Questions to the solver.
+//! Questions to the solver, each with a root.
 
-use crate::share::{damage, is_full, keep, print, share, Share};
-use questions::{
-    crowded_siblings, free, has_siblings, planted, random_assignment, random_constraint, random_tree, Mix, Random,
-};
+use crate::share::{is_full, keep, print, share, Share};
+use questions::document::{crowded_document, with_document};
+use questions::{free, has_root, planted, random_assignment, random_constraint, random_tree, Mix, Random};
 use second::closure::Clash;
-use second::constraint::{self, number_of_variables, Constraint};
+use second::constraint::{self, number_of_variables, Constraint, Variable};
 use second::search::{Join, Trace};
+use second::tree::{DOCUMENT_NODE, OUTERMOST_ELEMENT};
 use second::verdict::{hex, SolverVerdict};
 use second::{answer, Refusal, LEAST_BUFFER};
 use std::collections::BTreeSet;
@@ -15,24 +15,24 @@ const ALLOWANCE: u32 = 1_000_000;
 /// Above this count the naive search takes too long to be run again at every check.
 const LARGEST_COUNT: u32 = 4_999;
 
-/// A question, the allowance it was put with, and what came of it.
+/// A question, what it was put with, and what came of it.
 struct Asked {
     constraints: Vec<Constraint>,
-    file: Vec<u8>,
+    buffer: usize,
     allowance: u32,
     verdict: SolverVerdict,
     trace: Trace,
 }
 
 impl Asked {
-    fn new(constraints: &[Constraint], file: Vec<u8>, allowance: u32) -> Asked {
-        let (verdict, trace) = second::solve_traced(&file, LEAST_BUFFER, allowance);
-        Asked { constraints: constraints.to_vec(), file, allowance, verdict, trace }
+    fn new(constraints: &[Constraint], buffer: usize, allowance: u32) -> Asked {
+        let (verdict, trace) = second::solve_traced(&constraint::write(constraints), buffer, allowance);
+        Asked { constraints: constraints.to_vec(), buffer, allowance, verdict, trace }
     }
 
     fn keep_in(&self, shares: &mut [Share<Asked>]) {
-        let line = format!("solve {} {LEAST_BUFFER} {} {}", hex(&self.file), self.allowance, self.verdict);
-        keep(shares, self, line);
+        let file = hex(&constraint::write(&self.constraints));
+        keep(shares, self, format!("solve {file} {} {} {}", self.buffer, self.allowance, self.verdict));
     }
 }
 
@@ -40,19 +40,18 @@ pub fn store() {
     println!("# Made by 'target/second/store solve', that is, by the second solver alone. One question a line:");
     println!("# name, solve, constraint file in hex, bytes lent, allowance; verdict, count or number of the question, answer file in hex.");
     let mut shares = shares();
-    let mut random = Random::new(2012);
+    let mut random = Random::new(2021);
     while !is_full(&shares) {
-        let constraints = if random.one_in(20) { crowded_siblings(&mut random) } else { random_question(&mut random) };
-        if has_siblings(&constraints) {
-            store_with_siblings(&mut random, &mut shares, &constraints);
+        let constraints = if random.one_in(3) { crowded_document(&mut random) } else { random_question(&mut random) };
+        if has_root(&constraints) {
+            store_with_root(&mut random, &mut shares, &constraints);
         }
     }
     print(&shares);
 }
 
-fn store_with_siblings(random: &mut Random, shares: &mut [Share<Asked>], constraints: &[Constraint]) {
-    let file = constraint::write(constraints);
-    let mut asked = Asked::new(constraints, file.clone(), LARGEST_COUNT);
+fn store_with_root(random: &mut Random, shares: &mut [Share<Asked>], constraints: &[Constraint]) {
+    let mut asked = Asked::new(constraints, LEAST_BUFFER, LARGEST_COUNT);
     let (SolverVerdict::Tree { count, .. } | SolverVerdict::None { count }) = asked.verdict else {
         return;
     };
@@ -61,34 +60,36 @@ fn store_with_siblings(random: &mut Random, shares: &mut [Share<Asked>], constra
     asked.keep_in(shares);
     if count > 0 && random.one_in(4) {
         let allowance = if random.one_in(3) { count - 1 } else { random.below(count as usize) as u32 };
-        Asked::new(constraints, file.clone(), allowance).keep_in(shares);
+        Asked::new(constraints, LEAST_BUFFER, allowance).keep_in(shares);
     }
-    let damaged = damage(random, file);
-    Asked::new(constraints, damaged, 0).keep_in(shares);
+    Asked::new(constraints, random.pick(&[131, 132, 133, 134, 135]), ALLOWANCE).keep_in(shares);
 }
 
 fn shares() -> Vec<Share<Asked>> {
+    let spent = |asked: &Asked| matches!(asked.verdict, SolverVerdict::Spent { .. });
     vec![
-        share("third-join-first", 15, |asked| tree(asked, 1, 99) && takes(asked, 0) && !takes(asked, 1)),
-        share("third-join-second", 15, |asked| tree(asked, 1, 99) && takes(asked, 1)),
-        share("order", 20, |asked| tree(asked, 0, 9) && is_out_of_order(asked)),
-        share("gains-parent", 15, |asked| tree(asked, 0, 9) && a_sibling_gains_its_parent(&asked.constraints)),
-        share("clash-later-below", 8, |asked| none(asked, 0, 0) && clashes_by(asked, Clash::LaterSiblingBelow)),
-        share("clash-earlier-below", 8, |asked| none(asked, 0, 0) && clashes_by(asked, Clash::EarlierSiblingBelow)),
-        share("tree-0", 10, |asked| tree(asked, 0, 0)),
-        share("tree-to-9", 15, |asked| tree(asked, 1, 9)),
-        share("tree-to-99", 12, |asked| tree(asked, 10, 99)),
-        share("tree-to-999", 5, |asked| tree(asked, 100, 999)),
-        share("none-0", 10, |asked| none(asked, 0, 0)),
-        share("none-to-9", 15, |asked| none(asked, 1, 9)),
-        share("none-to-99", 12, |asked| none(asked, 10, 99)),
-        share("none-to-999", 8, |asked| none(asked, 100, 999)),
-        share("none-to-4999", 3, |asked| none(asked, 1_000, LARGEST_COUNT)),
-        share("spent-0", 4, |asked: &Asked| matches!(asked.verdict, SolverVerdict::Spent { count: 0 })),
-        share("spent", 12, |asked: &Asked| matches!(asked.verdict, SolverVerdict::Spent { .. })),
-        share("refused-3", 4, |asked: &Asked| asked.verdict == SolverVerdict::Refused(Refusal(3))),
-        share("refused-4", 6, |asked: &Asked| asked.verdict == SolverVerdict::Refused(Refusal(4))),
-        share("refused-6", 4, |asked: &Asked| asked.verdict == SolverVerdict::Refused(Refusal(6))),
+        share("fourth-join-first", 20, |asked| tree(asked, 1, 99) && takes(asked, 0) && !takes(asked, 1)),
+        share("fourth-join-second", 20, |asked| tree(asked, 1, 99) && takes(asked, 1)),
+        share("fourth-join-skipped", 8, |asked| tree(asked, 1, 99) && joins_a_skipped_variable(asked)),
+        share("fourth-join-none", 15, |asked| none(asked, 1, LARGEST_COUNT) && asked.trace.of_fourth_joins > 0),
+        share("fourth-join-spent-0", 4, move |asked| {
+            spent(asked) && asked.trace.of_fourth_joins == 0 && came_to(asked)
+        }),
+        share("fourth-join-spent", 8, move |asked| spent(asked) && asked.trace.of_fourth_joins > 0),
+        share("fourth-join-siblings", 6, |asked| tree(asked, 1, 99) && came_to(asked) && has_third_join(asked)),
+        share("one-child", 12, |asked| tree(asked, 0, 99) && asked.trace.made_one_child),
+        share("one-child-clash", 6, |asked| none(asked, 0, 0) && asked.trace.made_one_child),
+        share("leaf-on-document", 6, |asked| clashes_by(asked, Clash::LeafOnDocumentNode)),
+        share("label-on-document", 6, |asked| clashes_by(asked, Clash::LabelOnDocumentNode)),
+        share("element-added", 10, |asked| tree(asked, 0, 9) && adds_an_element(asked) == Some(true)),
+        share("element-alone", 2, |asked| {
+            tree(asked, 0, 9) && has_two_nodes(asked) && adds_an_element(asked) == Some(true)
+        }),
+        share("no-element-added", 8, |asked| tree(asked, 0, 9) && adds_an_element(asked) == Some(false)),
+        share("tree-to-99", 8, |asked| tree(asked, 10, 99)),
+        share("none-to-99", 8, |asked| none(asked, 10, 99)),
+        share("none-to-999", 3, |asked| none(asked, 100, 999)),
+        share("refused-7", 6, |asked: &Asked| asked.verdict == SolverVerdict::Refused(Refusal(7))),
     ]
 }
 
@@ -100,53 +101,63 @@ fn none(asked: &Asked, least: u32, most: u32) -> bool {
     matches!(asked.verdict, SolverVerdict::None { count } if (least..=most).contains(&count))
 }
 
-/// Does the line that ended in a tree have this alternative of a third join?
+fn came_to(asked: &Asked) -> bool {
+    asked.trace.came_to_fourth_join
+}
+
+/// Does the line that ended in a tree have this alternative of a fourth join?
 fn takes(asked: &Asked, alternative: usize) -> bool {
-    asked.trace.line.iter().any(|&(join, taken)| matches!(join, Join::Sibling { .. }) && taken == alternative)
+    asked.trace.line.iter().any(|&(join, taken)| matches!(join, Join::Element { .. }) && taken == alternative)
+}
+
+/// A variable that no record names.
+fn joins_a_skipped_variable(asked: &Asked) -> bool {
+    let is_named = |w: Variable| asked.constraints.iter().any(|record| record.variables().contains(&w));
+    asked.trace.line.iter().any(|&(join, _)| matches!(join, Join::Element { w, .. } if !is_named(w)))
+}
+
+fn has_third_join(asked: &Asked) -> bool {
+    asked.trace.line.iter().any(|(join, _)| matches!(join, Join::Sibling { .. }))
 }
 
 fn clashes_by(asked: &Asked, clash: Clash) -> bool {
     asked.trace.clashes == BTreeSet::from([clash])
 }
 
-/// Does a later sibling have a lower lowest variable than an earlier one?
-fn is_out_of_order(asked: &Asked) -> bool {
+/// Of a tree whose document node has a variable on it: has its outermost element none?
+fn adds_an_element(asked: &Asked) -> Option<bool> {
     let SolverVerdict::Tree { answer: answer_file, .. } = &asked.verdict else {
-        return false;
+        return None;
     };
     let variables = number_of_variables(&asked.constraints);
-    let (tree, assignment) = answer::read(answer_file, variables).expect("an answer of the second solver");
-    let is_out_of_order = |x, y| {
-        let lowest = |node| assignment.lowest_variable_on(node);
-        tree.is_earlier_sibling(x, y) && lowest(y) < lowest(x)
-    };
-    assignment.0.iter().any(|&x| assignment.0.iter().any(|&y| is_out_of_order(x, y)))
+    let (_, assignment) = answer::read(answer_file, variables).expect("an answer of the second solver");
+    assignment.lowest_variable_on(DOCUMENT_NODE)?;
+    Some(assignment.lowest_variable_on(OUTERMOST_ELEMENT).is_none())
 }
 
-/// Is the parent of one of two siblings stated, and that of the other not?
-fn a_sibling_gains_its_parent(constraints: &[Constraint]) -> bool {
-    let has_parent = |x| constraints.iter().any(|&other| matches!(other, Constraint::Child(_, child) if child == x));
-    constraints.iter().any(|&record| match record {
-        Constraint::Before(x, y) => has_parent(x) != has_parent(y),
+fn has_two_nodes(asked: &Asked) -> bool {
+    match &asked.verdict {
+        SolverVerdict::Tree { answer, .. } => answer.chunks(4).filter(|record| record[0] == 1).count() == 2,
         _ => false,
-    })
+    }
 }
 
 fn random_question(random: &mut Random) -> Vec<Constraint> {
     let variables = 2 + random.below(11);
     let records = 1 + random.below(2 * variables);
     let mix = Mix::random(random);
-    let nodes = 1 + random.below(variables + 1);
+    let nodes = 2 + random.below(variables + 1);
     let tree = random_tree(random, nodes);
     let assignment = random_assignment(random, variables, &tree);
     let mut constraints = planted(random, &tree, &assignment, records, &mix);
-    match random.below(3) {
+    match random.below(4) {
         0 => {}
         1 => {
             for _ in 0..1 + random.below(2) {
                 constraints.push(random_constraint(random, variables, &mix));
             }
         }
+        2 => with_document(random, &mut constraints, variables, &mix),
         _ => constraints = free(random, variables, records, &mix),
     }
     constraints

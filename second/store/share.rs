@@ -1,6 +1,4 @@
-//! Shares of what is kept, and damage to what is kept.
-
-use questions::Random;
+//! Shares of what is kept.
 
 /// How many to keep of what `fits`; what is kept is printed under `name` and a number.
 pub struct Share<V> {
@@ -34,17 +32,4 @@ pub fn print<V>(shares: &[Share<V>]) {
             println!("{}-{:02} {line}", share.name, number + 1);
         }
     }
-}
-
-/// One record of kind 9 with a kind that there is not, a variable above 15, or a label.
-pub fn damage(random: &mut Random, mut file: Vec<u8>) -> Vec<u8> {
-    let siblings: Vec<usize> = (0..file.len()).step_by(4).filter(|&at| file[at] == 9).collect();
-    let record = random.pick(&siblings);
-    match random.below(4) {
-        0 => file[record] = 10,
-        1 => file[record + 1] = 16 + random.below(240) as u8,
-        2 => file[record + 2] = 16 + random.below(240) as u8,
-        _ => file[record + 3] = 1 + random.below(255) as u8,
-    }
-    file
 }

@@ -8,7 +8,7 @@
 //!     path child::a[/]        a line of paths with its byte 10, so the question is for the reader of paths
 //!     text child::a           the same without byte 10
 //!     paths                   the same without a byte, for a text that has neither of them
-//!     buffer 131              the lent buffer, 132 unless said, or 1024 for paths
+//!     buffer 135              the lent buffer, 136 unless said, or 1024 for paths
 //!     allowance 5             1000000 unless said
 //!     answer                  a candidate's answer follows, so the question is for the marker
 //!     node 0 0 a              number, parent, label
