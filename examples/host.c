@@ -1,7 +1,7 @@
 /*
  * A host program: solves the question of document 01's listing (M10), prints the tree and marks four candidates; solves and marks a question
- * in another order and with other numbers, and one of siblings in order; reads one set as paths and solves it; and lists what a refusal
- * can say. What it prints is held to examples/host.stdout. It is C99 and C++; host.rs is the same in Rust.
+ * in another order and with other numbers, one of siblings in order, and one of the document node; reads one set as paths and solves it; and
+ * lists what a refusal can say. What it prints is held to examples/host.stdout. It is C99 and C++; host.rs is the same in Rust.
  */
 #include <inttypes.h>
 #include <stdbool.h>
@@ -183,6 +183,35 @@ static void solve_brothers(uint8_t *answer)
     print_marked(cudreth_mark(pair, sizeof pair, turned, sizeof turned));
 }
 
+/* The document node: variable 1 is below 2, its child. Then an answer whose document node has a name, and one with 0 on its child. */
+static void solve_document(uint8_t *answer)
+{
+    const uint8_t question[] = {
+        CUDRETH_ROOT,  0, 0, 0,
+        CUDRETH_CHILD, 0, 2, 0,
+    };
+    print_solved(cudreth_solve(question, sizeof question, answer, CUDRETH_ANSWER_BYTES, UINT32_MAX), answer);
+    const uint8_t named[] = {
+        CUDRETH_NODE,  0, 0, 'a',
+        CUDRETH_NODE,  1, 0, 0,
+        CUDRETH_PLACE, 0, 0, 0,
+        CUDRETH_PLACE, 1, 1, 0,
+        CUDRETH_PLACE, 2, 1, 0,
+    };
+    printf("a name on the document node: ");
+    print_marked(cudreth_mark(question, sizeof question, named, sizeof named));
+    const uint8_t too_low[] = {
+        CUDRETH_NODE,  0, 0, 0,
+        CUDRETH_NODE,  1, 0, 0,
+        CUDRETH_NODE,  2, 1, 0,
+        CUDRETH_PLACE, 0, 1, 0,
+        CUDRETH_PLACE, 1, 1, 0,
+        CUDRETH_PLACE, 2, 2, 0,
+    };
+    printf("0 on its child: ");
+    print_marked(cudreth_mark(question, sizeof question, too_low, sizeof too_low));
+}
+
 /* A node that both lines select: its records, then a tree that has it, as the node of variable 0. */
 static void read_and_solve(uint8_t *records, uint8_t *answer)
 {
@@ -215,6 +244,7 @@ int main(void)
     solve_and_mark(answer);
     solve_shuffled(answer, other);
     solve_brothers(answer);
+    solve_document(answer);
     read_and_solve(records, answer);
     for (uint32_t number = CUDRETH_Q_CONSTRAINTS_LONG; number <= CUDRETH_Q_TEXT_VARIABLES; number++)
         print_refused(number);

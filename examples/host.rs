@@ -132,6 +132,31 @@ const TURNED: [u8; 24] = [
     PLACE, 1, 2, 0,
 ];
 
+#[rustfmt::skip]
+const DOCUMENT: [u8; 8] = [
+    ROOT,  0, 0, 0,
+    CHILD, 0, 2, 0,
+];
+
+#[rustfmt::skip]
+const NAMED: [u8; 20] = [
+    NODE,  0, 0, b'a',
+    NODE,  1, 0, 0,
+    PLACE, 0, 0, 0,
+    PLACE, 1, 1, 0,
+    PLACE, 2, 1, 0,
+];
+
+#[rustfmt::skip]
+const TOO_LOW: [u8; 24] = [
+    NODE,  0, 0, 0,
+    NODE,  1, 0, 0,
+    NODE,  2, 1, 0,
+    PLACE, 0, 1, 0,
+    PLACE, 1, 1, 0,
+    PLACE, 2, 2, 0,
+];
+
 const LINES: &str = "/child::a/descendant::c\nchild::b/child::c\n";
 
 /// M10: solved, and four answers to it marked.
@@ -179,6 +204,15 @@ fn solve_brothers(answer: &mut [u8]) {
     print_marked(cudreth::mark(&PAIR, &TURNED));
 }
 
+/// The document node: variable 1 is below 2, its child. Then an answer whose document node has a name, and one with 0 on its child.
+fn solve_document(answer: &mut [u8]) {
+    print_solved(cudreth::solve(&DOCUMENT, answer, u32::MAX), answer);
+    print!("a name on the document node: ");
+    print_marked(cudreth::mark(&DOCUMENT, &NAMED));
+    print!("0 on its child: ");
+    print_marked(cudreth::mark(&DOCUMENT, &TOO_LOW));
+}
+
 /// A node that both lines select: its records, then a tree that has it, as the node of variable 0.
 fn read_and_solve(records: &mut [u8], answer: &mut [u8]) {
     let text = LINES.as_bytes();
@@ -201,6 +235,7 @@ fn main() {
     solve_and_mark(&mut answer);
     solve_shuffled(&mut answer);
     solve_brothers(&mut answer);
+    solve_document(&mut answer);
     read_and_solve(&mut records, &mut answer);
     for question in cudreth::Q_CONSTRAINTS_LONG..=cudreth::Q_TEXT_VARIABLES {
         print_refused(question);
