@@ -1,7 +1,7 @@
 -- A join is read from the rows of z, x and y. With the parents of z all the same, any of them, y, tells whether x makes a parent join; of
 -- two variables that are incomparable the smaller is found first, so it is the x of a chain join.
 use mathlib.Core.Path.{_≡_, refl, sym, _∙_, subst}
-use mathlib.Core.Logic.{_⊎_, ⊎-elim}
+use mathlib.Core.Logic.{_≢_, _⊎_, ⊎-elim}
 use mathlib.Core.List.{List}
 use mathlib.Core.Option.{some}
 use Prim.Native.Nat.{ℕ, _+_, _-_, _^_, _<_, _≤_}
@@ -176,6 +176,40 @@ module _ (n : ℕ) (small : n ≤ 16) (f : Facts) (vars : ℕ) (ev : vars ≡ 2 
           (λ k l' u. ly .none k l' (passed-parent S r x k (x-in .1) (le-trans l' (le-of-lt (y-in .1))) u)))
 
 -- ---- the chain joins at z
+
+-- another variable of its group was passed, which has the same above it
+module _ (n : ℕ) (small : n ≤ 16) (f : Facts) (vars : ℕ) (ev : vars ≡ 2 ^ n - 1) (z : Var) (hz : z < n)
+    (k : ℕ) (lk : Lowest (bitAnd (bitAnd (row (f .above) z) vars) (row (f .below) z)) k) where
+  pub none-grouped : k ≢ z → NoneBefore chain-join n f z → (S : List Fact) → Ready n S f → (i l : Var) → i < n → l < n → ¬ Yes (isJoin (has f) chain-join z i l)
+  unfolding isJoin
+  none-grouped other before S r i l hi hl t =
+      let w = and-right _ t in
+      let v = and-right _ w in
+      before S r k i l earlier hi hl
+      (and-both (and-left _ t) (and-both (over i (and-left _ w)) (and-both (over l (and-left _ v)) (and-right _ v))))
+    where
+      own : Yes (bit (bitAnd (bitAnd (row (f .above) z) vars) (row (f .below) z)) z)
+      own =
+          let s = r .decides .complete (self-below hz) in
+          both-in (bitAnd (row (f .above) z) vars) (row (f .below) z) z (vars-in _ vars n z ev hz (above-is n small S f r z z hz hz ∙ s)) (below-is n small S f r z z ∙ s)
+
+      earlier : k < z
+      earlier = go (decLt z k)
+        where
+          go : Dec (z < k) → k < z
+          go (yes m) = absurd (lk .none z m own)
+          go (no m) = omega (arith, ≢-lt)
+            where
+              ≢-lt : (k ≡ z) → ⊥
+              ≢-lt = other
+
+      same-k : Yes (has f (below z k))
+      same-k =
+          let m = in-both (bitAnd (row (f .above) z) vars) (row (f .below) z) k (lk .this (omega (arith, earlier, hz, small))) in
+          sym (below-is n small S f r z k) ∙ m .1
+
+      over : (x : Var) → Yes (has f (below x z)) → Yes (has f (below x k))
+      over x b = r .decides .complete (chain (r .decides .sound b) (r .decides .sound same-k))
 
 module _ (n : ℕ) (small : n ≤ 16) (f : Facts) (vars : ℕ) (ev : vars ≡ 2 ^ n - 1) (incomparable : List ℕ) (ea : Incomparable (f .below) (f .above) incomparable) (z : Var) (hz : z < n)
     (g : ℕ) (gp : Gathers (λ k. meets (row incomparable k) (bitAnd (row (f .above) z) vars)) g)

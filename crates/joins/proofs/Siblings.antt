@@ -2,6 +2,7 @@
 use mathlib.Core.Path.{_≡_, refl, sym, _∙_, subst}
 use mathlib.Core.Logic.{⊎-elim}
 use mathlib.Core.List.{List}
+use mathlib.Core.Bool.{Bool, true}
 use mathlib.Core.Option.{some}
 use Prim.Native.Nat.{ℕ, _-_, _^_, _<_, _≤_}
 use native.Mathlib.Nat.{le-trans, le-of-lt}
@@ -17,11 +18,12 @@ use Rattle.meaning.proofs.Tests.{clash, and-left, and-right, and-both, or-left,
 use Rattle.theory.specs.Search.{isJoin, firstOf}
 use Rattle.rowbits.specs.Bit.{bit}
 use Rattle.tables.specs.Tables.{row, has, Ready}
-use Rattle.tables.specs.Rows.{Lowest, without}
+use Rattle.tables.specs.Rows.{Lowest, without, Blank}
 use Rattle.tables.specs.declared.Facts.{Facts}
 use Rattle.tables.proofs.Bits.{or-l, or-r, or-case, without-in, without-out, none-in}
-use Rattle.joins.specs.Found.{Missing}
-use Rattle.joins.proofs.Find.{firstOf-is-some}
+use Rattle.joins.specs.Found.{joinOf, Missing, StageOf}
+use Rattle.joins.specs.declared.Found.the-variants.{Nothing}
+use Rattle.joins.proofs.Find.{firstOf-is-none, firstOf-is-some}
 use Rattle.joins.proofs.First.{NoneBefore, vars-in, vars-out, above-is, below-is}
 
 module _ (n : ℕ) (small : n ≤ 16) (S : List Fact) (f : Facts) (r : Ready n S f) where
@@ -133,3 +135,12 @@ module _ (n : ℕ) (small : n ≤ 16) (f : Facts) (vars : ℕ) (ev : vars ≡ 2 
       sibling-first early S r =
           sym (firstOf-is-some n (isJoin (has f) sibling-join) (join sibling-join) y a x hy (a-n .1) (x-n S r .1) (sibling-at S r) (early S r)
           (λ i k l hk t. la .none i l (passed-a S r i k (le-trans l (le-of-lt (a-n .1))) hk t)) (passed-lower S r))
+
+-- nothing is before anything
+pub none-ordered : (n : ℕ) → n ≤ 16 → (f : Facts) (b : Bool) → Blank (f .before) b → b ≡ true → StageOf sibling-join n f Nothing
+unfolding joinOf isJoin
+none-ordered n small f b blank e S r =
+    sym (firstOf-is-none n (isJoin (has f) sibling-join) (join sibling-join)
+    (λ y a x hy ha hx t. ⊎-elim
+    (λ u. blank .none e x y (le-trans hx small) (before-is n small S f r x y ∙ u))
+    (λ u. blank .none e y x (le-trans hy small) (before-is n small S f r y x ∙ u)) (or-cases _ _ (and-left _ t))))

@@ -56,7 +56,8 @@ fn parent_join(parent: [u16; 16], below: [u16; 16], above: [u16; 16], n: usize) 
     Found::Nothing
 }
 
-// The first chain join: two variables above z that are incomparable, found from the smaller one.
+// The first chain join: two variables above z that are incomparable, found from the smaller one. Of a group its lowest variable decides, since the
+// others have the same above them.
 fn chain_join(below: [u16; 16], above: [u16; 16], n: usize) -> Found
     requires { ⌜ n ≤ 16 ⌝ }
     ensures { λ r. ⌜ ChainIn n below above r ⌝ }
@@ -65,12 +66,15 @@ fn chain_join(below: [u16; 16], above: [u16; 16], n: usize) -> Found
     let apart = incomparable_rows(below, above);
     for z in 0..n {
         let v = above[z];
+        let b = below[z];
         let u = v & vars;
-        let x = tables::lowest(u & tables::meeting(apart, u));
-        if x < 16 {
-            let a = apart[x];
-            let y = tables::lowest(u & a);
-            return Found::One(JoinKind::Chain, Var(z as u8), Var(x as u8), Var(y as u8));
+        if tables::lowest(u & b) == z {
+            let x = tables::lowest(u & tables::meeting(apart, u));
+            if x < 16 {
+                let a = apart[x];
+                let y = tables::lowest(u & a);
+                return Found::One(JoinKind::Chain, Var(z as u8), Var(x as u8), Var(y as u8));
+            }
         }
     }
     Found::Nothing
@@ -91,7 +95,8 @@ fn missing(t: [u16; 16], rows: u16, of: u16) -> u16
     a
 }
 
-// The first join of siblings: a is properly above y and missing above x, a sibling of y. Most variables have no siblings.
+// The first join of siblings: a is properly above y and missing above x, a sibling of y. In most sets nothing is before anything, and most variables
+// have no siblings.
 fn sibling_join(
     before: [u16; 16],
     after: [u16; 16],
@@ -102,6 +107,9 @@ fn sibling_join(
     requires { ⌜ n ≤ 16 ⌝ }
     ensures { λ r. ⌜ SiblingIn n before after below above r ⌝ }
 {
+    if tables::blank(before) {
+        return Found::Nothing;
+    }
     let vars = tables::all(n);
     for y in 0..n {
         let p = before[y];

@@ -1,6 +1,6 @@
 -- `joins::chain_join` meets its contract: the loop has passed no z with a chain join.
-use mathlib.Core.List.{List}
-use Prim.Native.Nat.{ℕ, _≤_, _-_}
+use mathlib.Core.Logic.{⊎-elim}
+use Prim.Native.Nat.{_≤_, _-_}
 use native.Mathlib.Nat.{not-suc-le-zero}
 use lib.ListN.{getD}
 use mir.Val.{Fits}
@@ -8,17 +8,16 @@ use mir.Syntax.{w16}
 use borrow.Author.Needs.{needs}
 use Rattle.meaning.specs.FixedSearch.{chain-join}
 use Rattle.tables.specs.declared.Facts.{Facts}
-use Rattle.joins.specs.Found.{joinOf, Incomparable, withBelow}
-use Rattle.joins.proofs.First.{NoneBefore, none-more, none-first, none-apart, chain-first}
+use Rattle.joins.specs.Found.{joinOf, withBelow}
+use Rattle.joins.proofs.First.{NoneBefore, none-more, none-first, none-grouped, none-apart, chain-first}
 use Rattle.joins.proofs.chain_join.Statement.{statement}
 use Rattle.joins.proofs.chain_join.Tie as tie
 
 abbrev Inv-loop : tie.InvT-loop
-Inv-loop n above vars incomparable z₀ z =
-    (z ≤ n) × ((below : List ℕ) → Incomparable below above incomparable → (f : Facts) → NoneBefore chain-join n (withBelow below above f) z)
+Inv-loop n below above vars incomparable z₀ z = (z ≤ n) × ((f : Facts) → NoneBefore chain-join n (withBelow below above f) z)
 
 abbrev μ-loop : tie.MeasureT-loop
-μ-loop n above vars incomparable z₀ z = n - z
+μ-loop n below above vars incomparable z₀ z = n - z
 
 all-requires : tie.Need-all-requires Inv-loop μ-loop
 all-requires c κs = search needs
@@ -27,7 +26,7 @@ incomparable-rows-requires : tie.Need-incomparable-rows-requires Inv-loop μ-loo
 incomparable-rows-requires c κs = search needs
 
 loop-holds : tie.Need-loop-holds Inv-loop μ-loop
-loop-holds c = (search needs, λ below a f S r k x y l. absurd (not-suc-le-zero l))
+loop-holds c = (search needs, λ f S r k x y l. absurd (not-suc-le-zero l))
 
 mul-v : tie.Need-mul-v Inv-loop μ-loop
 mul-v c = search needs
@@ -35,11 +34,20 @@ mul-v c = search needs
 array-read-v : tie.Need-array-read-v Inv-loop μ-loop
 array-read-v c = search needs
 
-meeting-requires : tie.Need-meeting-requires Inv-loop μ-loop
-meeting-requires c κs = search needs
+mul-b : tie.Need-mul-b Inv-loop μ-loop
+mul-b c = search needs
+
+array-read-b : tie.Need-array-read-b Inv-loop μ-loop
+array-read-b c = search needs
 
 lowest-requires : tie.Need-lowest-requires Inv-loop μ-loop
 lowest-requires c κs = search needs
+
+meeting-requires : tie.Need-meeting-requires Inv-loop μ-loop
+meeting-requires c κs = search needs
+
+lowest-requires-2 : tie.Need-lowest-requires-2 Inv-loop μ-loop
+lowest-requires-2 c κs = search needs
 
 mul-a : tie.Need-mul-a Inv-loop μ-loop
 mul-a c = search needs
@@ -47,29 +55,30 @@ mul-a c = search needs
 array-read-a : tie.Need-array-read-a Inv-loop μ-loop
 array-read-a c = search needs
 
-lowest-requires-2 : tie.Need-lowest-requires-2 Inv-loop μ-loop
-lowest-requires-2 c κs = search needs
+lowest-requires-3 : tie.Need-lowest-requires-3 Inv-loop μ-loop
+lowest-requires-3 c κs = search needs
 
-cast-t27 : tie.Need-cast-t27 Inv-loop μ-loop
-cast-t27 c = search needs
+cast-t34 : tie.Need-cast-t34 Inv-loop μ-loop
+cast-t34 c = search needs
 
-cast-t29 : tie.Need-cast-t29 Inv-loop μ-loop
-cast-t29 c = search needs
+cast-t36 : tie.Need-cast-t36 Inv-loop μ-loop
+cast-t36 c = search needs
 
-cast-t31 : tie.Need-cast-t31 Inv-loop μ-loop
-cast-t31 c = search needs
+cast-t38 : tie.Need-cast-t38 Inv-loop μ-loop
+cast-t38 c = search needs
 
 returns : tie.Need-returns Inv-loop μ-loop
 unfolding joinOf
 returns c =
     let l = c .before .before in
-    let i = l .before .before in
+    let m = l .before in
+    let i = m .before .before .before in
     let r = i .before .before in
     let s = r .before in
-    let h : Fits w16 (getD (r .incomparable-rows .result) (l .lowest .result) 0) = search needs in
+    let h : Fits w16 (getD (r .incomparable-rows .result) (l .lowest2 .result) 0) = search needs in
     λ f.
-    chain-first _ (s .before .pre) (withBelow (s .before .args .below) (s .before .args .t2) f) _ (s .all .ensures) (r .incomparable-rows .result) (r .incomparable-rows .ensures) _ (i .loop-test .taken) _ (l .before .meeting .ensures)
-    _ (l .lowest .ensures) (c .before .if1 .taken) (h .fits) _ (c .lowest2 .ensures) (i .before .loop .inv .1 _ (r .incomparable-rows .ensures) f)
+    chain-first _ (s .before .pre) (withBelow (s .before .args .t1) (s .before .args .t2) f) _ (s .all .ensures) (r .incomparable-rows .result) (r .incomparable-rows .ensures) _ (i .loop-test .taken) _ (m .meeting .ensures)
+    _ (l .lowest2 .ensures) (c .before .if2 .taken) (h .fits) _ (c .lowest3 .ensures) (i .before .loop .inv .1 f)
 
 add-z : tie.Need-add-z Inv-loop μ-loop
 add-z c = search needs
@@ -79,18 +88,25 @@ loop-less c = search needs
 
 loop-again : tie.Need-loop-again Inv-loop μ-loop
 loop-again c =
-    let l = c .before in
-    let i = l .before .before in
+    let g = c .before in
+    let i = g .before in
     let r = i .before .before in
     let s = r .before in (
       search needs,
-      λ below a f.
-          none-more chain-join _ _ _ (i .before .loop .inv .1 below a f)
-          (none-apart _ (s .before .pre) (withBelow below (s .before .args .t2) f) _ (s .all .ensures) (r .incomparable-rows .result) a _ (i .loop-test .taken) _ (l .before .meeting .ensures) _ (l .lowest .ensures) (c .if1 .left)),
+      λ f.
+          let t = withBelow (s .before .args .t1) (s .before .args .t2) f in
+          let passed = i .before .loop .inv .1 f in
+          none-more chain-join _ t _ passed
+          (⊎-elim
+          (λ w. none-apart _ (s .before .pre) t _ (s .all .ensures) (r .incomparable-rows .result) (r .incomparable-rows .ensures) _ (i .loop-test .taken) _ (w .1 .ensures) _ (w .2 .ensures) (w .3 .left))
+          (λ w. none-grouped _ (s .before .pre) t _ (s .all .ensures) _ (i .loop-test .taken) _ (g .lowest .ensures) (w .left) passed)
+          (c .if1 .came)),
     )
 
 returns-2 : tie.Need-returns-2 Inv-loop μ-loop
-returns-2 c = λ f. none-first chain-join _ _ _ (c .loop-test .left) (c .before .loop .inv .1 _ (c .before .before .incomparable-rows .ensures) f)
+returns-2 c = λ f.
+    let s = c .before .before .before .before in
+    none-first chain-join _ (withBelow (s .args .t1) (s .args .t2) f) _ (c .loop-test .left) (c .before .loop .inv .1 f)
 
 pub chain-join-spec : {M : Type 1} → statement M
 chain-join-spec =
@@ -103,14 +119,17 @@ chain-join-spec =
     loop-holds
     mul-v
     array-read-v
-    meeting-requires
+    mul-b
+    array-read-b
     lowest-requires
+    meeting-requires
+    lowest-requires-2
     mul-a
     array-read-a
-    lowest-requires-2
-    cast-t27
-    cast-t29
-    cast-t31
+    lowest-requires-3
+    cast-t34
+    cast-t36
+    cast-t38
     returns
     add-z
     loop-less

@@ -9,7 +9,7 @@ use Rattle.tables.specs.Rows.{Lowest}
 use Rattle.tables.specs.declared.Facts.{Facts}
 use Rattle.joins.specs.Found.{joinOf, withBelow, withBefore}
 use Rattle.joins.proofs.First.{NoneBefore, none-more, none-first}
-use Rattle.joins.proofs.Siblings.{none-alone, none-missing, sibling-first}
+use Rattle.joins.proofs.Siblings.{none-alone, none-missing, sibling-first, none-ordered}
 use Rattle.joins.proofs.sibling_join.Statement.{statement}
 use Rattle.joins.proofs.sibling_join.Tie as tie
 
@@ -19,6 +19,15 @@ Inv-loop n before after below above vars y₀ y =
 
 abbrev μ-loop : tie.MeasureT-loop
 μ-loop n before after below above vars y₀ y = n - y
+
+blank-requires : tie.Need-blank-requires Inv-loop μ-loop
+blank-requires c κs = search needs
+
+returns : tie.Need-returns Inv-loop μ-loop
+returns c = λ f.
+    let b = c .before in
+    let s = b .before in
+    none-ordered _ (s .pre) (withBefore (s .args .t1) (s .args .t2) (withBelow (s .args .t3) (s .args .t4) f)) _ (b .blank .ensures) (c .if1 .taken)
 
 all-requires : tie.Need-all-requires Inv-loop μ-loop
 all-requires c κs = search needs
@@ -71,27 +80,27 @@ except-requires-2 c κs = search needs
 lowest-requires-2 : tie.Need-lowest-requires-2 Inv-loop μ-loop
 lowest-requires-2 c κs = search needs
 
-cast-t42 : tie.Need-cast-t42 Inv-loop μ-loop
-cast-t42 c = search needs
-
 cast-t44 : tie.Need-cast-t44 Inv-loop μ-loop
 cast-t44 c = search needs
 
 cast-t46 : tie.Need-cast-t46 Inv-loop μ-loop
 cast-t46 c = search needs
 
-returns : tie.Need-returns Inv-loop μ-loop
+cast-t48 : tie.Need-cast-t48 Inv-loop μ-loop
+cast-t48 c = search needs
+
+returns-2 : tie.Need-returns-2 Inv-loop μ-loop
 unfolding joinOf
-returns c =
+returns-2 c =
     let t = c .before .before in
     let l = t .before in
     let i = l .before .before .before .before in
     let m = i .before .before in
-    let s = m .before in
+    let s = m .before .before .before in
     let x-is = subst (λ (k : ℕ). Lowest k (c .lowest2 .result)) (c .before .except2 .ensures) (c .lowest2 .ensures) in
     λ f.
     sibling-first _ (s .pre) (withBefore (s .args .t1) (s .args .t2) (withBelow (s .args .t3) (s .args .t4) f)) _ (m .all .ensures) _ (i .loop-test .taken)
-    _ (l .before .before .except .ensures) _ (l .before .missing .ensures) _ (l .lowest .ensures) (t .if2 .taken) _ x-is (i .before .loop .inv .1 f)
+    _ (l .before .before .except .ensures) _ (l .before .missing .ensures) _ (l .lowest .ensures) (t .if3 .taken) _ x-is (i .before .loop .inv .1 f)
 
 add-y : tie.Need-add-y Inv-loop μ-loop
 add-y c = search needs
@@ -103,7 +112,7 @@ loop-again : tie.Need-loop-again Inv-loop μ-loop
 loop-again c =
     let i = c .before in
     let m = i .before .before in
-    let s = m .before in (
+    let s = m .before .before .before in (
       search needs,
       λ f.
           let g = withBefore (s .args .t1) (s .args .t2) (withBelow (s .args .t3) (s .args .t4) f) in
@@ -111,12 +120,12 @@ loop-again c =
           (⊎-elim
           (λ w. none-missing _ (s .pre) g _ (m .all .ensures) _ (i .loop-test .taken) _ (w .1 .ensures) _ (w .2 .ensures) _ (w .3 .ensures) (w .4 .left))
           (λ w. none-alone _ (s .pre) g _ (m .all .ensures) _ (i .loop-test .taken) (w .left))
-          (c .if1 .came)),
+          (c .if2 .came)),
     )
 
-returns-2 : tie.Need-returns-2 Inv-loop μ-loop
-returns-2 c = λ f.
-    let s = c .before .before .before in
+returns-3 : tie.Need-returns-3 Inv-loop μ-loop
+returns-3 c = λ f.
+    let s = c .before .before .before .before .before in
     none-first sibling-join _ (withBefore (s .args .t1) (s .args .t2) (withBelow (s .args .t3) (s .args .t4) f)) _ (c .loop-test .left) (c .before .loop .inv .1 f)
 
 pub sibling-join-spec : {M : Type 1} → statement M
@@ -125,6 +134,8 @@ sibling-join-spec =
     (tie.spec
     Inv-loop
     μ-loop
+    blank-requires
+    returns
     all-requires
     loop-holds
     mul-p
@@ -142,11 +153,11 @@ sibling-join-spec =
     array-read-v
     except-requires-2
     lowest-requires-2
-    cast-t42
     cast-t44
     cast-t46
-    returns
+    cast-t48
+    returns-2
     add-y
     loop-less
     loop-again
-    returns-2)
+    returns-3)
