@@ -1,7 +1,7 @@
 -- A join is read from the rows of z, x and y. With the parents of z all the same, any of them, y, tells whether x makes a parent join; of
 -- two variables that are incomparable the smaller is found first, so it is the x of a chain join.
 use mathlib.Core.Path.{_≡_, refl, sym, _∙_, subst}
-use mathlib.Core.Logic.{_≢_, _⊎_, ⊎-elim}
+use mathlib.Core.Logic.{_⊎_, ⊎-elim}
 use mathlib.Core.List.{List}
 use mathlib.Core.Option.{some}
 use Prim.Native.Nat.{ℕ, _+_, _-_, _^_, _<_, _≤_}
@@ -21,7 +21,7 @@ use Rattle.rowbits.specs.Bit.{bit}
 use Rattle.tables.specs.Tables.{row, has, Ready}
 use Rattle.tables.specs.Rows.{Gathers, Lowest, meets, without}
 use Rattle.tables.specs.declared.Facts.{Facts}
-use Rattle.tables.proofs.Bits.{in-both, both-in, or-l, or-r, or-case, all-is, all-has, without-in, without-out, flip-has, flip-not, meets-in, meets-out}
+use Rattle.tables.proofs.Bits.{none-in, in-both, both-in, or-l, or-r, or-case, all-is, all-has, without-in, without-out, flip-has, flip-not, meets-in, meets-out}
 use Rattle.tables.proofs.Loops.{below-cases}
 use Rattle.joins.specs.Found.{joinOf, Incomparable, StageOf}
 use Rattle.joins.specs.declared.Found.the-variants.{Nothing}
@@ -177,51 +177,36 @@ module _ (n : ℕ) (small : n ≤ 16) (f : Facts) (vars : ℕ) (ev : vars ≡ 2 
 
 -- ---- the chain joins at z
 
--- another variable of its group was passed, which has the same above it
-module _ (n : ℕ) (small : n ≤ 16) (f : Facts) (vars : ℕ) (ev : vars ≡ 2 ^ n - 1) (z : Var) (hz : z < n)
-    (k : ℕ) (lk : Lowest (bitAnd (bitAnd (row (f .above) z) vars) (row (f .below) z)) k) where
-  pub none-grouped : k ≢ z → NoneBefore chain-join n f z → (S : List Fact) → Ready n S f → (i l : Var) → i < n → l < n → ¬ Yes (isJoin (has f) chain-join z i l)
-  unfolding isJoin
-  none-grouped other before S r i l hi hl t =
-      let w = and-right _ t in
-      let v = and-right _ w in
-      before S r k i l earlier hi hl
-      (and-both (and-left _ t) (and-both (over i (and-left _ w)) (and-both (over l (and-left _ v)) (and-right _ v))))
+module _ (f : Facts) (incomparable : List ℕ) (ea : Incomparable (f .below) (f .above) incomparable) where
+  apart-in : (i k : Var) → i < 16 → k < 16 → ¬ Yes (bit (bitOr (row (f .below) i) (row (f .above) i)) k) → Yes (bit (row incomparable i) k)
+  apart-in i k hi hk p = subst (λ (j : ℕ). Yes (bit j k)) (sym (ea i hi)) (flip-has _ k hk p)
+
+  apart-out : (i k : Var) → i < 16 → k < 16 → Yes (bit (row incomparable i) k) → ¬ Yes (bit (bitOr (row (f .below) i) (row (f .above) i)) k)
+  apart-out i k hi hk p = flip-not _ k hk (subst (λ (j : ℕ). Yes (bit j k)) (ea i hi) p)
+
+-- what is properly above z is comparable with all
+module _ (n : ℕ) (small : n ≤ 16) (f : Facts) (vars : ℕ) (ev : vars ≡ 2 ^ n - 1) (incomparable : List ℕ) (ea : Incomparable (f .below) (f .above) incomparable)
+    (loose : ℕ) (gl : Gathers (λ k. meets (row incomparable k) vars) loose) (z : Var) (hz : z < n)
+    (e : without (bitAnd (bitAnd (row (f .above) z) vars) loose) (row (f .below) z) ≡ 0) where
+  pub none-loose : (S : List Fact) → Ready n S f → (i k : Var) → i < n → k < n → ¬ Yes (isJoin (has f) chain-join z i k)
+  none-loose S r i k hi hk t =
+      let p = chain-parts n small S f r z i k hz hi hk t in
+      let ki = le-trans hi small in
+      let apart = apart-in f incomparable ea i k ki (le-trans hk small) (p .incomparable) in
+      let at = both-in (bitAnd (row (f .above) z) vars) loose i (vars-in _ vars n i ev hi (p .above-x)) (gl .to i ki (meets-in (row incomparable i) vars k apart (var-in vars n k ev hk))) in
+      none-in i (subst (λ (j : ℕ). Yes (bit j i)) e
+      (without-in (bitAnd (bitAnd (row (f .above) z) vars) loose) (row (f .below) z) i ki at
+      (λ b. p .incomparable (or-r (row (f .below) i) (row (f .above) i) k (above-is n small S f r k i hk hi ∙ over b (sym (above-is n small S f r k z hk hz) ∙ p .above-y))))))
     where
-      own : Yes (bit (bitAnd (bitAnd (row (f .above) z) vars) (row (f .below) z)) z)
-      own =
-          let s = r .decides .complete (self-below hz) in
-          both-in (bitAnd (row (f .above) z) vars) (row (f .below) z) z (vars-in _ vars n z ev hz (above-is n small S f r z z hz hz ∙ s)) (below-is n small S f r z z ∙ s)
-
-      earlier : k < z
-      earlier = go (decLt z k)
-        where
-          go : Dec (z < k) → k < z
-          go (yes m) = absurd (lk .none z m own)
-          go (no m) = omega (arith, ≢-lt)
-            where
-              ≢-lt : (k ≡ z) → ⊥
-              ≢-lt = other
-
-      same-k : Yes (has f (below z k))
-      same-k =
-          let m = in-both (bitAnd (row (f .above) z) vars) (row (f .below) z) k (lk .this (omega (arith, earlier, hz, small))) in
-          sym (below-is n small S f r z k) ∙ m .1
-
-      over : (x : Var) → Yes (has f (below x z)) → Yes (has f (below x k))
-      over x b = r .decides .complete (chain (r .decides .sound b) (r .decides .sound same-k))
+      -- one that is the same as z is below all that is above z
+      over : Yes (bit (row (f .below) z) i) → Yes (has f (below k z)) → Yes (has f (below k i))
+      over b u = r .decides .complete (chain (r .decides .sound u) (r .decides .sound (sym (below-is n small S f r z i) ∙ b)))
 
 module _ (n : ℕ) (small : n ≤ 16) (f : Facts) (vars : ℕ) (ev : vars ≡ 2 ^ n - 1) (incomparable : List ℕ) (ea : Incomparable (f .below) (f .above) incomparable) (z : Var) (hz : z < n)
     (g : ℕ) (gp : Gathers (λ k. meets (row incomparable k) (bitAnd (row (f .above) z) vars)) g)
     (x : ℕ) (lx : Lowest (bitAnd (bitAnd (row (f .above) z) vars) g) x) where
   abbrev u : ℕ
   u = bitAnd (row (f .above) z) vars
-
-  apart-in : (i k : Var) → i < 16 → k < 16 → ¬ Yes (bit (bitOr (row (f .below) i) (row (f .above) i)) k) → Yes (bit (row incomparable i) k)
-  apart-in i k hi hk p = subst (λ (j : ℕ). Yes (bit j k)) (sym (ea i hi)) (flip-has _ k hk p)
-
-  apart-out : (i k : Var) → i < 16 → k < 16 → Yes (bit (row incomparable i) k) → ¬ Yes (bit (bitOr (row (f .below) i) (row (f .above) i)) k)
-  apart-out i k hi hk p = flip-not _ k hk (subst (λ (j : ℕ). Yes (bit j k)) (ea i hi) p)
 
   -- a member of u that is incomparable from another
   in-c : (i k : Var) → i < 16 → Yes (bit u i) → Yes (bit u k) → Yes (bit (row incomparable i) k) → Yes (bit (bitAnd u g) i)
@@ -230,7 +215,7 @@ module _ (n : ℕ) (small : n ≤ 16) (f : Facts) (vars : ℕ) (ev : vars ≡ 2 
   passed : (S : List Fact) → Ready n S f → (i k : Var) → i < n → k < n → Yes (isJoin (has f) chain-join z i k) → Yes (bit u i) × Yes (bit u k) × Yes (bit (row incomparable i) k)
   passed S r i k hi hk t =
       let p = chain-parts n small S f r z i k hz hi hk t in
-      (vars-in _ vars n i ev hi (p .above-x), vars-in _ vars n k ev hk (p .above-y), apart-in i k (le-trans hi small) (le-trans hk small) (p .incomparable))
+      (vars-in _ vars n i ev hi (p .above-x), vars-in _ vars n k ev hk (p .above-y), apart-in f incomparable ea i k (le-trans hi small) (le-trans hk small) (p .incomparable))
 
   pub none-apart : 16 ≤ x → (S : List Fact) → Ready n S f → (i k : Var) → i < n → k < n → ¬ Yes (isJoin (has f) chain-join z i k)
   none-apart l S r i k hi hk t = let p = passed S r i k hi hk t in lx .none i (omega arith) (in-c i k (le-trans hi small) (p .0) (p .1) (p .2))
@@ -262,15 +247,15 @@ module _ (n : ℕ) (small : n ≤ 16) (f : Facts) (vars : ℕ) (ev : vars ≡ 2 
         go : Dec (x < y) → Dec (x ≡ y) → x < y
         go (yes q) _ = q
         go (no q) (yes e) =
-            absurd (apart-out x y m y-16 (y-at .1) (subst (λ (k : ℕ). Yes (bit (bitOr (row (f .below) x) (row (f .above) x)) k)) e (self-together n small S f r x (x-n .1))))
+            absurd (apart-out f incomparable ea x y m y-16 (y-at .1) (subst (λ (k : ℕ). Yes (bit (bitOr (row (f .below) x) (row (f .above) x)) k)) e (self-together n small S f r x (x-n .1))))
         go (no q) (no e) =
             absurd (lx .none y (omega arith) (in-c y x y-16 (y-at .0) (x-at .0)
-            (apart-in y x y-16 m (apart-back n small S f r z x y hz (x-n .1) (y-n .1) (apart-out x y m y-16 (y-at .1))))))
+            (apart-in f incomparable ea y x y-16 m (apart-back n small S f r z x y hz (x-n .1) (y-n .1) (apart-out f incomparable ea x y m y-16 (y-at .1))))))
 
     pub chain-first : NoneBefore chain-join n f z → (S : List Fact) → Ready n S f → some (join chain-join z x y) ≡ firstOf n (isJoin (has f) chain-join) (join chain-join)
     chain-first before S r =
         sym (firstOf-is-some n (isJoin (has f) chain-join) (join chain-join) z x y hz (x-n .1) (y-n .1)
-        (parts-chain n small S f r z x y hz (x-n .1) (y-n .1) record { ordered = x<y S r; above-x = x-n .0; above-y = y-n .0; incomparable = apart-out x y m y-16 (y-at .1) })
+        (parts-chain n small S f r z x y hz (x-n .1) (y-n .1) record { ordered = x<y S r; above-x = x-n .0; above-y = y-n .0; incomparable = apart-out f incomparable ea x y m y-16 (y-at .1) })
         (before S r)
         (λ i k l hk t. let p = passed S r i k (le-trans l (le-of-lt (x-n .1))) hk t in lx .none i l (in-c i k (omega arith) (p .0) (p .1) (p .2)))
         (λ k l t. let p = passed S r x k (x-n .1) (le-trans l (le-of-lt (y-n .1))) t in ly .none k l (both-in u (row incomparable x) k (p .1) (p .2))))

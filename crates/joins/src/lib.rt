@@ -56,19 +56,20 @@ fn parent_join(parent: [u16; 16], below: [u16; 16], above: [u16; 16], n: usize) 
     Found::Nothing
 }
 
-// The first chain join: two variables above z that are incomparable, found from the smaller one. Of a group its lowest variable decides, since the
-// others have the same above them.
+// The first chain join: two variables above z that are incomparable, found from the smaller one. Both are properly above z and incomparable with
+// some variable (`loose`), and of most z nothing is.
 fn chain_join(below: [u16; 16], above: [u16; 16], n: usize) -> Found
     requires { ⌜ n ≤ 16 ⌝ }
     ensures { λ r. ⌜ ChainIn n below above r ⌝ }
 {
     let vars = tables::all(n);
     let apart = incomparable_rows(below, above);
+    let loose = tables::meeting(apart, vars);
     for z in 0..n {
         let v = above[z];
         let b = below[z];
         let u = v & vars;
-        if tables::lowest(u & b) == z {
+        if tables::except(u & loose, b) != 0 {
             let x = tables::lowest(u & tables::meeting(apart, u));
             if x < 16 {
                 let a = apart[x];
