@@ -101,7 +101,7 @@ module _ (n : ℕ) (T : List Fact) (f : Facts) (p : Pending n T 0 f) (top : Top 
 -- ---- the contract
 
 module _ (n : ℕ) (f : Facts) (a b : Var) (few : n ≤ 16) (ha : a < n) (hb : b < n) (x : ℕ) (h : WithGap (f .below) (bitOr (2 ^ a) (2 ^ b)) x) where
-  begun : (S : List Fact) → Ready n S f → Settled n (below a b ∷ S) (below b a) → Pending n (below a b ∷ S) x f
+  pub begun : (S : List Fact) → Ready n S f → Settled n (below a b ∷ S) (below b a) → Pending n (below a b ∷ S) x f
   begun S r back = narrow n (below a b ∷ S) f _ x h (start n S a b few ha hb f r back)
 
   pub merged-clash : ((T : List Fact) → Pending n T x f → Clash n T) → MergedOf n f a b (record { clash = true; facts = f })

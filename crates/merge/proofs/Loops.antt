@@ -17,15 +17,12 @@ use Rattle.rowbits.specs.Bit.{bit}
 use Rattle.tables.specs.Tables.{row}
 use Rattle.tables.specs.Rows.{without, Lowest, LabelOf, Raised, Union}
 use Rattle.tables.proofs.Bits.{none-in, or-case, or-l, or-r, one-is, one-has, one-small, in-both, both-in, some-in, in-row, or-le, without-in, without-out}
-use Rattle.tables.proofs.Members.{Passed, passed-none, next-in, next-named, passed-more, passed-all}
+use Rattle.tables.proofs.Members.{Passed, passed-none, next-in, next-named, passed-more, passed-all, lowest-in}
 use Rattle.tables.proofs.Rises.{Rises, rises, raised-out, raised-keeps, raised-has}
-use Rattle.merge.specs.Rows.{WithGap, TwoLabels, Painted, Spread, Kin, own, to-later, to-earlier, Family}
+use Rattle.merge.specs.Rows.{Chained, Alike, WithGap, TwoLabels, Painted, Spread, Kin, own, to-later, to-earlier, Family}
 use Rattle.tables.proofs.Tested.{and-yes, yes-and, not-eq, eq-not, not-yes}
 
 -- ---- whether one of them lacks one
-
-abbrev pub Whole : List ℕ → ℕ → ℕ → Type 0
-Whole t rows i = (j : ℕ) → Yes (bit rows j) → Yes (bit (row t i) j)
 
 -- all of the rows named is in v
 all-in : (rows v : ℕ) → rows < 65536 → without rows v ≡ 0 → (j : ℕ) → Yes (bit rows j) → Yes (bit v j)
@@ -42,20 +39,43 @@ one-out rows v small z =
     let o = without-out rows v (w .0) (in-row _ (w .0) s (w .1)) (w .1) in
     (w .0, o .0, o .1)
 
-pub is-whole : (t : List ℕ) (rows x : ℕ) → rows < 65536 → without rows (row t x) ≡ 0 → Whole t rows x
-is-whole t rows x small z = all-in rows (row t x) small z
-
 has-gap : (t : List ℕ) (rows i j : ℕ) → Yes (bit rows i) → Yes (bit rows j) → ¬ Yes (bit (row t i) j) → WithGap t rows rows
 has-gap t rows i j u v m = record {
   none = λ e. none-in i (subst (λ (k : ℕ). Yes (bit k i)) e u);
   some = λ _. (refl, record { at = i; lacks = j; at-in = u; lacks-in = v; missing = m });
 }
 
-pub is-apart : (t : List ℕ) (rows x : ℕ) → rows < 65536 → Yes (bit rows x) → without rows (row t x) ≢ 0 → WithGap t rows rows
-is-apart t rows x small u z = let w = one-out rows (row t x) small z in has-gap t rows x (w .0) u (w .1) (w .2)
+pub none-apart : (t : List ℕ) (rows : ℕ) → rows ≡ 0 → WithGap t rows 0
+none-apart t rows z = record { none = λ _ i j u v. none-in i (subst (λ (k : ℕ). Yes (bit k i)) z u); some = λ n. absurd (n refl) }
 
-pub not-apart : (t : List ℕ) (rows rest : ℕ) → Passed (Whole t rows) rows rest → rest ≡ 0 → WithGap t rows 0
-not-apart t rows rest w z = record { none = λ _ i j u v. passed-all _ rows rest w z i u j v; some = λ n. absurd (n refl) }
+-- the lowest has all of them in its row and in its column, or not
+module _ (t s : List ℕ) (rows x : ℕ) (small : rows < 65536) (some : rows ≢ 0) (low : Lowest rows x) (c : Chained t s) where
+  x-in : Yes (bit rows x)
+  x-in = low .this (lowest-in rows x small some low)
+
+  turned : (i : ℕ) → Yes (bit rows i) → bit (row s x) i ≡ bit (row t i) x
+  turned i u = c .columns i x (in-row rows i small u) (lowest-in rows x small some low)
+
+  pub not-apart : without rows (bitAnd (row t x) (row s x)) ≡ 0 → WithGap t rows 0
+  not-apart z = record { none = λ _ i j u v. c .chain i x j (sym (turned i u) ∙ both i u .1) (both j v .0); some = λ n. absurd (n refl) }
+    where
+      both : (i : ℕ) → Yes (bit rows i) → Yes (bit (row t x) i) × Yes (bit (row s x) i)
+      both i u = in-both (row t x) (row s x) i (all-in rows _ small z i u)
+
+  pub is-apart : without rows (bitAnd (row t x) (row s x)) ≢ 0 → WithGap t rows rows
+  is-apart z =
+      let w = one-out rows _ small z in
+      ⊎-elim (λ y. has-gap t rows (w .0) x (w .1) x-in (λ q. w .2 (both-in (row t x) (row s x) (w .0) y (turned (w .0) (w .1) ∙ q))))
+      (λ y. has-gap t rows x (w .0) x-in (w .1) (λ q. clash q y)) (yes-case (bit (row t x) (w .0)))
+
+-- one row is the union of rows that hold the same
+pub one-union : (t : List ℕ) (rows x : ℕ) → rows < 65536 → rows ≢ 0 → Lowest rows x → row t x < 65536 → Alike t rows → Union t rows (row t x)
+one-union t rows x small some low s a =
+    let h = low .this (lowest-in rows x small some low) in
+    record { small = s; from = λ j u. (x, h, u); to = λ i j u v. a i x j u h v }
+
+pub none-union : (t : List ℕ) (rows : ℕ) → rows ≡ 0 → Union t rows 0
+none-union t rows z = record { small = omega arith; from = λ j u. none-in j u; to = λ i j u v. none-in i (subst (λ (k : ℕ). Yes (bit k i)) z u) }
 
 -- ---- two rows
 

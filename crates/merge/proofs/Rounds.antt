@@ -21,7 +21,7 @@ use Rattle.tables.proofs.Bits.{none-in, in-row}
 use Rattle.tables.proofs.Clashes.{crossed-clash, uncrossed-clear}
 use Rattle.tables.proofs.Rises.{rises, raised-keeps}
 use Rattle.merge.specs.declared.Round.{Round}
-use Rattle.merge.specs.Rows.{In, Gap, WithGap, NextOf}
+use Rattle.merge.specs.Rows.{In, Gap, Chained, Alike, WithGap, NextOf}
 use Rattle.merge.specs.Merging.{Awaits, held, waits, Held, Pending, Top, Grouped, withSiblings, PassedOf, lacking, UnifiedOf, RoundOf}
 use Rattle.merge.proofs.Loops.{none-spread}
 use Rattle.merge.proofs.Passing.{Follows, alone-follows, passed-follows}
@@ -77,20 +77,32 @@ elements-pending n T f x u p = record {
         one-element r v
         (same-parent (root-below s (settled-within n T (p .standing .inside) v .0)) (root-below r (settled-within n T (p .standing .inside) w .0)) w)
 
-module _ (f : Facts) (parents next : ℕ) (h : NextOf (f .below) (f .child) (f .root) parents next) where
-  next-pending : (n : ℕ) (T : List Fact) → Pending n T parents f → Pending n T next f
-  next-pending n T p =
-      ⊎-elim (λ a. narrow n T f parents next (a .0) p) (λ a. narrow n T f (a .0) next (a .3) (elements-pending n T f (a .0) (a .2) (narrow n T f parents 0 (a .1) p))) h
+-- below chains and is mirrored, and roots are the same and share their children
+module _ (n : ℕ) (T : List Fact) (f : Facts) (parents next : ℕ) (p : Pending n T parents f) (of : NextOf (f .below) (f .above) (f .child) (f .root) parents next) where
+  alike : Alike (f .child) (f .root)
+  unfolding has
+  alike i k j u v =
+      let s = p .standing in
+      let root-in : (x : ℕ) → Held f (root x) → x < n = λ x y. settled-within n T (s .inside) (s .sound (root x) y) in
+      s .sharing .same-parent i j k (s .sharing .root-below i k u (root-in k v)) (s .sharing .root-below k i v (root-in i u))
+
+  chained : Chained (f .below) (f .above)
+  unfolding has
+  chained = record { chain = p .standing .sharing .chain; columns = p .standing .mirrored .ancestors }
+
+  next-pending : Pending n T next f
+  next-pending =
+      ⊎-elim (λ a. narrow n T f parents next (a .0) p) (λ a. narrow n T f (a .0) next (a .3) (elements-pending n T f (a .0) (a .2) (narrow n T f parents 0 (a .1) p))) (of chained alike)
 
   next-gap : next ≢ 0 → Gap (f .below) next
-  next-gap z = ⊎-elim (λ a. gap (a .0)) (λ a. gap (a .3)) h
+  next-gap z = ⊎-elim (λ a. gap (a .0)) (λ a. gap (a .3)) (of chained alike)
     where
       gap : {x : ℕ} → WithGap (f .below) x next → Gap (f .below) next
       gap a = let y = a .some z in subst (Gap (f .below)) (sym (y .0)) (y .1)
 
   next-top : next ≡ 0 → Top f
   unfolding has
-  next-top e x y z r u v = ⊎-elim (λ a. absurd (a .1 e)) (λ a. a .3 .none e y z (a .2 .to x y r u) (a .2 .to x z r v)) h
+  next-top e x y z r u v = ⊎-elim (λ a. absurd (a .1 e)) (λ a. a .3 .none e y z (a .2 .to x y r u) (a .2 .to x z r v)) (of chained alike)
 
 -- ---- after a group was made
 
@@ -173,22 +185,22 @@ module _ (f : Facts) (x : ℕ) (m : Round) (k : UnifiedOf f x m) where
 
   module _ (made : m .clash ≡ false) where
     goes-to : (g : Facts) → ((n : ℕ) (T : List Fact) → Pending n T x f → Pending n T (m .next) g) → ((i j : ℕ) → In (row (m .facts .below) i) j → In (row (g .below) i) j)
-        → (next : ℕ) → NextOf (g .below) (g .child) (g .root) (m .next) next → RoundOf f x (record { clash = m .clash; next = next; group = m .group; facts = g })
+        → (next : ℕ) → NextOf (g .below) (g .above) (g .child) (g .root) (m .next) next → RoundOf f x (record { clash = m .clash; next = next; group = m .group; facts = g })
     goes-to g on keeps next a = record {
       clashes = λ e. absurd (false≢true (sym made ∙ e));
-      goes-on = λ _ n T p. next-pending g (m .next) next a n T (on n T p);
+      goes-on = λ _ n T p. next-pending n T g (m .next) next (on n T p) a;
       falls = λ _ y. let a = k .falls made y in let b = lacks-no-more (m .facts .below) (g .below) keeps in omega arith;
-      gap = λ _. next-gap g (m .next) next a;
-      top = λ _. next-top g (m .next) next a;
+      gap = λ _ n T p. next-gap n T g (m .next) next (on n T p) a;
+      top = λ _ n T p. next-top n T g (m .next) next (on n T p) a;
     }
 
     pub round-blank : m .group < 65536 → ((i : ℕ) → row (f .after) i < 65536) → (t : Bool) → Blank (m .facts .before) t → t ≡ true
-        → (next : ℕ) → NextOf (m .facts .below) (m .facts .child) (m .facts .root) (m .next) next → RoundOf f x (record { clash = m .clash; next = next; group = m .group; facts = m .facts })
+        → (next : ℕ) → NextOf (m .facts .below) (m .facts .above) (m .facts .child) (m .facts .root) (m .next) next → RoundOf f x (record { clash = m .clash; next = next; group = m .group; facts = m .facts })
     round-blank small smalls t blank e = goes-to (m .facts) (λ n T p. blank-on n T f x m p k made small smalls t blank e) (λ i j u. u)
 
     module _ (g : Facts) (h : PassedOf (m .facts) (m .group) (m .next) g) (t : Bool) (tests : Crossed (g .before) (g .below) (g .above) t) where
       pub round-crossed : t ≡ true → (r : Round) → r .clash ≡ true → RoundOf f x r
       round-crossed c r y = refused r y (λ n T p. passed-clash n T f x m p k made g h t tests c)
 
-      pub round-passed : t ≡ false → (next : ℕ) → NextOf (g .below) (g .child) (g .root) (m .next) next → RoundOf f x (record { clash = m .clash; next = next; group = m .group; facts = g })
+      pub round-passed : t ≡ false → (next : ℕ) → NextOf (g .below) (g .above) (g .child) (g .root) (m .next) next → RoundOf f x (record { clash = m .clash; next = next; group = m .group; facts = g })
       round-passed c = goes-to g (λ n T p. passed-on n T f x m p k made g h t tests c) (passed-keeps (m .facts) (m .group) (m .next) g h)

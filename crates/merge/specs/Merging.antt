@@ -142,8 +142,8 @@ pub record RoundOf (f : Facts) (x : ℕ) (r : Round) : Type 0 where
   pub clashes : r .clash ≡ true → (n : ℕ) (T : List Fact) → Pending n T x f → Clash n T
   pub goes-on : r .clash ≡ false → (n : ℕ) (T : List Fact) → Pending n T x f → Pending n T (r .next) (r .facts)
   pub falls : r .clash ≡ false → Gap (f .below) x → lacking (r .facts .below) < lacking (f .below)
-  pub gap : r .clash ≡ false → r .next ≢ 0 → Gap (r .facts .below) (r .next)
-  pub top : r .clash ≡ false → r .next ≡ 0 → Top (r .facts)
+  pub gap : r .clash ≡ false → (n : ℕ) (T : List Fact) → Pending n T x f → r .next ≢ 0 → Gap (r .facts .below) (r .next)
+  pub top : r .clash ≡ false → (n : ℕ) (T : List Fact) → Pending n T x f → r .next ≡ 0 → Top (r .facts)
 
 -- settled tables of some S, where below(b,a) follows from below(a,b)
 abbrev pub Joining : ℕ → Facts → Var → Var → Type 0

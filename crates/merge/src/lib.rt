@@ -5,24 +5,25 @@ ghost use mathlib.Core.Bool.{true};
 ghost use Prim.Native.Nat.{_<_, _≤_, _^_};
 ghost use lib.Bits.{bitOr};
 ghost use Rattle.tables.specs.Rows.{Union, LabelOf};
-ghost use Rattle.merge.specs.Rows.{WithGap, NextOf, TwoLabels, Painted, Spread, Family};
+ghost use Rattle.merge.specs.Rows.{WithGap, GapOf, NextOf, TwoLabels, Painted, Spread, Family};
 ghost use Rattle.merge.specs.Merging.{UnifiedOf, GivenToFamily, PassedOf, RoundOf, Joining, MergedOf};
 use ids::Var;
 use tables::Facts;
 use tables::Settled;
 
-// The rows named, if one of them lacks one of them; else no row.
-fn with_gap(t: [u16; 16], rows: u16) -> u16
-    ensures { λ r. ⌜ WithGap t rows r ⌝ }
+// The rows named, if one of them lacks one of them; else no row. Below chains, so that there is no such gap where the lowest has all of them both
+// below and above it.
+fn with_gap(below: [u16; 16], above: [u16; 16], rows: u16) -> u16
+    ensures { λ r. ⌜ GapOf below above rows r ⌝ }
 {
-    let mut rest = rows;
-    while rest != 0 {
-        let x = tables::lowest(rest);
-        let v = t[x];
-        if tables::except(rows, v) != 0 {
-            return rows;
-        }
-        rest = tables::rest(rest);
+    if rows == 0 {
+        return 0;
+    }
+    let x = tables::lowest(rows);
+    let v = below[x];
+    let w = above[x];
+    if tables::except(rows, v & w) != 0 {
+        return rows;
     }
     0
 }
@@ -247,16 +248,21 @@ fn pass_on(f: Facts, group: u16, parents: u16) -> Facts
     to_family(g, group, parents, earlier, later)
 }
 
-// What has to become the same next: the parents, if they are not; else the children of the roots, if these are not. In most sets there is no
-// root, and nothing is looked at for it.
-fn next_set(below: [u16; 16], child: [u16; 16], root: u16, parents: u16) -> u16
-    ensures { λ r. ⌜ NextOf below child root parents r ⌝ }
+// What has to become the same next: the parents, if they are not; else the children of the roots, if these are not. Roots share their children, so
+// those of the lowest are all. In most sets there is no root, and nothing is looked at for it.
+fn next_set(below: [u16; 16], above: [u16; 16], child: [u16; 16], root: u16, parents: u16) -> u16
+    ensures { λ r. ⌜ NextOf below above child root parents r ⌝ }
 {
-    let next = with_gap(below, parents);
+    let next = with_gap(below, above, parents);
     if next != 0 {
         return next;
     }
-    with_gap(below, tables::union_rows(child, root))
+    if root == 0 {
+        return 0;
+    }
+    let x = tables::lowest(root);
+    let elements = child[x];
+    with_gap(below, above, elements)
 }
 
 // One round: the variables of x become the same, and the next one is for the parents of their group or the children of the roots. In most sets
@@ -272,8 +278,9 @@ fn next_round(f: Facts, x: u16, lower: u16, upper: u16) -> Round
     let before = r.facts.before;
     if tables::blank(before) {
         let below = r.facts.below;
+        let above = r.facts.above;
         let child = r.facts.child;
-        r.next = next_set(below, child, r.facts.root, r.next);
+        r.next = next_set(below, above, child, r.facts.root, r.next);
         return r;
     }
     let unified = r.facts;
@@ -285,7 +292,7 @@ fn next_round(f: Facts, x: u16, lower: u16, upper: u16) -> Round
         return refused(f);
     }
     let new_child = g.child;
-    r.next = next_set(new_below, new_child, g.root, r.next);
+    r.next = next_set(new_below, new_above, new_child, g.root, r.next);
     r.facts = g;
     r
 }

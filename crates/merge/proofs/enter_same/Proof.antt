@@ -8,7 +8,7 @@ use Rattle.meaning.specs.Constraint.{Fact}
 use Rattle.tables.specs.Rows.{Union}
 use Rattle.merge.specs.Rows.{Gap}
 use Rattle.merge.specs.Merging.{Pending, Top, lacking}
-use Rattle.merge.proofs.Entered.{ready-top, merged-clash, merged-well}
+use Rattle.merge.proofs.Entered.{ready-top, begun, merged-clash, merged-well}
 use borrow.Author.Needs.{needs}
 use Rattle.merge.proofs.enter_same.Statement.{statement}
 use Rattle.merge.proofs.enter_same.Tie as tie
@@ -69,14 +69,20 @@ loop-less c =
     let u = e .before in
     u .next-round .ensures .falls (e .if1 .left) (u .before .before .loop .inv .2 (u .before .loop-test .taken) .0)
 
+-- what the round says of its next set it says of pending tables: these are so for the set that the call is about
 loop-again : tie.Need-loop-again Inv-loop μ-loop
 loop-again c =
     let e = c .before .before .before .before .before in
     let u = e .before in
-    let r = u .next-round .ensures in (
-      (λ T p. r .goes-on (e .if1 .left) _ T (u .before .before .loop .inv .0 T p)),
-      r .top (e .if1 .left),
-      λ z. (r .gap (e .if1 .left) z, c .before .union-rows .ensures, c .union-rows2 .ensures),
+    let r = u .next-round .ensures in
+    let l = u .before .before in
+    let a = l .before .before .before in
+    let s = a .before .before .before .before .before in
+    let j = s .pre .1 in
+    let p = l .loop .inv .0 _ (begun _ _ _ _ (s .pre .0 .2) (s .pre .0 .0) (s .pre .0 .1) _ (a .two-with-gap .ensures) (j .0) (j .1) (j .2)) in (
+      (λ T p. r .goes-on (e .if1 .left) _ T (l .loop .inv .0 T p)),
+      r .top (e .if1 .left) _ _ p,
+      λ z. (r .gap (e .if1 .left) _ _ p z, c .before .union-rows .ensures, c .union-rows2 .ensures),
     )
 
 returns-2 : tie.Need-returns-2 Inv-loop μ-loop

@@ -29,7 +29,7 @@ next-set-requires c κs = search needs
 
 returns-2 : tie.Need-returns-2
 returns-2 c =
-    let none = c .before .before .before in
+    let none = c .before .before .before .before in
     let test = none .before in
     let made = test .before .before in
     let u = made .before in
