@@ -54,8 +54,8 @@ withParent p f = record { child = f .child; parent = p; below = f .below; above 
 abbrev pub withBefore : List ℕ → List ℕ → Facts → Facts
 withBefore b a f = record { child = f .child; parent = f .parent; below = f .below; above = f .above; differ = f .differ; before = b; after = a; root = f .root; label = f .label; leaf = f .leaf }
 
-abbrev pub withRoot : List ℕ → ℕ → Facts → Facts
-withRoot c r f = record { child = c; parent = f .parent; below = f .below; above = f .above; differ = f .differ; before = f .before; after = f .after; root = r; label = f .label; leaf = f .leaf }
+abbrev pub withDocument : List ℕ → ℕ → Facts → Facts
+withDocument c r f = record { child = c; parent = f .parent; below = f .below; above = f .above; differ = f .differ; before = f .before; after = f .after; root = r; label = f .label; leaf = f .leaf }
 
 abbrev pub ParentIn : ℕ → List ℕ → List ℕ → List ℕ → Found → Type 0
 ParentIn n parent below above r = (f : Facts) → StageOf parent-join n (withParent parent (withBelow below above f)) r
@@ -67,4 +67,4 @@ abbrev pub SiblingIn : ℕ → List ℕ → List ℕ → List ℕ → List ℕ �
 SiblingIn n before after below above r = (f : Facts) → StageOf sibling-join n (withBefore before after (withBelow below above f)) r
 
 abbrev pub DocumentIn : ℕ → List ℕ → List ℕ → ℕ → Found → Type 0
-DocumentIn n child below root r = (f : Facts) → StageOf document-join n (withRoot child root (withBelow below (f .above) f)) r
+DocumentIn n child below root r = (f : Facts) → StageOf document-join n (withDocument child root (withBelow below (f .above) f)) r

@@ -1,4 +1,4 @@
--- A tree as the paper has it (source 004, definition 2.1): the nodes are any finite set and bear no numbers. Of its document order ≺ only the order
+-- A tree as the paper has it (source 004, definition 2.1), its root a document node: the nodes are any finite set and bear no numbers. Of its document order ≺ only the order
 -- of siblings is kept. When such a tree meets the constraints, and when a tree of docs/FORMAT.md is that tree with its nodes numbered.
 use mathlib.Core.Path.{_≡_}
 use mathlib.Core.Logic.{_≢_, _↔_, _⊎_}

@@ -23,7 +23,7 @@ use Rattle.tables.proofs.Clashes.{free-clash, clash-free}
 use Rattle.tables.specs.Free.{Free}
 use Rattle.tables.proofs.Groups.{sharing-same, siblings-same}
 use Rattle.merge.specs.Rows.{In, WithGap}
-use Rattle.merge.specs.Merging.{Awaits, held, waits, Held, Pending, Top, MergedOf}
+use Rattle.merge.specs.Merging.{Awaits, held, waits, Held, Pending, OneElement, MergedOf}
 use Rattle.tables.proofs.Bits.{or-l, or-r, one-has, meets-out, in-row}
 use Rattle.merge.proofs.Loops.{two-case}
 use Rattle.merge.proofs.Rounds.{none-left, narrow}
@@ -79,12 +79,12 @@ module _ (n : ℕ) (S : List Fact) (a b : Var) where
         no-clash : Free (Held f)
         no-clash = clash-free n S f (r .decides) (r .free)
 
-pub ready-top : (n : ℕ) (S : List Fact) (f : Facts) → Ready n S f → Top f
+pub ready-top : (n : ℕ) (S : List Fact) (f : Facts) → Ready n S f → OneElement f
 ready-top n S f r x y z a b c = r .decides .complete (one-element (r .decides .sound a) (r .decides .sound b) (r .decides .sound c))
 
 -- ---- nothing has to become the same any more
 
-module _ (n : ℕ) (T : List Fact) (f : Facts) (p : Pending n T 0 f) (top : Top f) where
+module _ (n : ℕ) (T : List Fact) (f : Facts) (p : Pending n T 0 f) (top : OneElement f) where
   done-decides : Decides n T (has f)
   done-decides =
       rules-decide n T (has f) (p .standing .sound) (λ φ m. none-left f φ (p .complete φ m))
@@ -107,7 +107,7 @@ module _ (n : ℕ) (f : Facts) (a b : Var) (few : n ≤ 16) (ha : a < n) (hb : b
   pub merged-clash : ((T : List Fact) → Pending n T x f → Clash n T) → MergedOf n f a b (record { clash = true; facts = f })
   merged-clash k = record { clashes = λ _ S r back. k _ (begun S r back); kept = λ _. refl; settles = λ e. absurd (false≢true (sym e)) }
 
-  pub merged-well : (g : Facts) → Top g → ((T : List Fact) → Pending n T x f → Pending n T 0 g) → MergedOf n f a b (record { clash = false; facts = g })
+  pub merged-well : (g : Facts) → OneElement g → ((T : List Fact) → Pending n T x f → Pending n T 0 g) → MergedOf n f a b (record { clash = false; facts = g })
   merged-well g top k = record {
     clashes = λ e. absurd (false≢true e);
     kept = λ e. absurd (false≢true e);

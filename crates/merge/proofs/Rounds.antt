@@ -1,7 +1,7 @@
 -- A round meets its contract: a clash that its tests find is one of the given facts; elsewhere the parents of the group that it made have yet to
 -- become the same, or, where they are the same, the children of the document node, or, where these are too, nothing has.
 use mathlib.Core.Path.{_≡_, refl, sym, _∙_, subst}
-use mathlib.Core.Logic.{_≢_, inl, inr, ⊎-elim}
+use mathlib.Core.Logic.{_≢_, ⊎-elim}
 use mathlib.Core.Bool.{Bool, true, false, false≢true}
 use mathlib.Core.List.{List}
 use Prim.Native.Nat.{ℕ, _<_, _≤_}
@@ -22,7 +22,7 @@ use Rattle.tables.proofs.Clashes.{crossed-clash, uncrossed-clear}
 use Rattle.tables.proofs.Rises.{rises, raised-keeps}
 use Rattle.merge.specs.declared.Round.{Round}
 use Rattle.merge.specs.Rows.{In, Gap, Chained, Alike, WithGap, NextOf}
-use Rattle.merge.specs.Merging.{Awaits, held, waits, Held, Pending, Top, Grouped, withSiblings, PassedOf, lacking, UnifiedOf, RoundOf}
+use Rattle.merge.specs.Merging.{Awaits, held, waits, Held, Pending, OneElement, Grouped, withSiblings, PassedOf, lacking, UnifiedOf, RoundOf}
 use Rattle.merge.proofs.Loops.{none-spread}
 use Rattle.merge.proofs.Passing.{Follows, alone-follows, passed-follows}
 
@@ -100,7 +100,7 @@ module _ (n : ℕ) (T : List Fact) (f : Facts) (parents next : ℕ) (p : Pending
       gap : {x : ℕ} → WithGap (f .below) x next → Gap (f .below) next
       gap a = let y = a .some z in subst (Gap (f .below)) (sym (y .0)) (y .1)
 
-  next-top : next ≡ 0 → Top f
+  next-top : next ≡ 0 → OneElement f
   unfolding has
   next-top e x y z r u v = ⊎-elim (λ a. absurd (a .1 e)) (λ a. a .3 .none e y z (a .2 .to x y r u) (a .2 .to x z r v)) (of chained alike)
 

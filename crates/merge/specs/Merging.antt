@@ -49,8 +49,8 @@ pub record Pending (n : ℕ) (T : List Fact) (x : ℕ) (f : Facts) : Type 0 wher
   pub one-parent : (i j k : Var) → Held f (child i k) → Held f (child j k) → Awaits (In x) (Held f) (below i j)
 
 -- two children of the document node are the same, which is owed where nothing waits
-abbrev pub Top : Facts → Type 0
-Top f = (x y z : Var) → Held f (root x) → Held f (child x y) → Held f (child x z) → Held f (below y z)
+abbrev pub OneElement : Facts → Type 0
+OneElement f = (x y z : Var) → Held f (root x) → Held f (child x y) → Held f (child x z) → Held f (below y z)
 
 -- ---- within a round
 
@@ -143,7 +143,7 @@ pub record RoundOf (f : Facts) (x : ℕ) (r : Round) : Type 0 where
   pub goes-on : r .clash ≡ false → (n : ℕ) (T : List Fact) → Pending n T x f → Pending n T (r .next) (r .facts)
   pub falls : r .clash ≡ false → Gap (f .below) x → lacking (r .facts .below) < lacking (f .below)
   pub gap : r .clash ≡ false → (n : ℕ) (T : List Fact) → Pending n T x f → r .next ≢ 0 → Gap (r .facts .below) (r .next)
-  pub top : r .clash ≡ false → (n : ℕ) (T : List Fact) → Pending n T x f → r .next ≡ 0 → Top (r .facts)
+  pub top : r .clash ≡ false → (n : ℕ) (T : List Fact) → Pending n T x f → r .next ≡ 0 → OneElement (r .facts)
 
 -- settled tables of some S, where below(b,a) follows from below(a,b)
 abbrev pub Joining : ℕ → Facts → Var → Var → Type 0

@@ -19,7 +19,7 @@ pub record Recorded (number : ℕ → ℕ) (bytes : ℕ → List ℕ) (k : ℕ) 
 abbrev pub Put : ℕ → List ℕ → List ℕ → List ℕ → Type 0
 Put v bytes old new = Recorded (λ i. v) (λ i. bytes) 1 old new
 
--- the record of a blank node on node 0
+-- the record of node v, blank and with 0 as its parent
 abbrev pub blankAt : ℕ → List ℕ
 blankAt v = nodeBytes v (blankRecord ∷ [])
 

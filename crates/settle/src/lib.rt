@@ -302,7 +302,7 @@ fn pass(f: Facts, n: usize) -> Stepped
     }
 }
 
-// A pass, with a clash also where the document node has a leaf or a label.
+// A pass, with a clash also where the document node is a leaf or has a label.
 fn pass_bare(f: Facts, n: usize) -> Stepped
     requires { ⌜ n ≤ 16 ⌝ }
     ensures { λ r. ⌜ SteppedOf (BareRules n) n f r ⌝ }

@@ -9,7 +9,7 @@ use native.Mathlib.Nat.{le-trans}
 use lib.Dec.{eqb}
 use Rattle.meaning.specs.Constraint.{Fact, below, before, root, leaf, label}
 use Rattle.meaning.specs.Settled.{Settled, Clash, differs, labels, above-sibling, under-sibling, leaf-document, label-document}
-use Rattle.meaning.specs.Finite.{Yes, _and_, _or_, neg}
+use Rattle.meaning.specs.Finite.{Yes, _and_, _or_}
 use Rattle.meaning.specs.ReadOff.{Decides}
 use Rattle.meaning.specs.Closed.{Within}
 use Rattle.meaning.proofs.Tests.{clash, yes-case, and-left, and-right, and-both, or-left, or-right, or-cases, is-eq, eq-yes}

@@ -77,10 +77,10 @@ pub record Union (t : List ℕ) (rows r : ℕ) : Type 0 where
   pub from : (j : ℕ) → Yes (bit r j) → (i : ℕ) × Yes (bit rows i) × Yes (bit (row t i) j)
   pub to : (i j : ℕ) → Yes (bit rows i) → Yes (bit (row t i) j) → Yes (bit r j)
 
--- a label of the rows named, or 0 where none has one
+-- the label of the lowest of the rows named that has one, or 0 where none has
 pub record LabelOf (t : List ℕ) (rows l : ℕ) : Type 0 where
   pub none : l ≡ 0 → (i : ℕ) → Yes (bit rows i) → row t i ≡ 0
-  pub some : l ≢ 0 → (i : ℕ) × Yes (bit rows i) × (row t i ≡ l)
+  pub some : l ≢ 0 → (i : ℕ) × Yes (bit rows i) × (row t i ≡ l) × ((j : ℕ) → j < i → Yes (bit rows j) → row t j ≡ 0)
 
 -- whether a row of t has a number in common with the same row of one of two other tables
 pub record Crossed (t below above : List ℕ) (r : Bool) : Type 0 where

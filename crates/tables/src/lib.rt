@@ -108,7 +108,7 @@ pub fn union_rows(t: [u16; 16], rows: u16) -> u16
     a
 }
 
-// A label of the variables named, or 0 where none has one.
+// The label of the lowest of the variables named that has one, or 0 where none has.
 pub fn label_of(t: [u8; 16], rows: u16) -> u8
     ensures { λ r. ⌜ LabelOf t rows r ⌝ }
 {
@@ -206,7 +206,7 @@ pub fn crossed(t: [u16; 16], below: [u16; 16], above: [u16; 16]) -> bool
     any != 0
 }
 
-// Whether a group is the document node's and has a leaf or a label, l or 0 for none.
+// Whether a group is the document node's, and a leaf or labelled: l is its label, or 0 for none.
 pub fn on_document(root: u16, leaf: u16, group: u16, l: u8) -> bool
     ensures { λ r. ⌜ r ≡ onDocument root leaf group l ⌝ }
 {

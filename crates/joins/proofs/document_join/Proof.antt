@@ -8,7 +8,7 @@ use Rattle.meaning.specs.FixedSearch.{document-join}
 use Rattle.tables.specs.Tables.{row}
 use Rattle.tables.specs.Rows.{Lowest, without}
 use Rattle.tables.specs.declared.Facts.{Facts}
-use Rattle.joins.specs.Found.{joinOf, withBelow, withRoot}
+use Rattle.joins.specs.Found.{joinOf, withBelow, withDocument}
 use Rattle.joins.proofs.First.{none-first}
 use Rattle.joins.proofs.Document.{none-without-root, none-without-child, none-left, document-first}
 use Rattle.joins.proofs.document_join.Statement.{statement}
@@ -65,7 +65,7 @@ left w = subst (λ (k : ℕ). Lowest k (w .lowest3 .result)) (w .before .except 
 
 -- whatever else the tables hold
 abbrev tables : tie.Start → Facts → Facts
-tables s f = withRoot (s .args .t1) (s .args .root) (withBelow (s .args .t2) (f .above) f)
+tables s f = withDocument (s .args .t1) (s .args .root) (withBelow (s .args .t2) (f .above) f)
 
 returns : tie.Need-returns
 unfolding joinOf

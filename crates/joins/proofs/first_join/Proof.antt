@@ -5,7 +5,6 @@ use borrow.Author.Needs.{needs}
 use Rattle.meaning.specs.Constraint.{Fact}
 use Rattle.theory.specs.Search.{firstJoin}
 use Rattle.tables.specs.Tables.{has, Ready}
-use Rattle.tables.specs.declared.Facts.{Facts}
 use Rattle.joins.proofs.Stages.{FirstIn, no-kind, next-kind, other-kind}
 use Rattle.joins.proofs.first_join.Statement.{statement}
 use Rattle.joins.proofs.first_join.Tie as tie

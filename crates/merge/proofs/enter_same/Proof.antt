@@ -7,7 +7,7 @@ use Prim.Native.Nat.{ℕ}
 use Rattle.meaning.specs.Constraint.{Fact}
 use Rattle.tables.specs.Rows.{Union}
 use Rattle.merge.specs.Rows.{Gap}
-use Rattle.merge.specs.Merging.{Pending, Top, lacking}
+use Rattle.merge.specs.Merging.{Pending, OneElement, lacking}
 use Rattle.merge.proofs.Entered.{ready-top, begun, merged-clash, merged-well}
 use borrow.Author.Needs.{needs}
 use Rattle.merge.proofs.enter_same.Statement.{statement}
@@ -15,7 +15,7 @@ use Rattle.merge.proofs.enter_same.Tie as tie
 
 abbrev Inv-loop : tie.InvT-loop
 Inv-loop f n i j g₀ x₀ lower₀ upper₀ g x lower upper =
-    ((T : List Fact) → Pending n T x₀ g₀ → Pending n T x g) × (x ≡ 0 → Top g) × (x ≢ 0 → Gap (g .below) x × Union (g .below) x lower × Union (g .above) x upper)
+    ((T : List Fact) → Pending n T x₀ g₀ → Pending n T x g) × (x ≡ 0 → OneElement g) × (x ≢ 0 → Gap (g .below) x × Union (g .below) x lower × Union (g .above) x upper)
 
 abbrev μ-loop : tie.MeasureT-loop
 μ-loop f n i j g₀ x₀ lower₀ upper₀ g x lower upper = lacking (g .below)

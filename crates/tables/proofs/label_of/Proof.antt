@@ -28,7 +28,7 @@ returns : tie.Need-returns Inv-loop μ-loop
 returns c =
     let w = c .before in
     let l = w .before .before in
-    is-label _ _ _ (next-named _ _ _ _ (l .loop .inv) (w .before .loop-test .taken) (w .lowest .ensures)) (c .if1 .taken)
+    is-label _ _ _ _ (l .loop .inv) (w .lowest .ensures) (next-named _ _ _ _ (l .loop .inv) (w .before .loop-test .taken) (w .lowest .ensures)) (c .if1 .taken)
 
 rest-requires : tie.Need-rest-requires Inv-loop μ-loop
 rest-requires c κs = c .before .before .loop-test .taken
