@@ -271,7 +271,7 @@ impl<const K: usize> State<K> {
         }
     }
 
-    // The first join that is no root join: Parent(z, x, y), Chain(x, y) or Sibling(y, a, x)
+    // The first join that is no document join: Parent(z, x, y), Chain(x, y) or Sibling(y, a, x)
     #[inline(always)]
     fn first_join(&mut self) -> Join {
         let mut open = self.parent_open & self.child;
@@ -306,7 +306,7 @@ impl<const K: usize> State<K> {
         }
     }
 
-    // y and w of the first root join, where there is no other join. Roots are the same, and so are their children: which of them is asked
+    // y and w of the first document join, where there is no other join. Roots are the same, and so are their children: which of them is asked
     // makes no difference.
     #[inline(always)]
     fn root_join(&self, r: usize) -> Option<(usize, usize)> {
@@ -426,7 +426,7 @@ impl<const K: usize, const R: bool> Search<'_, K, R> {
         }
     }
 
-    // Where there is no other join: the end of the line, or nothing if it goes on with the second alternative of a root join.
+    // Where there is no other join: the end of the line, or nothing if it goes on with the second alternative of a document join.
     #[inline(always)]
     fn last(&mut self, s: &mut State<K>) -> Option<End> {
         if R {
@@ -439,7 +439,7 @@ impl<const K: usize, const R: bool> Search<'_, K, R> {
         Some(End::Tree)
     }
 
-    // A root join: w below the outermost element y, then on the document node r.
+    // A document join: w below the outermost element y, then on the document node r.
     fn rooted(&mut self, s: &mut State<K>, r: usize, y: usize, w: usize) -> Option<End> {
         if !self.choose() {
             return Some(End::Spent);

@@ -1,7 +1,8 @@
 /*
  * Measures stack. cudreth_solve: in a thread with the header's CUDRETH_STACK bytes, once without a choice, once with 105 alternatives
- * open at the end (15 variables above a sixteenth: one chain join for each pair) and once with 113, of joins of all three kinds. From
- * each of the two it tells what the most that can be open, n * (n - 1) = 240, would need, and fails if CUDRETH_STACK is not enough.
+ * open at the end (15 variables above a sixteenth: one chain join for each pair), once with 113, of parent, chain and sibling joins, and
+ * once with 79, of chain joins and at last a document join. From each of the three it tells what the most that can be open,
+ * n * (n - 1) = 240, would need, and fails if CUDRETH_STACK is not enough.
  * cudreth_paths: on the texts of 1,024 bytes that nest deepest or go on longest, and fails if one needs more than CUDRETH_PATHS_STACK.
  */
 #define _POSIX_C_SOURCE 200809L
@@ -65,8 +66,9 @@ static const struct deep {
     size_t open;
 } deep[] = {
     {"chain joins", 15, 15, 0, {{0}}, 105},
-    {"joins of all kinds", 12, 13, 4,
+    {"parent, chain and sibling joins", 12, 13, 4,
      {{CUDRETH_BEFORE, 13, 15, 0}, {CUDRETH_BEFORE, 15, 14, 0}, {CUDRETH_BELOW, 12, 15, 0}, {CUDRETH_CHILD, 0, 12, 0}}, 113},
+    {"chain joins and a document join", 13, 13, 2, {{CUDRETH_ROOT, 15, 0, 0}, {CUDRETH_CHILD, 15, 14, 0}}, 79},
 };
 
 static void ask(const uint8_t *record)

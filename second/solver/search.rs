@@ -30,7 +30,7 @@ pub enum Join {
         y: Variable,
     },
     /// r is the document node and y the element next under it: w is at or below y, or on r.
-    Element {
+    Document {
         r: Variable,
         y: Variable,
         w: Variable,
@@ -44,13 +44,13 @@ impl Join {
             Join::Parent { x, y, z } => [vec![Fact::Below(x, y)], same(x, z)],
             Join::Chain { x, y } => [vec![Fact::Below(x, y)], vec![Fact::Below(y, x)]],
             Join::Sibling { a, x, y } => [vec![Fact::Below(a, x)], same(a, y)],
-            Join::Element { r, y, w } => [vec![Fact::Below(y, w)], same(w, r)],
+            Join::Document { r, y, w } => [vec![Fact::Below(y, w)], same(w, r)],
         }
     }
 }
 
 /// Parent joins, then chain joins, each by the smallest z, then x, then y; then sibling joins, the third kind, by y, then a, then x; then
-/// element joins, the fourth and last kind, by r, then y, then w.
+/// document joins, the fourth and last kind, by r, then y, then w.
 pub fn first_join(settled: &Settled) -> Option<Join> {
     first_triple(settled, |z, x, y| {
         settled.holds(Fact::Child(y, z)) && settled.below(x, z) && !settled.same(x, z) && !settled.below(x, y)
@@ -73,7 +73,7 @@ pub fn first_join(settled: &Settled) -> Option<Join> {
         first_triple(settled, |r, y, w| {
             settled.is_root(r) && settled.holds(Fact::Child(r, y)) && !settled.same(w, r) && !settled.below(y, w)
         })
-        .map(|(r, y, w)| Join::Element { r, y, w })
+        .map(|(r, y, w)| Join::Document { r, y, w })
     })
 }
 
@@ -136,7 +136,7 @@ impl Search {
         let Some(join) = first_join(&settled) else {
             return Outcome::Solved(settled);
         };
-        let is_fourth = matches!(join, Join::Element { .. });
+        let is_fourth = matches!(join, Join::Document { .. });
         self.trace.came_to_fourth_join |= is_fourth;
         for (at, alternative) in join.alternatives().iter().enumerate() {
             if self.count == self.allowance {
