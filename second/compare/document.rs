@@ -43,7 +43,7 @@ impl Comparison {
             }
         }
         for &(join, alternative) in &trace.line {
-            if let Join::Element { w, .. } = join {
+            if let Join::Document { w, .. } = join {
                 self.document.note(match alternative {
                     0 => "a tree by the first alternative of a fourth join",
                     _ => "a tree by the second alternative of a fourth join",

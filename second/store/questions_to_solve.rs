@@ -107,13 +107,13 @@ fn came_to(asked: &Asked) -> bool {
 
 /// Does the line that ended in a tree have this alternative of a fourth join?
 fn takes(asked: &Asked, alternative: usize) -> bool {
-    asked.trace.line.iter().any(|&(join, taken)| matches!(join, Join::Element { .. }) && taken == alternative)
+    asked.trace.line.iter().any(|&(join, taken)| matches!(join, Join::Document { .. }) && taken == alternative)
 }
 
 /// A variable that no record names.
 fn joins_a_skipped_variable(asked: &Asked) -> bool {
     let is_named = |w: Variable| asked.constraints.iter().any(|record| record.variables().contains(&w));
-    asked.trace.line.iter().any(|&(join, _)| matches!(join, Join::Element { w, .. } if !is_named(w)))
+    asked.trace.line.iter().any(|&(join, _)| matches!(join, Join::Document { w, .. } if !is_named(w)))
 }
 
 fn has_third_join(asked: &Asked) -> bool {
