@@ -4,7 +4,8 @@ pub mod Tests
 pub mod Finite
 pub mod Lists
 pub mod Arranged
--- trees, facts, the settled set as the least one, and why every rule of settling is sound
+-- labels, trees, facts, the settled set as the least one, and why every rule of settling is sound
+pub mod Labels
 pub mod Trees
 pub mod Facts
 pub mod Least

@@ -7,19 +7,20 @@ use mathlib.Core.List.{List, [], _∷_, List·Memᴰ, List·Memᴰ·head, List·
 use Prim.Native.Nat.{ℕ, zero, suc, _≤_, _<_, zero-le, suc-le-suc}
 use native.Mathlib.Nat.{le-refl, le-trans, not-suc-le-zero}
 use native.Mathlib.Omega.{arith}
-use Rattle.meaning.specs.Tree.{Var, Node, Label, Assignment, Tree, IsTree}
+use Rattle.meaning.specs.Tree.{Var, Node, Label, folded, Assignment, Tree, IsTree}
 use Rattle.meaning.specs.Constraint.{Constraint, is-same, is-root, Meets, MeetsAll, CanBeMet, vars}
 use Rattle.meaning.specs.Paths.{to-self, isLetter, letter, any, Path, alone, from-root, from-here, Steps, one, more, Step, move, having}
 use Rattle.meaning.specs.Selection.{Expr, Denotes, axisExpr, testExpr, pathExpr, stepsExpr, stepExpr, Selects, SomeTreeSelects}
 use Rattle.meaning.specs.PathRecords.{Sheet, blankSheet, nextTaken, withRecords, rootedBy, rooted, moveRecords, pathSheet, stepsSheet, stepSheet, endSheet, lineSheet, linesSheet, recordsOf, variablesOf}
-use Rattle.meaning.proofs.Trees.{no-parent, some-node}
+use Rattle.meaning.proofs.Labels.{folded-least}
+use Rattle.meaning.proofs.Trees.{document-blank, no-parent, some-node}
 use Rattle.meaning.specs.Finite.{Yes, pick}
-use Rattle.meaning.proofs.Tests.{pick-yes, pick-no, and-left, is-eq, is-le, self-eq}
+use Rattle.meaning.proofs.Tests.{pick-yes, pick-no, is-eq, self-eq}
 use Rattle.meaning.proofs.Finite.{split-lt}
 use Rattle.meaning.proofs.Constraints.{names-below, meets-agree, vars-least}
 use lib.Dec.{eqb}
 use Rattle.meaning.proofs.PathCounts.{variables-are}
-use Rattle.meaning.proofs.PathSheets.{Fine, Grown, blank-fine, next-taken-grown, rooted-grown, path-grown, steps-grown, step-grown, end-grown, line-grown, lines-grown, next-low}
+use Rattle.meaning.proofs.PathSheets.{Fine, Grown, blank-fine, next-taken-grown, rooted-grown, path-grown, steps-grown, step-grown, end-grown, line-grown, lines-grown, next-low, letter-range}
 use Rattle.meaning.proofs.PathMoves.{met-nil, met-cons, met-append, move-meets, move-denotes}
 
 -- ---- where the records are met, every line selects the node of variable 0
@@ -339,10 +340,10 @@ star-passes {t} i = record { start = 0; inside = some-node t i; leads = (0, some
 
 -- no letter does: of `/self::a` no tree has a node selected
 pub letter-stops : (b : Label) (l : Yes (isLetter b)) → ¬ SomeTreeSelects (from-root (one (move to-self (letter b l))) ∷ [])
-unfolding pathExpr stepsExpr stepExpr testExpr axisExpr isLetter
+unfolding pathExpr stepsExpr stepExpr testExpr axisExpr
 letter-stops b l s =
     let d = s .by-every _ (List·Memᴰ·head refl) .leads in
     let w = d .3 in
-    let e : s .tree .label 0 ≡ b = subst (λ (v : Node). s .tree .label v ≡ b) (sym (w .2) ∙ d .2) (w .3 .1) in
-    let m : 97 ≤ b = is-le (and-left _ l) in
-    omega (arith, e, s .is-tree .blank-first, m)
+    let e : 0 ≡ folded b = sym (document-blank (s .tree) (s .is-tree) (sym (w .2) ∙ d .2)) ∙ w .3 .1 in
+    let m = letter-range b l .0 in
+    omega (arith, e, folded-least b, m)

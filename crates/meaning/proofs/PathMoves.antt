@@ -6,7 +6,7 @@ use mathlib.Core.List.{List, [], _∷_, _++_, List·Memᴰ, List·Memᴰ·head, 
 use Prim.Native.Nat.{_<_}
 use native.Mathlib.Nat.{lt-irrefl}
 use native.Mathlib.Omega.{arith}
-use Rattle.meaning.specs.Tree.{Var, Node, Assignment, Tree, IsTree, Parent, Above, self, up}
+use Rattle.meaning.specs.Tree.{Var, Node, folded, Assignment, Tree, IsTree, Parent, Above, self, up}
 use Rattle.meaning.specs.Constraint.{Constraint, is-label, Meets}
 use Rattle.meaning.specs.Paths.{Axis, to-self, to-child, to-parent, to-descendant, to-ancestor, to-descendant-or-self, to-ancestor-or-self, to-following-sibling, to-preceding-sibling, Test, letter, any}
 use Rattle.meaning.specs.Selection.{Denotes, axisExpr, testExpr}
@@ -75,7 +75,7 @@ module _ (t : Tree) (i : IsTree t) where
     move-meets k (letter b l) x y d =
         let e = d .3 .0 in
         met-cons (axis-meets k x y (subst (Denotes t (axisExpr k) (a x)) e (d .2)))
-        (met-cons {c = is-label y b} (ap (t .label) (sym e) ∙ d .3 .1) met-nil)
+        (met-cons {c = is-label y b} (ap (λ (v : Node). folded (t .label v)) (sym e) ∙ d .3 .1) met-nil)
     move-meets k any x y d = met-cons (axis-meets k x y d) met-nil
 
     pub move-denotes : (k : Axis) (q : Test) (x y : Var) → a y < t .size → Met (moveRecords k q x y) → Denotes t (testExpr q (axisExpr k)) (a x) (a y)

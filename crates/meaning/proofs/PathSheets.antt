@@ -6,12 +6,14 @@ use mathlib.Core.List.{List, [], _∷_, List·Memᴰ, List·Memᴰ·head, Memᴰ
 use Prim.Native.Nat.{ℕ, zero, suc, max, _≤_, _<_}
 use native.Mathlib.Nat.{le-refl, le-trans, zero-lt-suc, not-suc-le-zero}
 use native.Mathlib.Omega.{arith}
-use Rattle.meaning.specs.Tree.{Var}
+use lib.Dec.{leb}
+use Rattle.meaning.specs.Tree.{Var, isCapital}
 use Rattle.meaning.specs.Constraint.{Constraint, is-same, is-root, named, vars}
-use Rattle.meaning.specs.Finite.{Yes}
+use Rattle.meaning.specs.Finite.{Yes, _and_}
 use Rattle.meaning.specs.Paths.{Axis, to-self, to-child, to-parent, to-descendant, to-ancestor, to-descendant-or-self, to-ancestor-or-self, to-following-sibling, to-preceding-sibling, isLetter, Test, letter, any, Path, alone, from-root, from-here, Steps, one, more, Step, move, having}
 use Rattle.meaning.specs.PathRecords.{Sheet, blankSheet, nextTaken, withRecords, rootedBy, rooted, axisRecord, moveRecords, pathSheet, stepsSheet, stepSheet, endSheet, lineSheet, linesSheet}
-use Rattle.meaning.proofs.Tests.{and-left, and-right, is-le}
+use Rattle.meaning.proofs.Tests.{and-left, and-right, either, is-le}
+use Rattle.meaning.proofs.Labels.{capital-range}
 use Rattle.meaning.proofs.Constraints.{OnLabelOf, named-most}
 
 -- ---- the records of a move
@@ -35,7 +37,7 @@ move-vars k any x y = let e = axis-named k x y in omega arith
 
 -- its label, if it has one, is a letter
 abbrev pub Lettered : Constraint → Type 0
-Lettered = OnLabelOf (λ l. (97 ≤ l) × (l ≤ 122))
+Lettered = OnLabelOf (λ l. (65 ≤ l) × (l ≤ 122))
 
 axis-lettered : (k : Axis) (x y : Var) → Lettered (axisRecord k x y)
 unfolding axisRecord
@@ -49,9 +51,15 @@ axis-lettered to-ancestor-or-self x y = tt
 axis-lettered to-following-sibling x y = tt
 axis-lettered to-preceding-sibling x y = tt
 
-pub letter-range : (b : ℕ) → Yes (isLetter b) → (97 ≤ b) × (b ≤ 122)
+pub letter-range : (b : ℕ) → Yes (isLetter b) → (65 ≤ b) × (b ≤ 122)
 unfolding isLetter
-letter-range b l = (is-le (and-left _ l), is-le (and-right _ l))
+letter-range b l = either {a = isCapital b} capital small l
+  where
+    capital : Yes (isCapital b) → (65 ≤ b) × (b ≤ 122)
+    capital y = let r = capital-range b y in let m = r .1 in (r .0, omega arith)
+
+    small : Yes (leb 97 b and leb b 122) → (65 ≤ b) × (b ≤ 122)
+    small y = let m : 97 ≤ b = is-le (and-left (leb b 122) y) in (omega arith, is-le (and-right (leb 97 b) y))
 
 move-lettered : (k : Axis) (t : Test) (x y : Var) (c : Constraint) → List·Memᴰ c (moveRecords k t x y) → Lettered c
 unfolding moveRecords

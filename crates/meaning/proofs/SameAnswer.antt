@@ -1,15 +1,19 @@
--- Constraints with the same members, in any order and repeated or not, get the same answer under the same allowance: the search sees their facts
--- as a set, and demand 3 leaves one answer for how it ends.
+-- Constraints with the same given facts, in any order and repeated or not, get the same answer under the same allowance: the search sees their facts
+-- as a set, and demand 3 leaves one answer for how it ends. So do accepted files of such constraints.
 use mathlib.Core.Path.{_≡_, refl, sym, ap, _∙_, subst}
 use mathlib.Core.List.{List, List·Memᴰ}
 use Prim.Native.Nat.{ℕ, _≤_}
 use native.Mathlib.Nat.{le-antisymm}
 use native.Mathlib.Decide.{decLe}
 use native.Mathlib.Omega.{arith}
+use lib.ListN.{length}
 use Rattle.meaning.specs.Constraint.{Constraint, vars, factsOf}
 use Rattle.meaning.specs.FixedSearch.{Outcome, in-none, in-tree}
 use Rattle.meaning.specs.ReadOff.{answerFile}
 use Rattle.meaning.specs.Demand.{Answer, a-tree, a-none, Demand3}
+use Rattle.meaning.specs.Files.{refused, accepted, judge}
+use Rattle.meaning.specs.Results.{Solved, solver-answers, written}
+use Rattle.meaning.specs.Promises.{SolverPromise, SameRoom, OneAnswer}
 use Rattle.meaning.proofs.Facts.{_⊆_}
 use Rattle.meaning.proofs.Constraints.{fact-in, fact-from, named-most, vars-least}
 use Rattle.meaning.proofs.Congruence.{SameFacts, Alike, decides-cong, ends-cong}
@@ -32,9 +36,9 @@ module _ {cs ds : List Constraint} (e : SameConstraints cs ds) where
   same-vars = le-antisymm (vars-part ds cs (e .fro)) (vars-part cs ds (e .to))
 
 -- over the same n variables
-module _ {A n : ℕ} {cs ds : List Constraint} {r s : Answer} (e : SameConstraints cs ds) (d : Demand3 A n cs r) (f : Demand3 A n ds s) where
+module _ {A n : ℕ} {cs ds : List Constraint} {r s : Answer} (e : SameFacts (factsOf cs) (factsOf ds)) (d : Demand3 A n cs r) (f : Demand3 A n ds s) where
   same-count : f .count ≡ d .count
-  same-count = let a = ends-cong n (d .search .ends) (same-facts e) in sym (f .search .only (a .ends) .1)
+  same-count = let a = ends-cong n (d .search .ends) e in sym (f .search .only (a .ends) .1)
 
   -- within the allowance
   shown : d .count ≤ A → (o p : Outcome) → d .outcome ≡ o → f .outcome ≡ p → Alike o p → s ≡ r
@@ -51,6 +55,33 @@ module _ {A n : ℕ} {cs ds : List Constraint} {r s : Answer} (e : SameConstrain
     where
       go : Dec (d .count ≤ A) → s ≡ r
       go (yes l) =
-          let a = ends-cong n (d .search .ends) (same-facts e) in
+          let a = ends-cong n (d .search .ends) e in
           shown l (d .outcome) (f .outcome) refl refl (subst (Alike (d .outcome)) (f .search .only (a .ends) .0) (a .alike))
       go (no l) = f .answers .spent-iff .0 (omega (arith, same-count)) ∙ sym (d .answers .spent-iff .0 (omega arith))
+
+-- ---- files
+
+module _ {A : ℕ} {file other buffer after lent later : List ℕ} {r s : Solved} (u : SolverPromise A file buffer r after) (v : SolverPromise A other lent s later) where
+  -- the buffers follow from the answer
+  and-bytes : s ≡ r → (s ≡ r) × (after ≡ written r buffer) × (later ≡ written r lent)
+  and-bytes e = (e, u .wrote, v .wrote ∙ ap (λ (x : Solved). written x lent) e)
+
+  answered-alike : SameRoom buffer lent → {cs ds : List Constraint} → judge file ≡ accepted cs → judge other ≡ accepted ds → SameFacts (factsOf cs) (factsOf ds) → vars ds ≡ vars cs → s ≡ r
+  answered-alike room {cs} {ds} e f same n = go (decLe 136 (length buffer))
+    where
+      go : Dec (136 ≤ length buffer) → s ≡ r
+      go (yes l) =
+          let a = u .answers e l in
+          let b = v .answers f (room .0 l) in
+          let d : Demand3 A (vars cs) ds (b .0) = subst (λ (k : ℕ). Demand3 A k ds (b .0)) n (b .2 .demand-3) in
+          b .1 ∙ ap solver-answers (same-answer same (a .2 .demand-3) d) ∙ sym (a .1)
+      go (no l) =
+          let short : ¬ (136 ≤ length lent) = λ m. l (room .1 m) in
+          v .short-buffer f (omega arith) ∙ sym (u .short-buffer e (omega arith))
+
+pub one-refusal : {file other : List ℕ} {q : ℕ} → judge file ≡ refused q → judge other ≡ refused q → OneAnswer file other
+one-refusal e f = record { answers = λ room u v. and-bytes u v (v .refuses f ∙ sym (u .refuses e)) }
+
+pub one-answer : {file other : List ℕ} {cs ds : List Constraint} → judge file ≡ accepted cs → judge other ≡ accepted ds → SameFacts (factsOf cs) (factsOf ds)
+    → vars ds ≡ vars cs → OneAnswer file other
+one-answer e f same n = record { answers = λ room u v. and-bytes u v (answered-alike u v room e f same n) }

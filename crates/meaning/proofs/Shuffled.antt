@@ -4,20 +4,18 @@ use mathlib.Core.Path.{_≡_, refl, sym, ap, _∙_, subst}
 use mathlib.Core.Logic.{_↔_, ⊎-elim}
 use mathlib.Core.List.{List, [], _∷_, _++_, map, List·Memᴰ, List·Memᴰ·head, List·Memᴰ·tail, List·Memᴰ·cases-cons, List·Memᴰ·not-nil}
 use Prim.Native.Nat.{ℕ, suc, _*_, _≤_, _<_}
-use native.Mathlib.Decide.{decLe}
 use native.Mathlib.Omega.{arith}
 use lib.ListN.{length}
 use Rattle.meaning.specs.Tree.{Node, Assignment, Tree}
 use Rattle.meaning.specs.Constraint.{Constraint, Meets, vars}
 use Rattle.meaning.specs.ReadOff.{NodeRecord, treeOf}
-use Rattle.meaning.specs.Demand.{Demand3}
 use Rattle.meaning.specs.Marking.{Mark, met, unmet, kind, further, Marks, all-met, not-met, is-met}
 use Rattle.meaning.specs.Files.{Quad, quads, Whole, quadOf, JudgedRecord, bad, good, judgeRecord, Spells, Judged, refused, accepted, withRest, judgeRecords, judge, JudgedAnswer, refused-answer, accepted-answer, judgeAnswer, assigned}
-use Rattle.meaning.specs.Results.{Solved, solver-answers, Marked, marker-refuses, marker-answers, written}
-use Rattle.meaning.specs.Promises.{SolverPromise, MarkerPromise}
-use Rattle.meaning.specs.Shuffled.{Reordered, AnotherOrder, FirstAt, FirstRefused, SameRoom, SameSolved, MetRecord, UnmetRecord, FirstUnmet, SameMarked}
+use Rattle.meaning.specs.Results.{Marked, marker-refuses, marker-answers}
+use Rattle.meaning.specs.Promises.{MarkerPromise}
+use Rattle.meaning.specs.Shuffled.{Reordered, AnotherOrder, FirstAt, FirstRefused, SameSolved, MetRecord, UnmetRecord, FirstUnmet, SameMarked}
 use Rattle.meaning.proofs.Records.{Askable, kind-first, spells, FileOf, quads-length, accepted-file, file-accepted, long-refused, refused-long, refused-records}
-use Rattle.meaning.proofs.SameAnswer.{SameConstraints, same-vars, same-answer}
+use Rattle.meaning.proofs.SameAnswer.{SameConstraints, same-facts, same-vars, one-answer}
 use Rattle.meaning.proofs.Reordered.{reordered-back, reordered-length, reordered-in, reordered-map}
 
 order-back : {file other : List ℕ} → AnotherOrder file other → AnotherOrder other file
@@ -110,32 +108,11 @@ module _ {file other : List ℕ} (p : AnotherOrder file other) where
 
 -- ---- the solver
 
-module _ {file other : List ℕ} (p : AnotherOrder file other) {cs : List Constraint} (e : judge file ≡ accepted cs) where
-  answered-alike : {A : ℕ} {buffer after lent later : List ℕ} {r s : Solved} → SameRoom buffer lent
-      → SolverPromise A file buffer r after → SolverPromise A other lent s later → s ≡ r
-  answered-alike {A} {buffer} {lent = lent} {r = r} {s = s} room u v = go (decLe 136 (length buffer))
-    where
-      w : Refiled other cs
-      w = refiled p e
-
-      same : SameConstraints cs (w .list)
-      same = same-constraints (w .reordered)
-
-      go : Dec (136 ≤ length buffer) → s ≡ r
-      go (yes l) =
-          let a = u .answers e l in
-          let b = v .answers (w .judged) (room .0 l) in
-          let d : Demand3 A (vars cs) (w .list) (b .0) = subst (λ (n : ℕ). Demand3 A n (w .list) (b .0)) (same-vars same) (b .2 .demand-3) in
-          b .1 ∙ ap solver-answers (same-answer same (a .2 .demand-3) d) ∙ sym (a .1)
-      go (no l) =
-          let short : ¬ (136 ≤ length lent) = λ m. l (room .1 m) in
-          v .short-buffer (w .judged) (omega arith) ∙ sym (u .short-buffer e (omega arith))
-
 pub same-solved : {file other : List ℕ} → AnotherOrder file other → SameSolved file other
 same-solved p = record {
   accepts = λ e. let w = refiled p e in (w .list, w .judged, same-vars (same-constraints (w .reordered)));
   refuses = still-refused p;
-  answers = λ {lent = lent} e room u v. let d = answered-alike p e room u v in (d, u .wrote, v .wrote ∙ ap (λ (x : Solved). written x lent) d);
+  answers = λ e. let w = refiled p e in let c = same-constraints (w .reordered) in one-answer e (w .judged) (same-facts c) (same-vars c);
 }
 
 -- ---- the first unmet record

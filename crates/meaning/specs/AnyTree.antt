@@ -4,7 +4,7 @@ use mathlib.Core.Path.{_≡_}
 use mathlib.Core.Logic.{_≢_, _↔_, _⊎_}
 use mathlib.Core.List.{List, List·Memᴰ}
 use Prim.Native.Nat.{_≤_, _<_}
-use Rattle.meaning.specs.Tree.{Var, Node, Label, Tree, Parent}
+use Rattle.meaning.specs.Tree.{Var, Node, Label, SameLabel, Tree, Parent}
 use Rattle.meaning.specs.Constraint.{Constraint, is-child, is-below, is-strictly-below, is-same, is-differ, is-root, is-leaf, is-label, is-before}
 
 -- u ◁* v: the reflexive and transitive closure of a relation
@@ -58,7 +58,7 @@ MeetsAny T a (is-same x y) = a x ≡ a y
 MeetsAny T a (is-differ x y) = a x ≢ a y
 MeetsAny {N} T a (is-root x) = (u : N) → ¬ T .IsParent u (a x)
 MeetsAny {N} T a (is-leaf x) = (v : N) → ¬ T .IsParent (a x) v
-MeetsAny T a (is-label x l) = T .label (a x) ≡ l
+MeetsAny T a (is-label x l) = SameLabel (T .label (a x)) l
 MeetsAny T a (is-before x y) = PrecedesSibling T (a x) (a y)
 
 -- every constraint is met; every variable is on a node, since N has nothing else

@@ -6,8 +6,8 @@ use mathlib.Core.List.{List, [], _∷_, _++_}
 use Prim.Native.Nat.{ℕ, _≤_}
 use lib.ListN.{length}
 use lib.Dec.{leb}
-use Rattle.meaning.specs.Tree.{Label}
-use Rattle.meaning.specs.Finite.{Yes, _and_}
+use Rattle.meaning.specs.Tree.{Label, isCapital}
+use Rattle.meaning.specs.Finite.{Yes, _and_, _or_}
 use Rattle.meaning.specs.Ascii.{ascii}
 
 -- ---- paths
@@ -15,11 +15,11 @@ use Rattle.meaning.specs.Ascii.{ascii}
 pub data Axis : Type 0 where
   to-self to-child to-parent to-descendant to-ancestor to-descendant-or-self to-ancestor-or-self to-following-sibling to-preceding-sibling : Axis
 
--- a to z
+-- a to z, and A to Z
 unfoldable pub isLetter : ℕ → Bool
-isLetter b = leb 97 b and leb b 122
+isLetter b = isCapital b or (leb 97 b and leb b 122)
 
--- "A test is one letter a to z, whose byte is the label, or `*`"
+-- "A test is one letter a to z, whose byte is the label, or `*`"; "path tests, which now admit A to Z"
 pub data Test : Type 0 where
   letter : (b : Label) → Yes (isLetter b) → Test
   any : Test

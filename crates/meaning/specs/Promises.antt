@@ -9,7 +9,7 @@ use Rattle.meaning.specs.Constraint.{Constraint, MeetsAll, CanBeMet, var
 use Rattle.meaning.specs.ReadOff.{NodeRecord, treeOf}
 use Rattle.meaning.specs.Demand.{Answer, a-tree, Demand3}
 use Rattle.meaning.specs.Marking.{Mark, met, Marks}
-use Rattle.meaning.specs.Files.{refused, accepted, judge, refused-answer, accepted-answer, judgeAnswer, assigned}
+use Rattle.meaning.specs.Files.{NoCapitals, refused, accepted, judge, refused-answer, accepted-answer, judgeAnswer, assigned}
 use Rattle.meaning.specs.Results.{Solved, solver-refuses, solver-answers, Marked, marker-refuses, marker-answers, written, PathsRead, paths-refused, paths-written, pathsWrote}
 use Rattle.meaning.specs.Paths.{Path, OfForm}
 use Rattle.meaning.specs.Selection.{Selects, SomeTreeSelects}
@@ -30,6 +30,8 @@ pub record GoodFile (n : ℕ) (cs : List Constraint) (bs : List ℕ) : Type 0 wh
   pub few : length tree-nodes ≤ n + 2
   pub right : RightMark n cs tree-nodes tree-places met
   pub short : length bs ≤ 136
+  -- "The solver's trees carry the small letter"
+  pub small : NoCapitals bs
 
 pub record Answered (A n : ℕ) (cs : List Constraint) (a : Answer) : Type 0 where
   pub demand-3 : Demand3 A n cs a
@@ -52,6 +54,15 @@ pub record MarkerPromise (file answer : List ℕ) (r : Marked) : Type 0 where
   pub refuses-answer : {cs : List Constraint} {q : ℕ} → judge file ≡ accepted cs → judgeAnswer (vars cs) answer ≡ refused-answer q → r ≡ marker-refuses q
   pub answers : {cs : List Constraint} {vs : List NodeRecord} {ps : List Node} → judge file ≡ accepted cs → judgeAnswer (vars cs) answer ≡ accepted-answer vs ps
       → (m : Mark) × (r ≡ marker-answers m) × RightMark (vars cs) cs vs ps m
+
+-- question 7 passes both buffers, or neither
+abbrev pub SameRoom : List ℕ → List ℕ → Type 0
+SameRoom buffer lent = (136 ≤ length buffer) ↔ (136 ≤ length lent)
+
+-- two files get one answer under one allowance: the same verdict and count, and the same bytes in whatever is lent for each, or the same refusal
+pub record OneAnswer (file other : List ℕ) : Type 0 where
+  pub answers : {A : ℕ} {buffer after lent later : List ℕ} {r s : Solved} → SameRoom buffer lent
+      → SolverPromise A file buffer r after → SolverPromise A other lent s later → (s ≡ r) × (after ≡ written r buffer) × (later ≡ written r lent)
 
 -- the records of some lines are a constraint file of at most 45 records, and "can be met if and only if some tree has a node selected by every
 -- line"; of one tree, these nodes are those where variable 0 can stand

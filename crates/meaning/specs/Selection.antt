@@ -2,7 +2,7 @@
 use mathlib.Core.Path.{_≡_}
 use mathlib.Core.List.{List, List·Memᴰ}
 use Prim.Native.Nat.{_<_}
-use Rattle.meaning.specs.Tree.{Node, Label, Tree, IsTree, Parent, Above, EarlierSibling}
+use Rattle.meaning.specs.Tree.{Node, Label, SameLabel, Tree, IsTree, Parent, Above, EarlierSibling}
 use Rattle.meaning.specs.AnyTree.{Reaches, AnyTree, PrecedesSibling}
 use Rattle.meaning.specs.Paths.{Axis, to-self, to-child, to-parent, to-descendant, to-ancestor, to-descendant-or-self, to-ancestor-or-self, to-following-sibling, to-preceding-sibling, Test, letter, any, Path, alone, from-root, from-here, Steps, one, more, Step, move, having}
 
@@ -26,7 +26,7 @@ Denotes t ⟶ n n′ = EarlierSibling t n n′
 -- (8)
 Denotes t document-root n n′ = n′ ≡ 0
 -- (9)
-Denotes t (tag l) n n′ = (n ≡ n′) × (t .label n ≡ l)
+Denotes t (tag l) n n′ = (n ≡ n′) × SameLabel (t .label n) l
 -- (10) p₁/p₂
 Denotes t (over p₁ p₂) n n′ = (n″ : Node) × (n″ < t .size) × Denotes t p₁ n n″ × Denotes t p₂ n″ n′
 -- (11) p₁[p₂]
@@ -94,7 +94,7 @@ DenotesAny T ↓* n n′ = Reaches (T .IsParent) n n′
 DenotesAny T ⟵ n n′ = PrecedesSibling T n′ n
 DenotesAny T ⟶ n n′ = PrecedesSibling T n n′
 DenotesAny T document-root n n′ = n′ ≡ T .root
-DenotesAny T (tag l) n n′ = (n ≡ n′) × (T .label n ≡ l)
+DenotesAny T (tag l) n n′ = (n ≡ n′) × SameLabel (T .label n) l
 DenotesAny {N} T (over p₁ p₂) n n′ = (n″ : N) × DenotesAny T p₁ n n″ × DenotesAny T p₂ n″ n′
 DenotesAny {N} T (filter p₁ p₂) n n′ = DenotesAny T p₁ n n′ × ((n″ : N) × DenotesAny T p₂ n′ n″)
 

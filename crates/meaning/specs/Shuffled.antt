@@ -13,8 +13,8 @@ use Rattle.meaning.specs.ReadOff.{NodeRecord, treeOf}
 use Rattle.meaning.specs.Demand.{a-none, a-spent}
 use Rattle.meaning.specs.Marking.{met, unmet}
 use Rattle.meaning.specs.Files.{Quad, quad, quads, Whole, bad, judgeQuad, Spells, refused, accepted, judge, accepted-answer, judgeAnswer, assigned}
-use Rattle.meaning.specs.Results.{Solved, solver-answers, Marked, marker-refuses, marker-answers, written}
-use Rattle.meaning.specs.Promises.{SolverPromise, MarkerPromise}
+use Rattle.meaning.specs.Results.{Solved, solver-answers, Marked, marker-refuses, marker-answers}
+use Rattle.meaning.specs.Promises.{SolverPromise, MarkerPromise, SameRoom, OneAnswer}
 
 -- ---- records in another order
 
@@ -43,10 +43,6 @@ pub record FirstAt {A : Type 0} (Otherwise : A → Type 0) (xs : List A) (i : �
 abbrev pub FirstRefused : List Quad → ℕ → Type 0
 FirstRefused qs p = (i : ℕ) × (q : Quad) × FirstAt (λ r. (c : Constraint) × Spells r c) qs i q × (judgeQuad q ≡ bad p)
 
--- question 7 passes both buffers, or neither
-abbrev pub SameRoom : List ℕ → List ℕ → Type 0
-SameRoom buffer lent = (136 ≤ length buffer) ↔ (136 ≤ length lent)
-
 -- "any reordering of an accepted file gets, under the same allowance, the same verdict, count and bytes from the solver"
 pub record SameSolved (file other : List ℕ) : Type 0 where
   -- it is accepted, with the same n
@@ -54,9 +50,7 @@ pub record SameSolved (file other : List ℕ) : Type 0 where
   -- a refused file stays refused; 1 stays 1, and any other number is that of the first bad record in the new order
   pub refuses : {q : ℕ} → judge file ≡ refused q
       → (p : ℕ) × (judge other ≡ refused p) × ((p ≡ 1) ↔ (q ≡ 1)) × (¬ (p ≡ 1) → FirstRefused (quads other) p)
-  -- one answer, of verdict, count and answer file, is written to whatever is lent for each
-  pub answers : {cs : List Constraint} {A : ℕ} {buffer after lent later : List ℕ} {r s : Solved} → judge file ≡ accepted cs → SameRoom buffer lent
-      → SolverPromise A file buffer r after → SolverPromise A other lent s later → (s ≡ r) × (after ≡ written r buffer) × (later ≡ written r lent)
+  pub answers : {cs : List Constraint} → judge file ≡ accepted cs → OneAnswer file other
 
 -- the record's constraint is met, or is not
 abbrev pub MetRecord : Tree → Assignment → Quad → Type 0

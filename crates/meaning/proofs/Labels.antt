@@ -1,0 +1,58 @@
+-- Laws of labels whose capitals count as small letters, and what the label of a given fact is: 1 to 255, and no capital.
+use mathlib.Core.Path.{_≡_, sym, subst, _∙_}
+use mathlib.Core.Logic.{_↔_, ⊎-elim}
+use Prim.Native.Nat.{_+_, _≤_, _<_}
+use native.Mathlib.Omega.{arith}
+use lib.Dec.{leb}
+use Rattle.meaning.specs.Finite.{Yes, _and_}
+use Rattle.meaning.specs.Tree.{Label, isCapital, folded, SameLabel}
+use Rattle.meaning.proofs.Tests.{and-left, and-right, pick-yes, pick-no, pick-either, is-le}
+
+pub capital-range : (l : Label) → Yes (isCapital l) → (65 ≤ l) × (l ≤ 90)
+unfolding isCapital
+capital-range l y = (is-le (and-left (leb l 90) y), is-le (and-right (leb 65 l) y))
+
+pub folded-capital : (l : Label) → Yes (isCapital l) → folded l ≡ l + 32
+unfolding folded
+folded-capital l y = pick-yes _ _ y
+
+pub folded-other : (l : Label) → ¬ Yes (isCapital l) → folded l ≡ l
+unfolding folded
+folded-other l n = pick-no _ _ n
+
+-- what it has of a capital and of any other label
+pub folded-either : (P : Label → Type 0) (l : Label) → (Yes (isCapital l) → P (l + 32)) → (¬ Yes (isCapital l) → P l) → P (folded l)
+unfolding folded
+folded-either P l f g = pick-either P (isCapital l) (l + 32) l f g
+
+pub folded-small : (l : Label) → ¬ Yes (isCapital (folded l))
+folded-small l = folded-either (λ k. ¬ Yes (isCapital k)) l
+    (λ y z. let a = capital-range l y .0 in let b = capital-range (l + 32) z .1 in omega arith)
+    (λ n. n)
+
+pub folded-twice : (l : Label) → folded (folded l) ≡ folded l
+folded-twice l = folded-other (folded l) (folded-small l)
+
+pub folded-least : (l : Label) → l ≤ folded l
+folded-least l = folded-either (λ k. l ≤ k) l (λ y. omega arith) (λ n. omega arith)
+
+pub folded-most : (l : Label) → l ≤ 255 → folded l ≤ 255
+folded-most l h = folded-either (λ k. k ≤ 255) l (λ y. let a = capital-range l y .1 in omega arith) (λ n. h)
+
+pub folded-blank : folded 0 ≡ 0
+folded-blank = folded-other 0 (λ y. let a = capital-range 0 y .0 in omega arith)
+
+-- labels none of which is a capital are compared as they stand
+pub same-label-kept : (l m : Label) → ¬ Yes (isCapital l) → ¬ Yes (isCapital m) → SameLabel l m ↔ (l ≡ m)
+same-label-kept l m a b =
+    let f = folded-other l a in
+    let g = folded-other m b in
+    (λ e. sym f ∙ e ∙ g, λ e. f ∙ e ∙ sym g)
+
+pub record FactLabel (l : Label) : Type 0 where
+  pub some : 1 ≤ l
+  pub byte : l ≤ 255
+  pub small : ¬ Yes (isCapital l)
+
+pub fact-label : (l : Label) → (1 ≤ l) × (l ≤ 255) → FactLabel (folded l)
+fact-label l b = record { some = let a = folded-least l in let c = b .0 in omega arith; byte = folded-most l (b .1); small = folded-small l }
