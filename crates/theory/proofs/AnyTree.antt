@@ -9,7 +9,7 @@ use native.Mathlib.Nat.{le-refl, le-trans, lt-trans, le-of-lt, lt-irrefl, not-su
 use native.Mathlib.Bridge.{le-prop}
 use native.Mathlib.Decide.{decLt, decLe}
 use native.Mathlib.Omega.{arith}
-use Rattle.meaning.specs.Tree.{Var, Node, Label, Assignment, Tree, IsTree, Parent, Above, self, up, EarlierSibling}
+use Rattle.meaning.specs.Tree.{Var, Node, Label, folded, SameLabel, Assignment, Tree, IsTree, Parent, Above, self, up, EarlierSibling}
 use Rattle.meaning.specs.Constraint.{Constraint, is-child, is-below, is-strictly-below, is-same, is-differ, is-root, is-leaf, is-label, is-before, Meets, vars, MeetsAll, ByteLabels}
 use Rattle.meaning.specs.AnyTree.{Reaches, here, down, AnyTree, PrecedesSibling, ByteLabelled, MeetsAny, MeetsAllAny, NoAnyTree, Numbering}
 use Rattle.meaning.specs.FixedSearch.{Outcome, in-none}
@@ -18,6 +18,7 @@ use Rattle.meaning.specs.Files.{accepted, judge}
 use Rattle.meaning.specs.Results.{Solved, solver-answers}
 use Rattle.meaning.specs.Promises.{SolverPromise}
 use Rattle.meaning.proofs.Finite.{split-lt}
+use Rattle.meaning.proofs.Labels.{folded-least, folded-most}
 use Rattle.meaning.proofs.Trees.{root-above, some-node, element-child}
 use Rattle.meaning.proofs.Constraints.{Names, names-below, meets-agree, named-most}
 use Rattle.meaning.proofs.Said.{none-ends, answered}
@@ -78,7 +79,7 @@ module _ {N : Type 0} (T : AnyTree N) (t : Tree) (i : IsTree t) (s : Numbering T
   numbering-meets a (is-differ x y) = (λ h e. h (s .one-to-one _ _ e), λ h e. h (ap (s .number) e))
   numbering-meets a (is-root x) = (λ h k p. let w = parent-numbered p in h (w .0) (w .1), λ h u p. h (s .number u) (s .same-parents u (a x) .0 p))
   numbering-meets a (is-leaf x) = (λ h k p. let w = child-numbered p in h (w .0) (w .1), λ h v p. h (s .number v) (s .same-parents (a x) v .0 p))
-  numbering-meets a (is-label x l) = (λ e. s .same-labels (a x) ∙ e, λ e. sym (s .same-labels (a x)) ∙ e)
+  numbering-meets a (is-label x l) = (λ e. ap folded (s .same-labels (a x)) ∙ e, λ e. sym (ap folded (s .same-labels (a x))) ∙ e)
   numbering-meets a (is-before x y) = (number-sibling T t s, λ h. sibling-numbered h)
 
   pub numbering-meets-all : (n : ℕ) (a : Var → N) (cs : List Constraint) → MeetsAllAny T a cs ↔ MeetsAll n t (λ x. s .number (a x)) cs
@@ -102,6 +103,10 @@ pub byte-stays : (l : Label) (d : Dec (l ≤ 255)) → l ≤ 255 → byte-or-bla
 unfolding byte-or-blank
 byte-stays l (yes h) k = refl
 byte-stays l (no h) k = absurd (h k)
+
+-- a label that equals a byte is one
+pub byte-same : (k : Label) {l : Label} → l ≤ 255 → SameLabel k l → SameLabel (byte-or-blank k (decLe k 255)) l
+byte-same k {l} b e = ap folded (byte-stays k _ (le-trans (folded-least k) (subst (λ (m : Label). m ≤ 255) (sym e) (folded-most l b)))) ∙ e
 
 module _ {N : Type 0} (T : AnyTree N) where
   abbrev pub with-bytes : AnyTree N
@@ -136,7 +141,7 @@ module _ {N : Type 0} (T : AnyTree N) where
   with-bytes-meets a cs b (is-root x) m h = h
   with-bytes-meets a cs b (is-leaf x) m h = h
   with-bytes-meets a cs b (is-before x y) m h = record { above = h .above; parent-u = h .parent-u; parent-v = h .parent-v; first = h .first }
-  with-bytes-meets a cs b (is-label x l) m h = byte-stays _ _ (subst (λ (k : Label). k ≤ 255) (sym h) (b x l m .1)) ∙ h
+  with-bytes-meets a cs b (is-label x l) m h = byte-same (T .label (a x)) (b x l m .1) h
 
   -- where a tree of the paper meets constraints whose labels are bytes, so does one of docs/FORMAT.md
   pub any-tree-meets : (n : ℕ) (a : Var → N) (cs : List Constraint) → ByteLabels cs → MeetsAllAny T a cs → (t : Tree) × IsTree t × ((b : Assignment) × MeetsAll n t b cs)

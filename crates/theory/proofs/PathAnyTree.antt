@@ -5,7 +5,7 @@ use mathlib.Core.Logic.{_↔_}
 use mathlib.Core.List.{List}
 use Prim.Native.Nat.{_≤_}
 use native.Mathlib.Omega.{arith}
-use Rattle.meaning.specs.Tree.{Node, Label, Tree, IsTree}
+use Rattle.meaning.specs.Tree.{Node, Label, folded, Tree, IsTree}
 use Rattle.meaning.specs.Constraint.{CanBeMet, vars}
 use Rattle.meaning.specs.AnyTree.{AnyTree, Numbering}
 use Rattle.meaning.specs.Paths.{Axis, to-self, to-child, to-parent, to-descendant, to-ancestor, to-descendant-or-self, to-ancestor-or-self, to-following-sibling, to-preceding-sibling, Test, letter, any, Path, alone, from-root, from-here, Steps, one, more, Step, move, having}
@@ -13,7 +13,7 @@ use Rattle.meaning.specs.Selection.{Expr, ε, ↑, ↓, ↑*, ↓*, ⟵, ⟶, d
 use Rattle.meaning.specs.PathRecords.{recordsOf}
 use Rattle.meaning.proofs.Trees.{no-parent}
 use Rattle.theory.proofs.Numbering.{numbered}
-use Rattle.theory.proofs.AnyTree.{number-reaches, number-sibling, parent-numbered, above-numbered, sibling-numbered, byte-stays, with-bytes, with-bytes-small, NodeOf, any-tree, any-tree-numbering}
+use Rattle.theory.proofs.AnyTree.{number-reaches, number-sibling, parent-numbered, above-numbered, sibling-numbered, byte-same, with-bytes, with-bytes-small, NodeOf, any-tree, any-tree-numbering}
 use Rattle.meaning.proofs.PathSheets.{letter-range}
 use Rattle.meaning.proofs.PathMeaning.{met-if-selected, selected-if-met}
 
@@ -33,7 +33,7 @@ module _ {N : Type 0} (T : AnyTree N) (t : Tree) (i : IsTree t) (s : Numbering T
   denotes-number ⟵ u v d = number-sibling T t s d
   denotes-number ⟶ u v d = number-sibling T t s d
   denotes-number document-root u v d = ap (s .number) d ∙ root-first
-  denotes-number (tag l) u v d = (ap (s .number) (d .0), s .same-labels u ∙ d .1)
+  denotes-number (tag l) u v d = (ap (s .number) (d .0), ap folded (s .same-labels u) ∙ d .1)
   denotes-number (over p q) u v d = (s .number (d .0), s .inside (d .0), denotes-number p u (d .0) (d .1), denotes-number q (d .0) v (d .2))
   denotes-number (filter p q) u v d = (denotes-number p u v (d .0), (s .number (d .1 .0), s .inside (d .1 .0), denotes-number q v (d .1 .0) (d .1 .1)))
 
@@ -46,7 +46,7 @@ module _ {N : Type 0} (T : AnyTree N) (t : Tree) (i : IsTree t) (s : Numbering T
   number-denotes ⟵ u v d = sibling-numbered T t i s d
   number-denotes ⟶ u v d = sibling-numbered T t i s d
   number-denotes document-root u v d = first-root v d
-  number-denotes (tag l) u v d = (s .one-to-one u v (d .0), sym (s .same-labels u) ∙ d .1)
+  number-denotes (tag l) u v d = (s .one-to-one u v (d .0), sym (ap folded (s .same-labels u)) ∙ d .1)
   number-denotes (over p q) u v d =
       let w = s .onto (d .0) (d .1) in (
         w .0,
@@ -115,7 +115,7 @@ denotes-bytes T ↓* b u v d = d
 denotes-bytes T ⟵ b u v d = record { above = d .above; parent-u = d .parent-u; parent-v = d .parent-v; first = d .first }
 denotes-bytes T ⟶ b u v d = record { above = d .above; parent-u = d .parent-u; parent-v = d .parent-v; first = d .first }
 denotes-bytes T document-root b u v d = d
-denotes-bytes T (tag l) b u v d = (d .0, byte-stays _ _ (subst (λ (k : Label). k ≤ 255) (sym (d .1)) b) ∙ d .1)
+denotes-bytes T (tag l) b u v d = (d .0, byte-same (T .label u) b (d .1))
 denotes-bytes T (over p q) b u v d = (d .0, denotes-bytes T p (b .0) u (d .0) (d .1), denotes-bytes T q (b .1) (d .0) v (d .2))
 denotes-bytes T (filter p q) b u v d = (denotes-bytes T p (b .0) u v (d .0), (d .1 .0, denotes-bytes T q (b .1) v (d .1 .0) (d .1 .1)))
 

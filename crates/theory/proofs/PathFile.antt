@@ -36,7 +36,7 @@ records-lettered ps c m = lines-grown ps blankSheet blank-fine .fine .lettered c
 
 records-askable : (ps : List Path) → variablesOf ps ≤ 16 → (c : Constraint) → List·Memᴰ c (recordsOf ps) → Askable c
 records-askable ps h c m =
-    record { few = records-low ps h c m; labelled = on-label-of c (λ (l : Label) (r : (97 ≤ l) × (l ≤ 122)). let k = r .0 in omega arith) (records-lettered ps c m) }
+    record { few = records-low ps h c m; labelled = on-label-of c (λ (l : Label) (r : (65 ≤ l) × (l ≤ 122)). let k = r .0 in omega arith) (records-lettered ps c m) }
 
 -- questions 1 to 6 let the bytes in, with the records as constraints; their n is the number of variables (PathCounts: variables-are)
 pub bytes-accepted : (ps : List Path) → length ps ≤ 8 → variablesOf ps ≤ 16 → judge (fileBytes (recordsOf ps)) ≡ accepted (recordsOf ps)

@@ -56,7 +56,7 @@ testText t = testByte t ∷ []
 
 test-by : (bs : List ℕ) (v : Bool) (e : isLetter (byte bs) ≡ v) → Reads testText bs (testBy (byte bs) v e (drop 1 bs))
 unfolding testBy testByte
-test-by bs true e = let h : 97 ≤ byte bs = letter-range (byte bs) e .0 in first bs (byte bs) (omega arith) refl
+test-by bs true e = let h = letter-range (byte bs) e .0 in first bs (byte bs) (omega arith) refl
 test-by bs false e = pick-has (Reads testText bs) _ _ _ (λ y. let h : byte bs ≡ 42 = is-eq y in first bs 42 (omega arith) h) tt
 
 test-reads : (bs : List ℕ) → Reads testText bs (testAt bs)

@@ -9,7 +9,8 @@ use native.Mathlib.Nat.{not-suc-le-zero, le-of-suc-le-suc}
 use native.Mathlib.Omega.{arith}
 use lib.ListN.{length, drop, length-append}
 use lib.Dec.{eqb}
-use Rattle.meaning.specs.Finite.{Yes, pick, _and_}
+use Rattle.meaning.specs.Tree.{isCapital}
+use Rattle.meaning.specs.Finite.{Yes, pick, _and_, _or_}
 use Rattle.meaning.specs.Ascii.{ascii}
 use Rattle.meaning.specs.Paths.{Axis, to-self, to-child, to-parent, to-descendant, to-ancestor, to-descendant-or-self, to-ancestor-or-self, to-following-sibling, to-preceding-sibling, isLetter, Test, letter, any, Path, alone, from-root, from-here, Steps, one, more, Step, move, having, axisText, testByte, pathText, stepsText, stepText, linesText, OfForm}
 use Rattle.theory.specs.PathReader.{Got, nothing, got, andThen, byte, front, afterName, axisAt, testBy, testAt, moveAt, pathAt, stepsAt, stepAt, bracketsAt, fuel, linesAt}
@@ -38,7 +39,7 @@ testBy-letter b false e l r = absurd (false≢true (sym e ∙ l))
 test-read : (t : Test) (r : List ℕ) → testAt (testByte t ∷ r) ≡ got t r
 unfolding testAt testByte
 test-read (letter b l) r = testBy-letter b (isLetter b) refl l r
-test-read any r = unfold testBy isLetter pick _and_ in refl
+test-read any r = unfold testBy isLetter isCapital pick _and_ _or_ in refl
 
 move-read : (a : Axis) (t : Test) (r : List ℕ) → moveAt (axisText a ++ 58 ∷ 58 ∷ testByte t ∷ r) ≡ got (move a t) r
 unfolding moveAt
@@ -50,7 +51,7 @@ move-read a t r =
 -- ---- steps begin with a letter
 
 axis-first : (a : Axis) (r : List ℕ) → Yes (isLetter (byte (axisText a ++ r)))
-unfolding axisText ascii isLetter _and_
+unfolding axisText ascii isLetter isCapital _and_ _or_
 axis-first to-self r = refl
 axis-first to-child r = refl
 axis-first to-parent r = refl
@@ -99,15 +100,13 @@ not-open : (r : List ℕ) → Stops r → ¬ Yes (eqb (byte r) 91)
 not-open r = not-byte r 91 (λ e. omega arith) (λ e. omega arith)
 
 not-letter : (r : List ℕ) → Stops r → ¬ Yes (isLetter (byte r))
-not-letter r h y = let l = letter-range (byte r) y in go h
-  where
-    go : Stops r → ⊥
-    go (inl e) = let l = letter-range (byte r) y in let k : 97 ≤ byte r = l .0 in omega arith
-    go (inr e) = let l = letter-range (byte r) y in let k : 97 ≤ byte r = l .0 in omega arith
+unfolding isLetter isCapital _and_ _or_
+not-letter r (inl e) y = false≢true (subst (λ (b : ℕ). Yes (isLetter b)) e y)
+not-letter r (inr e) y = false≢true (subst (λ (b : ℕ). Yes (isLetter b)) e y)
 
 -- a letter is not /
 letter-not : (b : ℕ) → Yes (isLetter b) → ¬ Yes (eqb b 47)
-letter-not b l y = let h : 97 ≤ b = letter-range b l .0 in let e : b ≡ 47 = is-eq y in omega arith
+letter-not b l y = let h = letter-range b l .0 in let e : b ≡ 47 = is-eq y in omega arith
 
 -- no bracket follows
 brackets-none : (s : Step) (r : List ℕ) → ¬ Yes (eqb (byte r) 91) → (k : ℕ) → 4 * length r < k → bracketsAt k s r ≡ got s r

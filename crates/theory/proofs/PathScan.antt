@@ -1,17 +1,17 @@
 -- Looking ahead over the brackets of a step finds whether the reader goes on with another step after it. It counts brackets alone: the text of a
 -- path in brackets opens as many as it closes, and neither names nor tests hold one.
 use mathlib.Core.Path.{_≡_, refl, ap, _∙_, subst}
-use mathlib.Core.Bool.{Bool, true}
+use mathlib.Core.Bool.{Bool, true, false≢true}
 use mathlib.Core.List.{List, [], _∷_, _++_}
 use Prim.Native.Nat.{ℕ, zero, suc, _≤_}
 use native.Mathlib.Omega.{arith}
 use lib.ListN.{drop}
 use lib.Dec.{eqb}
-use Rattle.meaning.specs.Finite.{Yes, pick, _and_, neg}
+use Rattle.meaning.specs.Tree.{isCapital}
+use Rattle.meaning.specs.Finite.{Yes, pick, _and_, _or_, neg}
 use Rattle.meaning.specs.Ascii.{ascii}
-use Rattle.meaning.specs.Paths.{Axis, to-self, to-child, to-parent, to-descendant, to-ancestor, to-descendant-or-self, to-ancestor-or-self, to-following-sibling, to-preceding-sibling, Test, letter, any, Path, alone, from-root, from-here, Steps, one, more, Step, move, having, axisText, testByte, pathText, stepsText, stepText}
+use Rattle.meaning.specs.Paths.{Axis, to-self, to-child, to-parent, to-descendant, to-ancestor, to-descendant-or-self, to-ancestor-or-self, to-following-sibling, to-preceding-sibling, isLetter, Test, letter, any, Path, alone, from-root, from-here, Steps, one, more, Step, move, having, axisText, testByte, pathText, stepsText, stepText}
 use Rattle.theory.specs.PathReader.{Got, nothing, got, andThen, byte, pathAt, bracketsAt, goesOn}
-use Rattle.meaning.proofs.PathSheets.{letter-range}
 use Rattle.theory.proofs.PathReader.{move-text, having-text, more-text}
 use Rattle.theory.proofs.PathForm.{Reads, first, path-reads}
 use Rattle.meaning.proofs.Tests.{clash, and-left, and-right, and-both, no-neg, pick-no, pick-either, pick-has, is-eq, eq-yes}
@@ -63,11 +63,13 @@ axis-plain to-ancestor-or-self = refl
 axis-plain to-following-sibling = refl
 axis-plain to-preceding-sibling = refl
 
+letter-as : (b c : ℕ) → Yes (isLetter b) → Yes (eqb b c) → Yes (isLetter c)
+letter-as b c l y = subst (λ (k : ℕ). Yes (isLetter k)) (is-eq y) l
+
 test-plain : (t : Test) → Yes (noBracket (58 ∷ 58 ∷ testByte t ∷ []))
-unfolding testByte neg _and_
+unfolding testByte neg _and_ isLetter isCapital _or_
 test-plain (letter b l) =
-    let large : 97 ≤ b = letter-range b l .0 in
-    and-both (no-neg (λ y. let e : b ≡ 91 = is-eq y in omega (arith, large))) (and-both (no-neg (λ y. let e : b ≡ 93 = is-eq y in omega (arith, large))) refl)
+    and-both (no-neg (λ y. false≢true (letter-as b 91 l y))) (and-both (no-neg (λ y. false≢true (letter-as b 93 l y))) refl)
 test-plain any = refl
 
 slash-plain : Yes (noBracket (47 ∷ []))

@@ -128,6 +128,14 @@ P14 = reads "following-sibling::a/preceding-sibling::b\n" (four 9 1 2 0 ++ four 
 abbrev pub P15 : Row
 P15 = reads "/child::a[preceding-sibling::*][following-sibling::*]\n" (four 6 1 0 0 ++ four 1 1 0 0 ++ four 8 0 0 97 ++ four 9 2 0 0 ++ four 9 0 3 0)
 
+-- same(1,0) label(0,A): the byte that stands in the text
+abbrev pub P16 : Row
+P16 = reads "self::A\n" (four 4 1 0 0 ++ four 8 0 0 65)
+
+-- child(1,2) label(2,Z), same(2,0) label(0,z)
+abbrev pub P17 : Row
+P17 = reads "child::Z/self::z\n" (four 1 1 2 0 ++ four 8 2 0 90 ++ four 4 2 0 0 ++ four 8 0 0 122)
+
 unfoldable pub table : List Row
 table =
     P1
@@ -145,11 +153,18 @@ table =
     ∷ P13
     ∷ P14
     ∷ P15
+    ∷ P16
+    ∷ P17
     ∷ refuses "/\n/\n/\n/\n/\n/\n/\n/\n/\n" 13
     ∷ refuses "" 13
     ∷ refuses "child::a" 13
     ∷ refuses "child:a\n" 13
-    ∷ refuses "child::A\n" 13
+    ∷ refuses "child::@\n" 13
+    ∷ refuses "child::[\n" 13
+    ∷ refuses "child::`\n" 13
+    ∷ refuses "child::{\n" 13
+    ∷ refuses "CHILD::a\n" 13
+    ∷ refuses "/A\n" 13
     ∷ refuses "following::a\n" 13
     ∷ refuses "preceding-siblings::a\n" 13
     ∷ refuses "child::a/\n" 13
