@@ -12,7 +12,7 @@ use lib.ListN.{set, length, length-set}
 use lib.Seq.{getD-set-same, getD-set-other}
 use lib.Bits.{bitOr, bitAnd, bitXor, and-le-l, or-lt}
 use Rattle.meaning.specs.Finite.{Yes}
-use Rattle.meaning.proofs.Tests.{yes-case, clash, is-eq, eq-yes, pick-yes, pick-no}
+use Rattle.meaning.proofs.Tests.{yes-case, clash, is-eq, eq-yes, pick-yes, pick-no, not-yes}
 use Rattle.rowbits.specs.Bit.{bit}
 use Rattle.tables.specs.Tables.{row}
 use Rattle.tables.specs.Rows.{without, Lowest, LabelOf, Raised, Union}
@@ -20,7 +20,7 @@ use Rattle.tables.proofs.Bits.{none-in, or-case, or-l, or-r, one-is, one-has, o
 use Rattle.tables.proofs.Members.{Passed, passed-none, next-in, next-named, passed-more, passed-all, lowest-in}
 use Rattle.tables.proofs.Rises.{Rises, rises, raised-out, raised-keeps, raised-has}
 use Rattle.merge.specs.Rows.{Chained, Alike, WithGap, TwoLabels, Painted, Spread, Kin, own, to-later, to-earlier, Family}
-use Rattle.tables.proofs.Tested.{and-yes, yes-and, not-eq, eq-not, not-yes}
+use Rattle.tables.proofs.Tested.{and-yes, yes-and, not-eq, eq-not}
 
 -- ---- whether one of them lacks one
 

@@ -13,7 +13,7 @@ use lib.Count.{ones, ones-step, ones-cat}
 use lib.Dec.{eqb}
 use lib.Pow.{pow-mono, pow-pos, shr-lt, split}
 use Rattle.meaning.specs.Finite.{Yes, _and_, neg, pick, anyb, one, sum, picked}
-use Rattle.meaning.proofs.Tests.{clash, yes-eq, no-neg, is-eq, eq-yes, self-eq, and-left, and-right, and-both}
+use Rattle.meaning.proofs.Tests.{clash, yes-eq, no-neg, is-eq, eq-yes, self-eq, and-left, and-right, and-both, not-yes, yes-not}
 use Rattle.meaning.proofs.Finite.{any-intro, any-elim}
 use Rattle.rowbits.specs.Bit.{bit, withBit}
 use Rattle.rowbits.proofs.Laws.{bit-and, bit-with, bit-none, with-lt}
@@ -23,13 +23,6 @@ use Rattle.tables.proofs.Helpers.{and-is}
 use Rattle.readoff.specs.Rows.{Gathered}
 
 -- ---- tests
-
-pub not-yes : {b : Bool} → b ≡ false → ¬ Yes b
-not-yes e t = false≢true (sym e ∙ t)
-
-pub yes-not : {b : Bool} → ¬ Yes b → b ≡ false
-yes-not {b = true} f = absurd (f refl)
-yes-not {b = false} f = refl
 
 pub and-true : (a : Bool) → (a and true) ≡ a
 unfolding _and_

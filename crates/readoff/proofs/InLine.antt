@@ -7,7 +7,7 @@ use native.Mathlib.Omega.{arith}
 use lib.Bits.{bitAnd, and-le-l}
 use lib.ListN.{length}
 use Rattle.meaning.specs.Finite.{Yes, _and_, neg, arranged, picked}
-use Rattle.meaning.proofs.Tests.{is-eq}
+use Rattle.meaning.proofs.Tests.{is-eq, yes-not}
 use Rattle.meaning.proofs.Lists.{picked-in, picked-out, picked-none}
 use Rattle.meaning.proofs.Arranged.{arranged-out, length-arranged, arranged-next, some-free}
 use Rattle.rowbits.specs.Bit.{bit}
@@ -17,7 +17,7 @@ use Rattle.tables.specs.Rows.{Lowest, without}
 use Rattle.tables.proofs.Bits.{in-both, both-in, none-in, some-in, in-row, one-has}
 use Rattle.tables.proofs.Members.{Passed}
 use Rattle.readoff.specs.Listing.{precedes, Strict, Earliest, inLine}
-use Rattle.readoff.proofs.Bits.{yes-not, and-true, bit-without, picked-apart}
+use Rattle.readoff.proofs.Bits.{and-true, bit-without, picked-apart}
 
 module _ (after : List ℕ) (r : ℕ) where
   pub length-in-line : length (inLine after r) ≡ length (picked 16 (bit r))

@@ -16,7 +16,7 @@ use lib.Seq.{getD-set-same, getD-set-other}
 use Rattle.meaning.specs.Constraint.{before}
 use Rattle.meaning.specs.Finite.{_and_, arranged, picked}
 use Rattle.meaning.specs.ReadOff.{lowest, depth, layer, layers, order}
-use Rattle.meaning.proofs.Tests.{eq-yes, is-eq}
+use Rattle.meaning.proofs.Tests.{eq-yes, is-eq, yes-not}
 use Rattle.meaning.proofs.Nodes.{length-picked}
 use Rattle.rowbits.specs.Bit.{bit}
 use Rattle.tables.specs.declared.Facts.{Facts}
@@ -25,7 +25,7 @@ use Rattle.tables.proofs.Helpers.{gain-off}
 use Rattle.tables.specs.Tables.{row, has, Columns}
 use Rattle.readoff.specs.Rows.{Gathered, overRow, isLowest, deep, inLayer}
 use Rattle.readoff.specs.Listing.{inLine, listed}
-use Rattle.readoff.proofs.Bits.{yes-not, and-true, and-false, picked-eq, counted, gather-none, gather-more, gathered-picked}
+use Rattle.readoff.proofs.Bits.{and-true, and-false, picked-eq, counted, gather-none, gather-more, gathered-picked}
 use Rattle.readoff.proofs.InLine.{length-in-line}
 use Rattle.readoff.proofs.Preceding.{SayBefore}
 use Rattle.readoff.proofs.Meaning.{lows-is, depth-is}

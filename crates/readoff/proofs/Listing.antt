@@ -13,7 +13,7 @@ use lib.Dec.{eqb}
 use lib.ListN.{length, getD, take, drop, set, length-append, length-map, length-set, drop-of-length-le}
 use lib.Seq.{drop-cons, drop-nil, take-suc-set, length-take-le, getD-take, getD-set-same, getD-set-other}
 use Rattle.meaning.specs.Finite.{Yes, pick, position}
-use Rattle.meaning.proofs.Tests.{pick-yes, pick-no, is-eq, eq-yes}
+use Rattle.meaning.proofs.Tests.{pick-yes, pick-no, is-eq, eq-yes, not-yes, yes-not}
 use Rattle.meaning.proofs.Lists.{getD-mem}
 use Rattle.rowbits.specs.Bit.{bit}
 use Rattle.tables.specs.Tables.{row}
@@ -22,7 +22,6 @@ use Rattle.readoff.specs.declared.Order.{Order}
 use Rattle.tables.specs.Rows.{without, Lowest}
 use Rattle.tables.proofs.Bits.{without-less}
 use Rattle.readoff.specs.Listing.{groups, Small, Earliest, inLine, listed, Listed, Placed, Led}
-use Rattle.readoff.proofs.Bits.{not-yes, yes-not}
 use Rattle.readoff.proofs.InLine.{earliest-in, in-line-small, in-line-none, in-line-next}
 
 -- ---- the place of the first that passes a test

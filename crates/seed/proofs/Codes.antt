@@ -1,9 +1,10 @@
 -- A constraint as the numbers of its record, and which constraints give a fact.
-use mathlib.Core.Path.{_≡_, refl, sym}
+use mathlib.Core.Path.{_≡_, refl, sym, subst}
 use mathlib.Core.Logic.{_⊎_, inl, inr, ⊎-elim}
 use mathlib.Core.List.{List, _∷_, List·Memᴰ, List·Memᴰ·head, List·Memᴰ·tail}
 use Prim.Native.Nat.{ℕ, _<_}
 use native.Mathlib.Omega.{arith}
+use Rattle.meaning.specs.Tree.{Var, Label, folded}
 use Rattle.meaning.specs.Constraint.{Constraint, is-child, is-below, is-strictly-below, is-same, is-differ, is-root, is-leaf, is-label, is-before, named, Fact, child, below, differ, before, root, leaf, label, facts, factsOf}
 use Rattle.meaning.specs.Marking.{kind}
 use Rattle.meaning.specs.Files.{quadOf}
@@ -33,6 +34,10 @@ variables-named c = let e = named-record c in (omega arith, omega arith)
 -- ---- a fact's constraints
 
 module _ (cs : List Constraint) where
+  -- a label that is l where labels are compared
+  abbrev pub Labelled : Var → Label → Type 0
+  Labelled x l = (k : Label) × List·Memᴰ (is-label x k) cs × (folded k ≡ l)
+
   abbrev pub Source : Fact → Type 0
   Source (child x y) = List·Memᴰ (is-child x y) cs
   Source (below x y) = List·Memᴰ (is-below x y) cs ⊎ (List·Memᴰ (is-strictly-below x y) cs ⊎ (List·Memᴰ (is-same x y) cs ⊎ List·Memᴰ (is-same y x) cs))
@@ -40,7 +45,7 @@ module _ (cs : List Constraint) where
   Source (before x y) = List·Memᴰ (is-before x y) cs
   Source (root x) = List·Memᴰ (is-root x) cs
   Source (leaf x) = List·Memᴰ (is-leaf x) cs
-  Source (label x l) = List·Memᴰ (is-label x l) cs
+  Source (label x l) = Labelled x l
 
   one-source : (c : Constraint) → List·Memᴰ c cs → (φ : Fact) → List·Memᴰ φ (facts c) → Source φ
   one-source (is-child x y) k φ m = in-one Source k m
@@ -50,7 +55,7 @@ module _ (cs : List Constraint) where
   one-source (is-differ x y) k φ m = in-one Source (inr k) m
   one-source (is-root x) k φ m = in-one Source k m
   one-source (is-leaf x) k φ m = in-one Source k m
-  one-source (is-label x l) k φ m = in-one Source k m
+  one-source (is-label x l) k φ m = in-one Source (l, k, refl) m
   one-source (is-before x y) k φ m = in-one Source k m
 
   pub source : (φ : Fact) → List·Memᴰ φ (factsOf cs) → Source φ
@@ -69,4 +74,4 @@ module _ (cs : List Constraint) where
   sourced (before x y) m = first refl m
   sourced (root x) m = first refl m
   sourced (leaf x) m = first refl m
-  sourced (label x l) m = first refl m
+  sourced (label x l) m = subst (λ (k : Label). List·Memᴰ (label x k) (factsOf cs)) (m .2) (first refl (m .1))

@@ -1,27 +1,30 @@
 -- The records so far, gathered by kind as rows and as columns, and their labels: a bit or a label stands for a constraint of the file, and
--- each constraint is still to come or stands there. Where a label stands and another one is given, the file gives two.
+-- each constraint is still to come or stands there, a label with its capital made small. Where a label stands and another one is given, the file
+-- gives two.
 use mathlib.Core.Path.{_≡_, refl, sym, ap, _∙_, subst}
 use mathlib.Core.Logic.{_≢_, _⊎_, inl, inr, ⊎-elim}
 use mathlib.Core.Bool.{Bool, true, false}
 use mathlib.Core.List.{List, _∷_, List·Memᴰ, List·Memᴰ·head, List·Memᴰ·cases-cons, Memᴰ·append-right}
 use Prim.Native.Nat.{ℕ, _+_, _*_, _^_, _<_}
 use native.Mathlib.Decide.{ℕ-discrete}
+use native.Mathlib.Omega.{arith}
 use lib.Dec.{eqb}
 use lib.Bits.{bitOr}
 use lib.ListN.{length, set, drop, replicate, length-set, length-replicate, take-append-drop, take}
 use lib.Seq.{getD-set-same, getD-set-other}
 use Rattle.rowbits.specs.Bit.{bit}
+use Rattle.meaning.specs.Tree.{folded}
 use Rattle.meaning.specs.Constraint.{Constraint, is-label, label, factsOf}
 use Rattle.meaning.specs.Marking.{kind}
 use Rattle.meaning.specs.Finite.{Yes, neg, pick}
-use Rattle.meaning.proofs.Tests.{clash, and-left, and-right, and-both, no-neg, is-eq, eq-yes, yes-case, pick-yes, pick-no}
+use Rattle.meaning.proofs.Labels.{folded-least}
+use Rattle.meaning.proofs.Tests.{clash, and-left, and-right, and-both, no-neg, is-eq, eq-yes, yes-case, pick-yes, pick-no, not-yes}
 use Rattle.tables.specs.Tables.{row}
 use Rattle.tables.proofs.Bits.{or-case, or-l, or-r, one-is, one-has, none-in}
-use Rattle.tables.proofs.Tested.{not-yes}
 use Rattle.tables.proofs.Loops.{zeros}
 use Rattle.seed.specs.Seeds.{labelled, secondLabel, GivesTwoLabels}
 use Rattle.seed.proofs.Bytes.{GoodBytes}
-use Rattle.seed.proofs.Codes.{left, name, sourced}
+use Rattle.seed.proofs.Codes.{left, name, Labelled, sourced}
 
 -- ---- a bit more
 
@@ -62,8 +65,8 @@ pub record Gathered (cs : List Constraint) (i : ℕ) (p q : Constraint → ℕ) 
 
 pub record Labels (cs : List Constraint) (i : ℕ) (t : List ℕ) : Type 0 where
   pub long : length t ≡ 16
-  pub from : (u m : ℕ) → row t u ≡ m → m ≢ 0 → List·Memᴰ (is-label u m) cs
-  pub to : (u m : ℕ) → List·Memᴰ (is-label u m) cs → List·Memᴰ (is-label u m) (drop i cs) ⊎ ((row t u ≡ m) × (m ≢ 0))
+  pub from : (u m : ℕ) → row t u ≡ m → m ≢ 0 → Labelled cs u m
+  pub to : (u l : ℕ) → List·Memᴰ (is-label u l) cs → List·Memᴰ (is-label u l) (drop i cs) ⊎ ((row t u ≡ folded l) × (folded l ≢ 0))
 
 pub gathered-none : (cs : List Constraint) (p q : Constraint → ℕ) → Gathered cs 0 p q (replicate 256 0)
 gathered-none cs p q = record { long = length-replicate {A = ℕ} 256 0; from = λ u v b. none-in v (rw (zeros 256 u) at b); to = λ c m. inl m }
@@ -105,15 +108,15 @@ module _ (cs : List Constraint) (i : ℕ) (d : Constraint) (at : drop i cs ≡ d
 
   module _ (k x y l : ℕ) (w : GoodBytes k x y l d) (h : x < 16) (t : List ℕ) (s : Labels cs i t) where
     abbrev now : List ℕ
-    now = set t x (labelled (eqb k 8) (row t x) l)
+    now = set t x (labelled (eqb k 8) (row t x) (folded l))
 
-    stored : row now x ≡ labelled (eqb k 8) (row t x) l
+    stored : row now x ≡ labelled (eqb k 8) (row t x) (folded l)
     stored = getD-set-same t x _ 0 (rw (s .long) h)
 
     label-here : Yes (eqb k 8) → List·Memᴰ (is-label x l) cs
     label-here q = subst (λ (b : Constraint). List·Memᴰ b cs) (w .named-label (is-eq q) .0) here-in
 
-    stored-new : Yes (eqb k 8) → row now x ≡ l
+    stored-new : Yes (eqb k 8) → row now x ≡ folded l
     unfolding labelled
     stored-new q = stored ∙ pick-yes _ _ q
 
@@ -121,46 +124,46 @@ module _ (cs : List Constraint) (i : ℕ) (d : Constraint) (at : drop i cs ≡ d
     unfolding labelled
     stored-old z = stored ∙ pick-no _ _ (λ q. clash q z)
 
-    from-more : (u m : ℕ) → row now u ≡ m → m ≢ 0 → List·Memᴰ (is-label u m) cs
+    from-more : (u m : ℕ) → row now u ≡ m → m ≢ 0 → Labelled cs u m
     from-more u m e z = go (ℕ-discrete u x) (yes-case (eqb k 8))
       where
-        go : Dec (u ≡ x) → Yes (eqb k 8) ⊎ Yes (neg (eqb k 8)) → List·Memᴰ (is-label u m) cs
+        go : Dec (u ≡ x) → Yes (eqb k 8) ⊎ Yes (neg (eqb k 8)) → Labelled cs u m
         go (no n) b = s .from u m (sym (getD-set-other t x u _ 0 n) ∙ e) z
-        go (yes a) (inl q) = rw (a, sym (sym (stored-new q) ∙ ap (row now) (sym a) ∙ e)) (label-here q)
+        go (yes a) (inl q) = (l, rw a (label-here q), sym (stored-new q) ∙ ap (row now) (sym a) ∙ e)
         go (yes a) (inr v) = s .from u m (ap (row t) a ∙ sym (stored-old v) ∙ ap (row now) (sym a) ∙ e) z
 
-    module _ (free : secondLabel (row t x) (labelled (eqb k 8) (row t x) l) ≡ false) where
+    module _ (free : secondLabel (row t x) (labelled (eqb k 8) (row t x) (folded l)) ≡ false) where
       kept : (u m : ℕ) → row t u ≡ m → m ≢ 0 → row now u ≡ m
-      kept u m e z = go (ℕ-discrete u x) (yes-case (eqb k 8)) (ℕ-discrete (row t x) l)
+      kept u m e z = go (ℕ-discrete u x) (yes-case (eqb k 8)) (ℕ-discrete (row t x) (folded l))
         where
-          go : Dec (u ≡ x) → Yes (eqb k 8) ⊎ Yes (neg (eqb k 8)) → Dec (row t x ≡ l) → row now u ≡ m
+          go : Dec (u ≡ x) → Yes (eqb k 8) ⊎ Yes (neg (eqb k 8)) → Dec (row t x ≡ folded l) → row now u ≡ m
           go (no n) b f = getD-set-other t x u _ 0 n ∙ e
           go (yes a) (inl q) (yes f) = ap (row now) a ∙ stored-new q ∙ sym f ∙ ap (row t) (sym a) ∙ e
           go (yes a) (inl q) (no f) = absurd (not-yes free (is-second q (λ v. z (sym e ∙ ap (row t) a ∙ v)) f))
           go (yes a) (inr v) f = ap (row now) a ∙ stored-old v ∙ ap (row t) (sym a) ∙ e
 
-      this : (u m : ℕ) → is-label u m ≡ d → (row now u ≡ m) × (m ≢ 0)
+      this : (u m : ℕ) → is-label u m ≡ d → (row now u ≡ folded m) × (folded m ≢ 0)
       unfolding kind
       this u m e =
           let eight : k ≡ 8 = sym (w .is-number) ∙ ap kind (sym e) in
           let g = w .named-label eight in
           let a : u ≡ x = ap left (e ∙ g .0) in
           let b : m ≡ l = ap name (e ∙ g .0) in
-          (ap (row now) a ∙ stored-new (eq-yes eight) ∙ sym b, λ z. g .1 (sym b ∙ z))
+          (ap (row now) a ∙ stored-new (eq-yes eight) ∙ ap folded (sym b), λ z. g .1 (let r = folded-least m in omega (arith, z, b, r)))
 
       pub labels-more : Labels cs (i + 1) now
       labels-more = record {
         long = length-set t _ _ ∙ s .long;
         from = from-more;
-        to = λ u m n. ⊎-elim (λ b. ⊎-elim (λ e. inr (this u m e)) inl (next _ b)) (λ b. inr (kept u m (b .0) (b .1), b .1)) (s .to u m n);
+        to = λ u m n. ⊎-elim (λ b. ⊎-elim (λ e. inr (this u m e)) inl (next _ b)) (λ b. inr (kept u (folded m) (b .0) (b .1), b .1)) (s .to u m n);
       }
 
-    pub two-labels : secondLabel (row t x) (labelled (eqb k 8) (row t x) l) ≡ true → GivesTwoLabels (factsOf cs)
-    two-labels q = let v = second-is (eqb k 8) (row t x) l q in record {
+    pub two-labels : secondLabel (row t x) (labelled (eqb k 8) (row t x) (folded l)) ≡ true → GivesTwoLabels (factsOf cs)
+    two-labels q = let v = second-is (eqb k 8) (row t x) (folded l) q in record {
       variable = x;
       one = row t x;
-      other = l;
+      other = folded l;
       gives-one = sourced cs (label x _) (s .from x _ refl (v .1));
-      gives-other = sourced cs (label x l) (label-here (v .0));
+      gives-other = sourced cs (label x (folded l)) (l, label-here (v .0), refl);
       unlike = v .2;
     }

@@ -8,6 +8,7 @@ use native.Mathlib.Omega.{arith}
 use lib.Dec.{eqb}
 use lib.Bits.{bitOr}
 use lib.ListN.{length, getD, set, replicate}
+use Rattle.meaning.specs.Tree.{folded}
 use Rattle.meaning.specs.Constraint.{Constraint, factsOf}
 use Rattle.meaning.specs.Files.{accepted, judge}
 use Rattle.meaning.proofs.Constraints.{named-most}
@@ -62,8 +63,8 @@ module _ (file : List ℕ) (cs : List Constraint) (e : judge file ≡ accepted c
     y-small : y < 16
     y-small = subst (λ (j : ℕ). j < 16) (good .is-right) (few d (here-in cs i d (good-at file cs e i h .2)) .1)
 
-    next : secondLabel (row names x) (labelled (eqb k 8) (row names x) l) ≡ false → Seeding cs (i + 1) (set rows (k * 16 + x) (bitOr (row rows (k * 16 + x)) (2 ^ y)))
-        (set columns (k * 16 + y) (bitOr (row columns (k * 16 + y)) (2 ^ x))) (set names x (labelled (eqb k 8) (row names x) l))
+    next : secondLabel (row names x) (labelled (eqb k 8) (row names x) (folded l)) ≡ false → Seeding cs (i + 1) (set rows (k * 16 + x) (bitOr (row rows (k * 16 + x)) (2 ^ y)))
+        (set columns (k * 16 + y) (bitOr (row columns (k * 16 + y)) (2 ^ x))) (set names x (labelled (eqb k 8) (row names x) (folded l)))
     next free =
         let at = good-at file cs e i h .2 in
         let m = good .most in
@@ -74,7 +75,7 @@ module _ (file : List ℕ) (cs : List Constraint) (e : judge file ≡ accepted c
         }
 
     -- the code's numbers are the record's
-    module _ (k' x' y' l' : ℕ) (ek : k' ≡ k % 16) (ex : x' ≡ x % 16) (ey : y' ≡ y % 16) (el : l' ≡ l)
+    module _ (k' x' y' l' : ℕ) (ek : k' ≡ k % 16) (ex : x' ≡ x % 16) (ey : y' ≡ y % 16) (el : l' ≡ folded l)
         (new : ℕ) (en : new ≡ labelled (eqb k' 8) (row names x') l') (second : Bool) (es : second ≡ secondLabel (row names x') new) where
       kind-is : k' ≡ k
       kind-is = ek ∙ mod-eq-of-lt (let m = good .most in omega arith)
@@ -85,10 +86,10 @@ module _ (file : List ℕ) (cs : List Constraint) (e : judge file ≡ accepted c
       right-is : y' ≡ y
       right-is = ey ∙ mod-eq-of-lt y-small
 
-      new-is : new ≡ labelled (eqb k 8) (row names x) l
+      new-is : new ≡ labelled (eqb k 8) (row names x) (folded l)
       new-is = en ∙ rw (kind-is, left-is, el)
 
-      second-is : second ≡ secondLabel (row names x) (labelled (eqb k 8) (row names x) l)
+      second-is : second ≡ secondLabel (row names x) (labelled (eqb k 8) (row names x) (folded l))
       second-is = es ∙ rw (new-is, left-is)
 
       pub seeding-step : second ≡ false → (r₁ c₁ : ℕ) → r₁ ≡ 2 ^ y' → c₁ ≡ 2 ^ x'

@@ -6,7 +6,7 @@ ghost use Rattle.constraints.specs.declared.Judgement.the-variants.{Accepted};
 ghost use Rattle.seed.specs.Seeds.{labelled, secondLabel, noFacts, kindRow, RowsOf, TogetherOf, SeedsOf};
 use tables::Facts;
 
-// The tables, or a clash: two labels on one variable, which no tables hold.
+// The tables, or a clash: two labels on one variable, not equal but for case, which no tables hold.
 pub struct Seeds {
     pub clash: bool,
     pub facts: Facts,
@@ -122,7 +122,7 @@ pub fn seed(file: &[u8]) -> Seeds
         let kind = index(file[at]);
         let x = index(file[at + 1]);
         let y = index(file[at + 2]);
-        let name = file[at + 3];
+        let name = labels::folded(file[at + 3]);
         let old = label[x];
         let new = label_with(kind == 8, old, name);
         if second_label(old, new) {

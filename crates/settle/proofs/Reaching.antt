@@ -14,11 +14,12 @@ use Rattle.meaning.specs.Constraint.{Fact, below, before}
 use Rattle.meaning.specs.Settled.{Settled, before-chain, before-child, after-child, same-before, same-after}
 use Rattle.rowbits.specs.Bit.{bit}
 use Rattle.meaning.specs.Finite.{Yes}
+use Rattle.meaning.proofs.Tests.{not-yes}
 use Rattle.tables.specs.Tables.{row}
 use Rattle.tables.specs.Rows.{Up, United, gained}
 use Rattle.tables.proofs.Bits.{or-case, or-l, or-r, or-le, none-in, up-self, up-trans, xor-zero, gained-up, gained-has, gained-case, in-row}
 use Rattle.tables.proofs.Loops.{below-cases, Rowing}
-use Rattle.tables.proofs.Tested.{not-eq, eq-not, not-yes}
+use Rattle.tables.proofs.Tested.{not-eq, eq-not}
 use Rattle.settle.specs.Rows.{In, Grouped, Path, step, on, ChainOf}
 use Rattle.settle.specs.Siblings.{Reached, Unlike, Groupwise, Ordered, PassedOn, Parted}
 use Rattle.settle.proofs.Chain.{reached-least}

@@ -8,12 +8,12 @@ use native.Mathlib.Decide.{ℕ-discrete}
 use lib.Dec.{eqb}
 use lib.Bits.{bitAnd}
 use Rattle.meaning.specs.Finite.{Yes}
-use Rattle.meaning.proofs.Tests.{is-eq, eq-yes, pick-yes, pick-no}
+use Rattle.meaning.proofs.Tests.{is-eq, eq-yes, pick-yes, pick-no, not-yes}
 use Rattle.rowbits.specs.Bit.{bit}
 use Rattle.tables.specs.Tables.{row}
 use Rattle.tables.specs.Rows.{Lowest, without}
 use Rattle.tables.proofs.Bits.{none-in, or-case, or-l, or-r, in-both, both-in, gained-up, gained-has, gained-case}
-use Rattle.tables.proofs.Tested.{and-yes, yes-and, not-eq, eq-not, not-yes}
+use Rattle.tables.proofs.Tested.{and-yes, yes-and, not-eq, eq-not}
 use Rattle.tables.proofs.Members.{Passed, passed-more, passed-all, next-named}
 use Rattle.settle.specs.Rows.{Clashing}
 use Rattle.settle.specs.Shares.{WithRows, WithGroup, shareAt, Taking, Twin, Taken}

@@ -12,12 +12,12 @@ use lib.Dec.{eqb}
 use lib.Bits.{bitOr, bitAnd, and-zero-r, and-le-l, or-lt}
 use lib.Seq.{getD-set-same, getD-set-other}
 use Rattle.meaning.specs.Finite.{Yes}
-use Rattle.meaning.proofs.Tests.{clash, eq-yes, yes-eq}
+use Rattle.meaning.proofs.Tests.{clash, eq-yes, yes-eq, not-yes}
 use Rattle.rowbits.specs.Bit.{bit}
 use Rattle.tables.specs.Tables.{row, Columns}
 use Rattle.tables.specs.Rows.{Gathers, Transposed, Raised, Combined, gainedOne, gained, meets, Crossed, Blank}
 use Rattle.tables.proofs.Bits.{gained-up, gained-has, gained-case, one-is, one-has, none-in, or-case, or-l, or-r, in-both, both-in, some-in}
-use Rattle.tables.proofs.Tested.{not-eq, eq-not, not-yes}
+use Rattle.tables.proofs.Tested.{not-eq, eq-not}
 
 pub below-cases : {k y : ℕ} → k < y + 1 → (k ≡ y) ⊎ (k < y)
 below-cases {k} {y} h = go (ℕ-discrete k y)

@@ -29,6 +29,3 @@ not-eq a b t e = clash (eq-yes e) (sym (not-is (eqb a b)) ∙ t)
 
 pub eq-not : (a b : ℕ) → a ≢ b → Yes (not (eqb a b))
 eq-not a b n = not-is (eqb a b) ∙ no-neg (λ t. n (is-eq t))
-
-pub not-yes : {b : Bool} → b ≡ false → ¬ Yes b
-not-yes e t = false≢true (sym e ∙ t)

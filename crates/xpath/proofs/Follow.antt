@@ -234,7 +234,7 @@ module _ (v : Sheet) (b : List ℕ) (x y X Y : ℕ) (o : Follows v b) (p : For v
   move-follows a any = subst (Follows (withRecords (axisRecord a X Y ∷ []) v)) (sym (pick-yes _ _ refl)) (axis-follows a)
   move-follows a (letter l i) =
       let c = axisRecord a X Y in
-      let g : 97 ≤ l = letter-range l i .0 in
+      let g = letter-range l i .0 in
       let w = withRecords (c ∷ []) v in
       subst (Follows (withRecords (c ∷ is-label Y l ∷ []) v)) (sym (pick-no _ _ (λ z. let e : l ≡ 42 = is-eq z in omega arith)))
       (subst (λ (k : Sheet). Follows k (putIn 8 y 0 l (axisIn (axisFor a) x y b))) (two-records c (is-label Y l))

@@ -14,16 +14,13 @@ use borrow.Author.Tests.{ne-eqb}
 use Rattle.meaning.specs.Finite.{Yes, pick, _and_, neg}
 use Rattle.meaning.specs.Ascii.{ascii}
 use Rattle.meaning.specs.Paths.{Axis, to-self, to-child, to-parent, to-descendant, to-ancestor, to-descendant-or-self, to-ancestor-or-self, to-following-sibling, to-preceding-sibling, isLetter, Test, letter, any, Step, move, axisText, testByte}
-use Rattle.meaning.proofs.Tests.{clash, yes-case, pick-yes, pick-no, eq-yes, is-eq, le-yes, is-le}
+use Rattle.meaning.proofs.Tests.{clash, yes-case, pick-yes, pick-no, eq-yes, is-eq, le-yes, is-le, not-yes}
 use Rattle.theory.specs.PathReader.{Got, nothing, got, andThen, byte, front, afterName, axisAt, testBy, testAt, moveAt}
 use Rattle.xpath.specs.declared.Axis as code
 use Rattle.xpath.specs.declared.Named.{Named}
 use Rattle.xpath.specs.declared.Named.the-variants as named
 use Rattle.xpath.specs.declared.Moved.the-variants as moved
 use Rattle.xpath.specs.Reading.{axisFor, AxisRead, MoveRead}
-
-not-yes : {b : Bool} → b ≡ false → ¬ Yes b
-not-yes e y = false≢true (sym e ∙ y)
 
 name-long : (a : Axis) → 0 < length (axisText a)
 unfolding axisText ascii
@@ -277,19 +274,7 @@ inside (a ∷ s) zero h = zero-lt-suc _
 inside (a ∷ s) (suc i) h = suc-le-suc (inside s i h)
 
 pub letter-inside : (s : List ℕ) (i c : ℕ) → c ≡ getD s i 0 → Yes (isLetter c) → i < length s
-letter-inside s i c e l = let h : 97 ≤ c = letter-range c l .0 in inside s i (omega arith)
+letter-inside s i c e l = let h = letter-range c l .0 in inside s i (omega arith)
 
 pub byte-inside : (s : List ℕ) (i c : ℕ) → c ≡ getD s i 0 → 0 < c → i < length s
 byte-inside s i c e l = inside s i (omega arith)
-
-pub letter-yes : (b : ℕ) → 97 ≤ b → leb b 122 ≡ isLetter b
-unfolding isLetter
-letter-yes b h = sym (ap (λ (k : Bool). k and leb b 122) (le-yes h) ∙ unfold _and_ in refl)
-
-pub letter-no : (b : ℕ) → b < 97 → false ≡ isLetter b
-unfolding isLetter _and_
-letter-no b h = ⊎-elim (λ y. absurd (let g : 97 ≤ b = is-le y in omega arith)) (λ z. sym (ap (λ (k : Bool). k and leb b 122) (no-is z))) (yes-case (leb 97 b))
-  where
-    no-is : {v : Bool} → Yes (neg v) → v ≡ false
-    no-is {v = true} z = clash refl z
-    no-is {v = false} z = refl

@@ -4,7 +4,6 @@ ghost use mathlib.Core.Bool.{true, false};
 ghost use mathlib.Core.List.{List, _++_};
 ghost use Prim.Native.Nat.{ℕ, _+_, _*_, _-_, _<_, _≤_};
 ghost use lib.ListN.{length, getD, take, drop};
-ghost use Rattle.meaning.specs.Paths.{isLetter};
 ghost use Rattle.meaning.specs.Results.{pathsWrote};
 ghost use Rattle.theory.specs.PathReader.{front, axisAt, moveAt, goesOn, readPaths};
 ghost use Rattle.xpath.specs.Reading.{AxisRead, MoveRead, nextIn, rootIn, numberedIn, putIn, rootedIn, axisIn, moveIn, endNumber, endNumbered, Ahead, Level, PathRead, StepsRead, StepRead, BracketsRead, EndRead, LineRead, LinesRead, AnswerOf};
@@ -133,12 +132,6 @@ fn axis_at(s: &[u8], at: usize) -> Named
     Named::Unknown
 }
 
-fn is_letter(b: u8) -> bool
-    ensures { λ r. ⌜ r ≡ isLetter b ⌝ }
-{
-    if 97 <= b { b <= 122 } else { false }
-}
-
 // An axis, :: and a test.
 fn move_at(s: &[u8], at: usize) -> Moved
     ensures { λ r. ⌜ MoveRead (now (s .entry)) at (moveAt (drop at (now (s .entry)))) r ⌝ }
@@ -151,7 +144,7 @@ fn move_at(s: &[u8], at: usize) -> Moved
                 return Moved::Not;
             }
             let test = byte_at(s, end + 2);
-            if is_letter(test) {
+            if labels::is_letter(test) {
                 return Moved::Is(axis, test, end + 3);
             }
             if test == b'*' {
@@ -238,7 +231,7 @@ fn path(s: &[u8], at: usize, x: u8, sheet: &mut [u8; SHEET_BYTES]) -> usize
         return steps(s, at, x, sheet);
     }
     let root = rooted(sheet);
-    if is_letter(byte_at(s, at + 1)) {
+    if labels::is_letter(byte_at(s, at + 1)) {
         return steps(s, at + 1, root, sheet);
     }
     at + 1
@@ -389,7 +382,7 @@ fn line(s: &[u8], at: usize, sheet: &mut [u8; SHEET_BYTES]) -> usize
         return end_steps(s, at, x, sheet);
     }
     let root = rooted(sheet);
-    if is_letter(byte_at(s, at + 1)) {
+    if labels::is_letter(byte_at(s, at + 1)) {
         return end_steps(s, at + 1, root, sheet);
     }
     put(SAME, root, 0, 0, sheet);

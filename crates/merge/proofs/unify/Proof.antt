@@ -4,8 +4,8 @@ use mathlib.Core.Path.{_≡_, refl, sym, _∙_}
 use mir.Val.{Fits}
 use mir.Syntax.{w16}
 use lib.Bits.{bitOr, bitAnd}
+use Rattle.meaning.proofs.Tests.{not-yes}
 use Rattle.tables.specs.Rows.{onDocument}
-use Rattle.tables.proofs.Tested.{not-yes}
 use Rattle.merge.proofs.Making.{unify-differs, unify-labels, unify-document, unify-well}
 use borrow.Author.Needs.{needs}
 use Rattle.merge.proofs.unify.Statement.{statement}

@@ -5,12 +5,12 @@ use Prim.Native.Nat.{ℕ, _≤_, _-_}
 use lib.Bits.{bitAnd}
 use lib.ListN.{length}
 use Rattle.meaning.specs.Finite.{Yes, tab, position}
+use Rattle.meaning.proofs.Tests.{not-yes, yes-not}
 use Rattle.rowbits.specs.Bit.{bit}
 use Rattle.tables.specs.Tables.{row}
 use Rattle.readoff.specs.Numbering.{numbered}
 use Rattle.readoff.specs.Listing.{groups, Placed, Led, nodeNumbers, placeIn}
 use Rattle.readoff.proofs.Listing.{length-mapped, place-most, place-led}
-use Rattle.readoff.proofs.Bits.{not-yes, yes-not}
 use Rattle.readoff.proofs.Numbering.{numbered-fits}
 use Rattle.tables.proofs.Helpers.{pick-on, pick-off}
 use Rattle.readoff.proofs.Written.{assigned-none, assigned-more}

@@ -1,9 +1,8 @@
 -- `readoff::element_of` meets its contract.
 use mathlib.Core.Path.{sym, _∙_}
 use Rattle.meaning.specs.Finite.{one, neg}
-use Rattle.meaning.proofs.Tests.{eq-yes, is-eq}
+use Rattle.meaning.proofs.Tests.{eq-yes, is-eq, yes-not}
 use Rattle.readoff.specs.Numbering.{elementOf}
-use Rattle.readoff.proofs.Bits.{yes-not}
 use borrow.Author.Needs.{needs}
 use Rattle.readoff.proofs.element_of.Statement.{statement}
 use Rattle.readoff.proofs.element_of.Tie as tie

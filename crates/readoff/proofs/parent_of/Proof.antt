@@ -1,11 +1,10 @@
 -- `readoff::parent_of` meets its contract.
 use mathlib.Core.Path.{_≡_, ap, _∙_}
 use lib.Bits.{bitAnd}
-use Rattle.meaning.proofs.Tests.{eq-yes, is-eq}
+use Rattle.meaning.proofs.Tests.{eq-yes, is-eq, yes-not}
 use Rattle.readoff.specs.Rows.{near}
 use Rattle.readoff.specs.Numbering.{numbered}
 use Rattle.readoff.specs.Listing.{groups, parentIn}
-use Rattle.readoff.proofs.Bits.{yes-not}
 use Rattle.readoff.proofs.Numbering.{numbered-fits}
 use Rattle.tables.proofs.Helpers.{pick-on, pick-off}
 use Rattle.readoff.proofs.Listing.{length-mapped, place-most}

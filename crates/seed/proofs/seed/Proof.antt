@@ -47,11 +47,14 @@ shared-slice-read-index-3 c = search needs
 index-requires-3 : tie.Need-index-requires-3 Inv-loop μ-loop
 index-requires-3 c κs = search needs
 
-add-name : tie.Need-add-name Inv-loop μ-loop
-add-name c = search needs
+add-folded : tie.Need-add-folded Inv-loop μ-loop
+add-folded c = search needs
 
-shared-slice-read-name : tie.Need-shared-slice-read-name Inv-loop μ-loop
-shared-slice-read-name c = search needs
+shared-slice-read-folded : tie.Need-shared-slice-read-folded Inv-loop μ-loop
+shared-slice-read-folded c = search needs
+
+folded-requires : tie.Need-folded-requires Inv-loop μ-loop
+folded-requires c κs = search needs
 
 array-read-old : tie.Need-array-read-old Inv-loop μ-loop
 array-read-old c = search needs
@@ -69,14 +72,15 @@ returns : tie.Need-returns Inv-loop μ-loop
 returns c =
     let seconds = c .before .before in
     let names = seconds .before in
-    let ys = names .before .before in
+    let small = names .before in
+    let ys = small .before .before in
     let xs = ys .before .before in
     let kinds = xs .before .before in
     let inside = kinds .before .before in
     let start = inside .before .before .before in
     let file = accepted-file (start .args .file .now) (start .pre .0) (start .pre .1) .0 in
     let two = seeding-clash (start .args .file .now) _ file (λ i. omega (arith, kinds .before .shared-slice-known2 .given i)) _ (omega arith) _ _ _ (inside .before .loop .inv .1)
-    _ _ _ _ (kinds .index .ensures) (xs .index2 .ensures) (ys .index3 .ensures) refl _ (names .label-with .ensures) _ (seconds .second-label .ensures) (c .before .if1 .taken) in
+    _ _ _ _ (kinds .index .ensures) (xs .index2 .ensures) (ys .index3 .ensures) (small .folded .ensures) _ (names .label-with .ensures) _ (seconds .second-label .ensures) (c .before .if1 .taken) in
     record {
       clashes = (λ e. two, λ t. refl);
       cleared = λ e. c .blank .ensures;
@@ -154,7 +158,8 @@ loop-again c =
     let free = rights .before in
     let seconds = free .before in
     let names = seconds .before in
-    let ys = names .before .before in
+    let small = names .before in
+    let ys = small .before .before in
     let xs = ys .before .before in
     let kinds = xs .before .before in
     let inside = kinds .before .before in
@@ -162,7 +167,7 @@ loop-again c =
     let file = accepted-file (start .args .file .now) (start .pre .0) (start .pre .1) .0 in (
       omega arith,
       seeding-step (start .args .file .now) _ file (λ i. omega (arith, kinds .before .shared-slice-known2 .given i)) _ (omega arith) _ _ _ (inside .before .loop .inv .1)
-          _ _ _ _ (kinds .index .ensures) (xs .index2 .ensures) (ys .index3 .ensures) refl _ (names .label-with .ensures) _ (seconds .second-label .ensures) (free .if1 .left)
+          _ _ _ _ (kinds .index .ensures) (xs .index2 .ensures) (ys .index3 .ensures) (small .folded .ensures) _ (names .label-with .ensures) _ (seconds .second-label .ensures) (free .if1 .left)
           _ _ (rights .one .ensures) (c .one2 .ensures),
     )
 
@@ -203,8 +208,9 @@ seed-spec =
     add-index-2
     shared-slice-read-index-3
     index-requires-3
-    add-name
-    shared-slice-read-name
+    add-folded
+    shared-slice-read-folded
+    folded-requires
     array-read-old
     label-with-requires
     second-label-requires

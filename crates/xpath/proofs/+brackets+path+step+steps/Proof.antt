@@ -26,7 +26,7 @@ use Rattle.xpath.proofs.steps.Reads as steps
 use Rattle.xpath.proofs.steps.Kinds as steps-kinds
 use Rattle.xpath.proofs.+brackets+path+step+steps.Lts-steps as steps-lts
 use Rattle.xpath.proofs.byte_at.Reads as byte-at-reads
-use Rattle.xpath.proofs.is_letter.Reads as is-letter-reads
+use Rattle.labels.proofs.is_letter.Reads as is-letter-reads
 use Rattle.xpath.proofs.move_at.Reads as move-at-reads
 use Rattle.xpath.proofs.number.Reads as number-reads
 use Rattle.xpath.proofs.put_move.Reads as put-move-reads

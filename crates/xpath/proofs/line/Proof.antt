@@ -11,7 +11,7 @@ use Rattle.xpath.proofs.line.Reads as reads
 use Rattle.xpath.proofs.line.Lts as lts
 use Rattle.xpath.proofs.byte_at.Reads as byte-at-reads
 use Rattle.xpath.proofs.end_steps.Reads as end-steps-reads
-use Rattle.xpath.proofs.is_letter.Reads as is-letter-reads
+use Rattle.labels.proofs.is_letter.Reads as is-letter-reads
 use Rattle.xpath.proofs.number.Reads as number-reads
 use Rattle.xpath.proofs.put.Reads as put-reads
 use Rattle.xpath.proofs.rooted.Reads as rooted-reads

@@ -12,7 +12,7 @@ use Rattle.xpath.proofs.move_at.Reads as reads
 use Rattle.xpath.proofs.move_at.Lts as lts
 use Rattle.xpath.proofs.axis_at.Reads as axis-at-reads
 use Rattle.xpath.proofs.byte_at.Reads as byte-at-reads
-use Rattle.xpath.proofs.is_letter.Reads as is-letter-reads
+use Rattle.labels.proofs.is_letter.Reads as is-letter-reads
 use Rattle.xpath.proofs.starts.Reads as starts-reads
 
 axis-at-requires : tie.Need-axis-at-requires
