@@ -37,3 +37,6 @@ pub mod Unnamed
 pub mod Renumbered
 -- one pass: what is kept between two records
 pub mod OnePass
+-- capitals: files that are equal but for the case of their labels are judged alike, and get one answer
+pub mod CapitalFiles
+pub mod Capitals
