@@ -1,3 +1,5 @@
 pub mod Solved
 pub mod Translated
+pub mod Told
 pub mod Shuffled
+pub mod Capitals

@@ -1,7 +1,7 @@
 -- Laws of rows beyond those of `tables`: how many numbers a row has, when it is empty, and a row that gathers what passes a test.
 use mathlib.Core.Path.{_≡_, refl, sym, ap, _∙_, subst}
 use mathlib.Core.Logic.{_≢_}
-use mathlib.Core.Bool.{Bool, true, false, _||_, false≢true}
+use mathlib.Core.Bool.{Bool, true, false, _||_}
 use mathlib.Core.List.{List, [], _∷_, _++_, append-assoc, append-nil}
 use Prim.Native.Nat.{ℕ, zero, suc, _+_, _-_, _*_, _/_, _%_, _^_, _<_, _≤_, suc-le-suc}
 use native.Mathlib.Nat.{le-refl, le-trans, le-step, not-suc-le-zero, mod-lt, div-eq-of-lt, pow-suc}

@@ -10,7 +10,7 @@ use lib.Bits.{bitOr}
 use lib.ListN.{drop}
 use Rattle.rowbits.specs.Bit.{bit}
 use Rattle.meaning.specs.Tree.{Var}
-use Rattle.meaning.specs.Constraint.{Constraint, is-child, is-below, is-strictly-below, is-same, is-differ, is-root, is-leaf, is-label, is-before, vars, Fact, child, below, differ, before, root, leaf, label, factsOf}
+use Rattle.meaning.specs.Constraint.{Constraint, is-child, is-below, is-strictly-below, is-same, is-differ, is-root, is-leaf, is-before, vars, Fact, child, below, differ, before, root, leaf, label, factsOf}
 use Rattle.meaning.specs.Settled.{Settled, given, child-differ, before-differ, differ-back}
 use Rattle.meaning.specs.Marking.{kind}
 use Rattle.meaning.specs.Finite.{Yes, pick}

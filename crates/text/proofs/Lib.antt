@@ -4,4 +4,4 @@ pub mod Lines
 pub mod Answers
 pub mod Read
 pub mod Records
-pub mod Shuffled
+pub mod Printed

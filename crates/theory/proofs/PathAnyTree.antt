@@ -5,7 +5,7 @@ use mathlib.Core.Logic.{_↔_}
 use mathlib.Core.List.{List}
 use Prim.Native.Nat.{_≤_}
 use native.Mathlib.Omega.{arith}
-use Rattle.meaning.specs.Tree.{Node, Label, folded, Tree, IsTree}
+use Rattle.meaning.specs.Tree.{Node, folded, Tree, IsTree}
 use Rattle.meaning.specs.Constraint.{CanBeMet, vars}
 use Rattle.meaning.specs.AnyTree.{AnyTree, Numbering}
 use Rattle.meaning.specs.Paths.{Axis, to-self, to-child, to-parent, to-descendant, to-ancestor, to-descendant-or-self, to-ancestor-or-self, to-following-sibling, to-preceding-sibling, Test, letter, any, Path, alone, from-root, from-here, Steps, one, more, Step, move, having}

@@ -1,20 +1,19 @@
 -- An axis, its name and a test: what the code has read is what the reader of bytes left has got.
 use mathlib.Core.Path.{_≡_, refl, sym, ap, _∙_, subst}
-use mathlib.Core.Bool.{Bool, true, false, Bool-set, false≢true}
+use mathlib.Core.Bool.{Bool, true, false, Bool-set}
 use mathlib.Core.List.{List, [], _∷_}
 use Prim.Native.Nat.{ℕ, zero, suc, _+_, _≤_, _<_, suc-le-suc}
 use native.Mathlib.Nat.{not-suc-le-zero, zero-lt-suc, add-zero}
-use mathlib.Core.Logic.{⊎-elim}
 use Rattle.meaning.proofs.PathSheets.{letter-range}
 use native.Mathlib.Omega.{arith}
 use lib.ListN.{length, getD, drop}
 use lib.Seq.{drop-drop, getD-drop}
-use lib.Dec.{eqb, leb}
+use lib.Dec.{eqb}
 use borrow.Author.Tests.{ne-eqb}
-use Rattle.meaning.specs.Finite.{Yes, pick, _and_, neg}
+use Rattle.meaning.specs.Finite.{Yes, pick, _and_}
 use Rattle.meaning.specs.Ascii.{ascii}
 use Rattle.meaning.specs.Paths.{Axis, to-self, to-child, to-parent, to-descendant, to-ancestor, to-descendant-or-self, to-ancestor-or-self, to-following-sibling, to-preceding-sibling, isLetter, Test, letter, any, Step, move, axisText, testByte}
-use Rattle.meaning.proofs.Tests.{clash, yes-case, pick-yes, pick-no, eq-yes, is-eq, le-yes, is-le, not-yes}
+use Rattle.meaning.proofs.Tests.{pick-yes, pick-no, eq-yes, is-eq, not-yes}
 use Rattle.theory.specs.PathReader.{Got, nothing, got, andThen, byte, front, afterName, axisAt, testBy, testAt, moveAt}
 use Rattle.xpath.specs.declared.Axis as code
 use Rattle.xpath.specs.declared.Named.{Named}

@@ -1,6 +1,3 @@
-use mathlib.Core.Path.{ap, _∙_}
-use Prim.Native.Nat.{ℕ}
-use lib.Dec.{eqb}
 use borrow.Author.Needs.{needs}
 use Rattle.meaning.specs.Tree.{folded}
 use Rattle.labels.proofs.same.Statement.{statement}

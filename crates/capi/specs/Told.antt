@@ -1,5 +1,4 @@
--- Shuffled papers in the words of C: how a host takes a result apart (include/cudreth.h), and what two results of cudreth_solve, of two files,
--- have in common.
+-- How a host takes a result apart (include/cudreth.h), and what two results of cudreth_solve, of two files, have in common.
 use mathlib.Core.Path.{_≡_}
 use mathlib.Core.List.{List, _++_}
 use Prim.Native.Nat.{ℕ, _/_, _%_, _^_}
