@@ -16,7 +16,7 @@ use Rattle.meaning.specs.Capitals.{EqualButForCase, CaseAside}
 use Rattle.meaning.proofs.Labels.{folded-twice}
 use Rattle.meaning.proofs.Congruence.{SameFacts}
 use Rattle.meaning.proofs.SameAnswer.{one-refusal, one-answer}
-use Rattle.meaning.proofs.CapitalFiles.{small-kept, Seen, seen, seenFile, file-seen, smallNode, smallAnswer, answer-seen}
+use Rattle.meaning.proofs.RecasedFiles.{small-kept, Seen, seen, seenFile, file-seen, smallNode, smallAnswer, answer-seen}
 
 -- ---- trees
 

@@ -47,7 +47,7 @@ pub same-label-kept : (l m : Label) → ¬ Yes (isCapital l) → ¬ Yes (isCapit
 same-label-kept l m a b =
     let f = folded-other l a in
     let g = folded-other m b in
-    (λ e. sym f ∙ e ∙ g, λ e. f ∙ e ∙ sym g)
+    (λ e. cc, λ e. cc)
 
 pub record FactLabel (l : Label) : Type 0 where
   pub some : 1 ≤ l

@@ -38,5 +38,5 @@ pub mod Renumbered
 -- one pass: what is kept between two records
 pub mod OnePass
 -- capitals: files that are equal but for the case of their labels are judged alike, and get one answer
-pub mod CapitalFiles
+pub mod RecasedFiles
 pub mod Capitals
