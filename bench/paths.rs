@@ -173,7 +173,7 @@ fn step(rest: &[u8]) -> Option<(Move, &[u8])> {
     };
     match rest {
         [b'*', rest @ ..] => Some((Move { kind, up, label: 0 }, rest)),
-        [label @ b'a'..=b'z', rest @ ..] => Some((Move { kind, up, label: *label }, rest)),
+        [label @ (b'a'..=b'z' | b'A'..=b'Z'), rest @ ..] => Some((Move { kind, up, label: *label }, rest)),
         _ => None,
     }
 }

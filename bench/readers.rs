@@ -71,6 +71,15 @@ fn step(rng: &mut Rng, text: &mut Vec<u8>) {
     text.push(if rng.below(2) == 0 { b'*' } else { b'a' + rng.below(26) as u8 });
 }
 
+// The letters that are tests, each in either case.
+fn recase(rng: &mut Rng, text: &mut [u8]) {
+    for at in 2..text.len() {
+        if text[at - 2..at] == *b"::" && text[at].is_ascii_lowercase() && rng.below(2) == 0 {
+            text[at] = text[at].to_ascii_uppercase();
+        }
+    }
+}
+
 // A path of at most `steps` steps, brackets included; how many are left.
 fn path(rng: &mut Rng, text: &mut Vec<u8>, mut steps: usize) -> usize {
     let from_root = rng.below(3) == 0;
@@ -129,6 +138,7 @@ fn trial(rng: &mut Rng) -> Vec<u8> {
     let (many, steps) =
         [(1, 3), (1, 16), (1, 24), (1, 80), (2, 8), (3, 6), (5, 4), (8, 2), (8, 12), (9, 2)][rng.below(10)];
     let mut text = lines(rng, many, steps);
+    recase(rng, &mut text);
     for _ in 0..[0, 0, 0, 0, 0, 0, 1, 1, 1, 3][rng.below(10)] {
         if !text.is_empty() {
             damage(rng, &mut text);
@@ -146,9 +156,10 @@ fn filled(head: &str, open: &str, middle: &str, close: &str, tail: &str, bytes: 
 
 // ---- equal results
 
-const KNOWN: [(&str, &[u8]); 8] = [
+const KNOWN: [(&str, &[u8]); 9] = [
     ("/\n", b"\x06\x01\0\0\x04\x01\0\0"),
     ("self::a\n", b"\x04\x01\0\0\x08\0\0a"),
+    ("self::A\n", b"\x04\x01\0\0\x08\0\0A"),
     ("/parent::*\n/\n", b"\x06\x01\0\0\x01\0\x01\0\x04\x01\0\0"),
     ("self::*[/]\n", b"\x04\x01\0\0\x06\x02\0\0"),
     ("descendant::*/ancestor-or-self::z\n", b"\x03\x01\x02\0\x02\0\x02\0\x08\0\0z"),
@@ -231,11 +242,14 @@ pub fn time() {
     head("(e) reader of paths, ns a text");
     let mut rng = Rng(20_261_115);
     let short: Vec<Vec<u8>> = (0..1000).map(|_| lines(&mut rng, 1, 3)).collect();
+    let mut recased = short.clone();
+    recased.iter_mut().for_each(|text| recase(&mut rng, text));
     let texts = [
         ("short line", vec![b"child::a\n".to_vec()]),
         ("short line", vec![b"/child::a/descendant::b\n".to_vec()]),
         ("short line", vec![b"child::a[child::b]/child::c\n".to_vec()]),
         ("1,000 short lines", short),
+        ("1,000 short lines, letters in both cases", recased),
         ("short line", vec![b"child::a/following-sibling::b\n".to_vec()]),
         ("8 long lines", vec![eight(LONG, [3, 3, 3, 3, 3, 3, 2, 2], 0)]),
         ("8 long lines with [/]", vec![eight(LONG, [3, 3, 3, 3, 3, 3, 2, 2], 22)]),

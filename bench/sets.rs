@@ -117,6 +117,19 @@ pub fn day(seed: u64, sets: usize, often: &[u8], all: &[u8]) -> Vec<Vec<u8>> {
     day
 }
 
+// The same files with letters for labels, each record's in either case: all else about them stays.
+pub fn lettered(seed: u64, files: &[Vec<u8>]) -> Vec<Vec<u8>> {
+    let mut rng = Rng(seed);
+    files.iter().map(|file| with_letters(&mut rng, file.clone())).collect()
+}
+
+fn with_letters(rng: &mut Rng, mut file: Vec<u8>) -> Vec<u8> {
+    for r in file.chunks_exact_mut(4).filter(|r| r[0] == 8 && (1..=26).contains(&r[3])) {
+        r[3] += [b'a', b'A'][rng.below(2)] - 1;
+    }
+    file
+}
+
 // Sheets of 256 records, each of any kind.
 pub fn full_sheets(seed: u64, sheets: usize) -> Vec<Vec<u8>> {
     let mut rng = Rng(seed);
@@ -160,6 +173,9 @@ pub fn trial(rng: &mut Rng) -> Vec<u8> {
             planted(rng, n, nodes, records, 30, often)
         }
     };
+    if rng.below(3) == 0 {
+        file = with_letters(rng, file);
+    }
     if rng.below(12) == 0 && !file.is_empty() {
         let at = rng.below(file.len());
         match rng.below(8) {

@@ -591,8 +591,10 @@ impl Facts {
             self.rows[kind][x] |= 1 << y;
             self.columns[kind][y] |= 1 << x;
             let label = &mut self.labels[(kind == 8) as usize][x];
-            two_labels |= *label != 0 && *label != r[3];
-            *label = r[3];
+            // capitals count as small letters
+            let name = r[3].to_ascii_lowercase();
+            two_labels |= *label != 0 && *label != name;
+            *label = name;
         }
         !two_labels
     }

@@ -254,9 +254,11 @@ struct Day {
     sets: Vec<Vec<u8>>,
 }
 
-fn days() -> [Day; 3] {
+fn days() -> [Day; 4] {
+    let ordinary = sets::day(20_261_115, 40_000, &sets::MIXED, &[]);
+    let lettered = sets::lettered(20_261_120, &ordinary);
     [
-        Day { name: "ordinary sets", sets: sets::day(20_261_115, 40_000, &sets::MIXED, &[]) },
+        Day { name: "ordinary sets", sets: ordinary },
         Day {
             name: "ordinary sets with a root",
             sets: sets::day(20_261_119, 40_000, &sets::MIXED_ROOT, &[cudreth::ROOT]),
@@ -265,6 +267,7 @@ fn days() -> [Day; 3] {
             name: "ordinary sets with before",
             sets: sets::day(20_261_116, 40_000, &sets::MIXED_BEFORE, &[cudreth::BEFORE]),
         },
+        Day { name: "ordinary sets, letters in both cases", sets: lettered },
     ]
 }
 
@@ -377,7 +380,7 @@ fn main() {
     agree(&inputs, &days, 200_000);
     readers::agree(100_000);
     time_files(&inputs);
-    for (mark, day) in ["(b)", "", ""].iter().zip(&days) {
+    for (mark, day) in ["(b)", "", "", ""].iter().zip(&days) {
         time_day(mark, day);
     }
     time_marker();

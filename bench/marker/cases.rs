@@ -48,6 +48,15 @@ fn met(answer: &[u8], draw: &mut dyn FnMut(usize) -> [u8; 4]) -> Vec<u8> {
     bytes
 }
 
+// The records of a kind with letters for their labels, each in either case.
+fn lettered(rng: &mut Rng, file: &[u8], kind: u8) -> Vec<u8> {
+    let mut file = file.to_vec();
+    for r in file.chunks_exact_mut(4).filter(|r| r[0] == kind && r[3] != 0) {
+        r[3] += [b'a', b'A'][rng.below(2) as usize] - 1;
+    }
+    file
+}
+
 // The last other child of a node's parent, or the node itself.
 fn sibling(parents: &[u8], v: u8) -> u8 {
     let others = (1..64).filter(|&w| w != v && v != 0 && parents[w as usize] == parents[v as usize]);
@@ -94,14 +103,23 @@ pub fn cases() -> Vec<Case> {
     let ends_answer = answer(&chain, &labels, &ends);
     let longest = met(&ends_answer, &mut |_| [2, rng.below(8) as u8, 8 + rng.below(8) as u8, 0]);
     let before = met(&star_answer, &mut |_| [9, rng.below(16) as u8, rng.below(16) as u8, 0]);
+    let letters = Case {
+        name: "mixed kinds, letters in both cases",
+        constraints: lettered(&mut rng, &mixed, 8),
+        answer: lettered(&mut rng, &mixed_answer, 1),
+    };
     vec![
         Case { name: "mixed kinds", constraints: mixed, answer: mixed_answer },
+        letters,
         Case { name: "leaf on a star", constraints: leaf, answer: star_answer.clone() },
         Case { name: "before on a star", constraints: before, answer: star_answer },
         Case { name: "below on a chain", constraints: below, answer: chain_answer },
         Case { name: "below, top to bottom", constraints: longest, answer: ends_answer },
     ]
 }
+
+// Blank, and labels of which some are equal and some are not: capitals, small letters, and two that 32 parts as it does letters.
+const NAMES: [u8; 8] = [0, 1, b'A', b'a', b'Z', b'z', b'[', b'{'];
 
 // Markers agree on files drawn at random: small bytes, whole records and files that nearly pass, so that every answer comes.
 pub fn agree(markers: [fn(&[u8], &[u8]) -> u64; 3], rounds: usize) -> usize {
@@ -114,7 +132,7 @@ pub fn agree(markers: [fn(&[u8], &[u8]) -> u64; 3], rounds: usize) -> usize {
             let (kind, x, y) = (1 + rng.below(9) as u8, rng.below(4) as u8, rng.below(4) as u8);
             constraints.extend(match kind {
                 6 | 7 => [kind, x, 0, 0],
-                8 => [8, x, 0, 1 + rng.below(2) as u8],
+                8 => [8, x, 0, NAMES[1 + rng.below(7) as usize]],
                 _ => [kind, x, y, 0],
             });
             n = n.max(x + 1).max(if matches!(kind, 6..=8) { 0 } else { y + 1 });
@@ -125,7 +143,7 @@ pub fn agree(markers: [fn(&[u8], &[u8]) -> u64; 3], rounds: usize) -> usize {
         let least = u64::from(rng.below(10) > 0);
         let parents: Vec<u8> =
             (0..nodes).map(|v| if v < 2 { 0 } else { (least + rng.below(v - least)) as u8 }).collect();
-        let mut labels: Vec<u8> = (0..nodes).map(|_| rng.below(3) as u8).collect();
+        let mut labels: Vec<u8> = (0..nodes).map(|_| NAMES[rng.below(8) as usize]).collect();
         if rng.below(10) > 0 {
             labels[0] = 0;
         }

@@ -143,7 +143,8 @@ fn first_unmet(constraints: &[u8], sheet: &Sheet, above: impl Fn(u8, u8) -> bool
             5 => x != y,
             6 => x == 0,
             7 => sheet.inner >> x & 1 == 0,
-            8 => sheet.label[x as usize] == r[3],
+            // capitals count as small letters
+            8 => sheet.label[x as usize].eq_ignore_ascii_case(&r[3]),
             // node 0 has no sibling, though its parent byte is that of its children
             _ => x != 0 && x < y && sheet.parent[x as usize] == sheet.parent[y as usize],
         };

@@ -1,11 +1,11 @@
 -- A test of two bounds, made one bound after the other.
-use mathlib.Core.Path.{_≡_, sym, ap, _∙_}
+use mathlib.Core.Path.{_≡_, sym, ap}
 use mathlib.Core.Bool.{Bool, true, false}
 use Prim.Native.Nat.{ℕ, _≤_, _<_}
 use native.Mathlib.Omega.{arith}
 use lib.Dec.{leb}
 use Rattle.meaning.specs.Tree.{Label, isCapital}
-use Rattle.meaning.specs.Paths.{isLetter}
+use Rattle.meaning.specs.Paths.{isSmall, isLetter}
 use Rattle.meaning.specs.Finite.{_and_, _or_}
 use Rattle.meaning.proofs.Tests.{yes-not, is-le, le-yes}
 
@@ -25,14 +25,18 @@ pub capital-under : (l : Label) → l < 65 → false ≡ isCapital l
 unfolding isCapital
 capital-under l h = under 65 90 l h
 
-pub letter-capital : (b : ℕ) → isCapital b ≡ true → true ≡ isLetter b
-unfolding isLetter _or_
-letter-capital b e = sym (ap (λ (c : Bool). c or (leb 97 b and leb b 122)) e)
+pub small-above : (b : ℕ) → 97 ≤ b → leb b 122 ≡ isSmall b
+unfolding isSmall
+small-above b h = above 97 122 b h
 
-pub letter-above : (b : ℕ) → isCapital b ≡ false → 97 ≤ b → leb b 122 ≡ isLetter b
-unfolding isLetter _or_
-letter-above b e h = above 97 122 b h ∙ sym (ap (λ (c : Bool). c or (leb 97 b and leb b 122)) e)
+pub small-under : (b : ℕ) → b < 97 → false ≡ isSmall b
+unfolding isSmall
+small-under b h = under 97 122 b h
 
-pub letter-under : (b : ℕ) → isCapital b ≡ false → b < 97 → false ≡ isLetter b
+pub letter-small : (b : ℕ) → isSmall b ≡ true → true ≡ isLetter b
 unfolding isLetter _or_
-letter-under b e h = under 97 122 b h ∙ sym (ap (λ (c : Bool). c or (leb 97 b and leb b 122)) e)
+letter-small b e = sym (ap (λ (c : Bool). c or isCapital b) e)
+
+pub letter-other : (b : ℕ) → isSmall b ≡ false → isCapital b ≡ isLetter b
+unfolding isLetter _or_
+letter-other b e = sym (ap (λ (c : Bool). c or isCapital b) e)

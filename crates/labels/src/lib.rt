@@ -2,7 +2,7 @@
 ghost use mathlib.Core.Path.{_≡_};
 ghost use lib.Dec.{eqb};
 ghost use Rattle.meaning.specs.Tree.{isCapital, folded};
-ghost use Rattle.meaning.specs.Paths.{isLetter};
+ghost use Rattle.meaning.specs.Paths.{isSmall, isLetter};
 
 // A to Z.
 fn is_capital(label: u8) -> bool
@@ -25,12 +25,19 @@ pub fn same(one: u8, other: u8) -> bool
     folded(one) == folded(other)
 }
 
+// a to z: how the name of an axis begins.
+pub fn is_small(byte: u8) -> bool
+    ensures { λ r. ⌜ r ≡ isSmall byte ⌝ }
+{
+    if 97 <= byte { byte <= 122 } else { false }
+}
+
 // a to z or A to Z: what a path tests for.
 pub fn is_letter(byte: u8) -> bool
     ensures { λ r. ⌜ r ≡ isLetter byte ⌝ }
 {
-    if is_capital(byte) {
+    if is_small(byte) {
         return true;
     }
-    if 97 <= byte { byte <= 122 } else { false }
+    is_capital(byte)
 }

@@ -1,5 +1,5 @@
 -- Laws of labels whose capitals count as small letters, and what the label of a given fact is: 1 to 255, and no capital.
-use mathlib.Core.Path.{_≡_, sym, _∙_}
+use mathlib.Core.Path.{_≡_}
 use mathlib.Core.Logic.{_↔_}
 use Prim.Native.Nat.{_+_, _≤_}
 use native.Mathlib.Omega.{arith}

@@ -10,7 +10,7 @@ use lib.Dec.{leb}
 use Rattle.meaning.specs.Tree.{Var, isCapital}
 use Rattle.meaning.specs.Constraint.{Constraint, is-same, is-root, named, vars}
 use Rattle.meaning.specs.Finite.{Yes, _and_}
-use Rattle.meaning.specs.Paths.{Axis, to-self, to-child, to-parent, to-descendant, to-ancestor, to-descendant-or-self, to-ancestor-or-self, to-following-sibling, to-preceding-sibling, isLetter, Test, letter, any, Path, alone, from-root, from-here, Steps, one, more, Step, move, having}
+use Rattle.meaning.specs.Paths.{Axis, to-self, to-child, to-parent, to-descendant, to-ancestor, to-descendant-or-self, to-ancestor-or-self, to-following-sibling, to-preceding-sibling, isSmall, isLetter, Test, letter, any, Path, alone, from-root, from-here, Steps, one, more, Step, move, having}
 use Rattle.meaning.specs.PathRecords.{Sheet, blankSheet, nextTaken, withRecords, rootedBy, rooted, axisRecord, moveRecords, pathSheet, stepsSheet, stepSheet, endSheet, lineSheet, linesSheet}
 use Rattle.meaning.proofs.Tests.{and-left, and-right, either, is-le}
 use Rattle.meaning.proofs.Labels.{capital-range}
@@ -51,15 +51,19 @@ axis-lettered to-ancestor-or-self x y = tt
 axis-lettered to-following-sibling x y = tt
 axis-lettered to-preceding-sibling x y = tt
 
+pub small-range : (b : ℕ) → Yes (isSmall b) → (97 ≤ b) × (b ≤ 122)
+unfolding isSmall
+small-range b y = (is-le (and-left (leb b 122) y), is-le (and-right (leb 97 b) y))
+
 pub letter-range : (b : ℕ) → Yes (isLetter b) → (65 ≤ b) × (b ≤ 122)
 unfolding isLetter
-letter-range b l = either {a = isCapital b} capital small l
+letter-range b l = either {a = isSmall b} small capital l
   where
+    small : Yes (isSmall b) → (65 ≤ b) × (b ≤ 122)
+    small y = let r = small-range b y in let m = r .0 in (omega arith, r .1)
+
     capital : Yes (isCapital b) → (65 ≤ b) × (b ≤ 122)
     capital y = let r = capital-range b y in let m = r .1 in (r .0, omega arith)
-
-    small : Yes (leb 97 b and leb b 122) → (65 ≤ b) × (b ≤ 122)
-    small y = let m : 97 ≤ b = is-le (and-left (leb b 122) y) in (omega arith, is-le (and-right (leb 97 b) y))
 
 move-lettered : (k : Axis) (t : Test) (x y : Var) (c : Constraint) → List·Memᴰ c (moveRecords k t x y) → Lettered c
 unfolding moveRecords

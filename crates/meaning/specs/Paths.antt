@@ -15,9 +15,13 @@ use Rattle.meaning.specs.Ascii.{ascii}
 pub data Axis : Type 0 where
   to-self to-child to-parent to-descendant to-ancestor to-descendant-or-self to-ancestor-or-self to-following-sibling to-preceding-sibling : Axis
 
+-- a to z
+unfoldable pub isSmall : ℕ → Bool
+isSmall b = leb 97 b and leb b 122
+
 -- a to z, and A to Z
 unfoldable pub isLetter : ℕ → Bool
-isLetter b = isCapital b or (leb 97 b and leb b 122)
+isLetter b = isSmall b or isCapital b
 
 -- "A test is one letter a to z, whose byte is the label, or `*`"; "path tests, which now admit A to Z"
 pub data Test : Type 0 where

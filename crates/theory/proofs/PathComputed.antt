@@ -4,7 +4,7 @@ use mathlib.Core.List.{map}
 use Rattle.meaning.specs.Tree.{isCapital}
 use Rattle.meaning.specs.Finite.{pick, _and_, _or_}
 use Rattle.meaning.specs.Ascii.{ascii}
-use Rattle.meaning.specs.Paths.{isLetter, axisText}
+use Rattle.meaning.specs.Paths.{isSmall, isLetter, axisText}
 use Rattle.meaning.specs.PathRecords.{variablesOf, recordsOf, fileBytes}
 use Rattle.meaning.specs.Results.{PathsRead}
 use Rattle.theory.specs.PathReader.{front, afterName, axisAt, testBy, testAt, moveAt, pathAt, linesAt, textPaths, pathsAnswer, answerOf, fuel}
@@ -17,5 +17,5 @@ abbrev pub stated : Row → PathsRead
 stated row = row .answer
 
 pub table-computed : map computed table ≡ map stated table
-unfolding table ascii answerOf textPaths linesAt fuel pathAt moveAt testAt testBy axisAt afterName front axisText isLetter isCapital pick _and_ _or_ pathsAnswer variablesOf recordsOf fileBytes
+unfolding table ascii answerOf textPaths linesAt fuel pathAt moveAt testAt testBy axisAt afterName front axisText isLetter isSmall isCapital pick _and_ _or_ pathsAnswer variablesOf recordsOf fileBytes
 table-computed = refl

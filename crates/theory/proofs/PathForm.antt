@@ -8,7 +8,7 @@ use native.Mathlib.Omega.{arith}
 use lib.ListN.{length, drop}
 use lib.Dec.{eqb}
 use Rattle.meaning.specs.Finite.{Yes, pick}
-use Rattle.meaning.specs.Paths.{Axis, to-self, to-child, to-parent, to-descendant, to-ancestor, to-descendant-or-self, to-ancestor-or-self, to-following-sibling, to-preceding-sibling, isLetter, Test, Path, Step, having, axisText, testByte, pathText, stepsText, stepText, linesText, OfForm}
+use Rattle.meaning.specs.Paths.{Axis, to-self, to-child, to-parent, to-descendant, to-ancestor, to-descendant-or-self, to-ancestor-or-self, to-following-sibling, to-preceding-sibling, isSmall, isLetter, Test, Path, Step, having, axisText, testByte, pathText, stepsText, stepText, linesText, OfForm}
 use Rattle.theory.specs.PathReader.{Got, nothing, got, andThen, byte, front, afterName, axisAt, testBy, testAt, moveAt, pathAt, stepsAt, stepAt, bracketsAt, fuel, linesAt}
 use Rattle.meaning.proofs.PathSheets.{letter-range}
 use Rattle.theory.proofs.PathReader.{move-text, having-text, more-text, lines-read}
@@ -82,7 +82,7 @@ mutual
   path-reads zero bs = tt
   path-reads (suc k) bs =
       pick-has (Reads pathText bs) (eqb (byte bs) 47) _ _
-      (λ y. pick-has (Reads pathText bs) (isLetter (byte (drop 1 bs))) _ _
+      (λ y. pick-has (Reads pathText bs) (isSmall (byte (drop 1 bs))) _ _
       (λ z. then-reads stepsText pathText (drop 1 bs) bs (stepsAt k (drop 1 bs)) _ (steps-reads k (drop 1 bs)) λ ss r e. slash bs y ∙ ap (λ (q : List ℕ). 47 ∷ q) e)
       (slash bs y))
       (then-reads stepsText pathText bs bs (stepsAt k bs) _ (steps-reads k bs) λ ss r e. e)

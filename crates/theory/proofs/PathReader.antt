@@ -12,9 +12,9 @@ use lib.Dec.{eqb}
 use Rattle.meaning.specs.Tree.{isCapital}
 use Rattle.meaning.specs.Finite.{Yes, pick, _and_, _or_}
 use Rattle.meaning.specs.Ascii.{ascii}
-use Rattle.meaning.specs.Paths.{Axis, to-self, to-child, to-parent, to-descendant, to-ancestor, to-descendant-or-self, to-ancestor-or-self, to-following-sibling, to-preceding-sibling, isLetter, Test, letter, any, Path, alone, from-root, from-here, Steps, one, more, Step, move, having, axisText, testByte, pathText, stepsText, stepText, linesText, OfForm}
+use Rattle.meaning.specs.Paths.{Axis, to-self, to-child, to-parent, to-descendant, to-ancestor, to-descendant-or-self, to-ancestor-or-self, to-following-sibling, to-preceding-sibling, isSmall, isLetter, Test, letter, any, Path, alone, from-root, from-here, Steps, one, more, Step, move, having, axisText, testByte, pathText, stepsText, stepText, linesText, OfForm}
 use Rattle.theory.specs.PathReader.{Got, nothing, got, andThen, byte, front, afterName, axisAt, testBy, testAt, moveAt, pathAt, stepsAt, stepAt, bracketsAt, fuel, linesAt}
-use Rattle.meaning.proofs.PathSheets.{letter-range}
+use Rattle.meaning.proofs.PathSheets.{small-range}
 use Rattle.meaning.proofs.Tests.{pick-yes, pick-no, is-eq}
 
 -- ---- an axis, :: and a test
@@ -39,7 +39,7 @@ testBy-letter b false e l r = absurd (false≢true (sym e ∙ l))
 test-read : (t : Test) (r : List ℕ) → testAt (testByte t ∷ r) ≡ got t r
 unfolding testAt testByte
 test-read (letter b l) r = testBy-letter b (isLetter b) refl l r
-test-read any r = unfold testBy isLetter isCapital pick _and_ _or_ in refl
+test-read any r = unfold testBy isLetter isSmall isCapital pick _and_ _or_ in refl
 
 move-read : (a : Axis) (t : Test) (r : List ℕ) → moveAt (axisText a ++ 58 ∷ 58 ∷ testByte t ∷ r) ≡ got (move a t) r
 unfolding moveAt
@@ -48,10 +48,10 @@ move-read a t r =
     ∙ pick-yes _ _ (unfold front _and_ in refl)
     ∙ ap (λ (g : Got Test). andThen g λ t q. got (move a t) q) (test-read t r)
 
--- ---- steps begin with a letter
+-- ---- steps begin with a small letter
 
-axis-first : (a : Axis) (r : List ℕ) → Yes (isLetter (byte (axisText a ++ r)))
-unfolding axisText ascii isLetter isCapital _and_ _or_
+axis-first : (a : Axis) (r : List ℕ) → Yes (isSmall (byte (axisText a ++ r)))
+unfolding axisText ascii isSmall _and_
 axis-first to-self r = refl
 axis-first to-child r = refl
 axis-first to-parent r = refl
@@ -74,14 +74,14 @@ pub more-text : (s : Step) (ss : Steps) (r : List ℕ) → stepsText (more s ss)
 unfolding stepsText
 more-text s ss r = append-assoc (stepText s) _ r
 
-step-first : (s : Step) (r : List ℕ) → Yes (isLetter (byte (stepText s ++ r)))
-step-first (move a t) r = subst (λ (q : List ℕ). Yes (isLetter (byte q))) (sym (move-text a t r)) (axis-first a _)
-step-first (having s p) r = subst (λ (q : List ℕ). Yes (isLetter (byte q))) (sym (having-text s p r)) (step-first s _)
+step-first : (s : Step) (r : List ℕ) → Yes (isSmall (byte (stepText s ++ r)))
+step-first (move a t) r = subst (λ (q : List ℕ). Yes (isSmall (byte q))) (sym (move-text a t r)) (axis-first a _)
+step-first (having s p) r = subst (λ (q : List ℕ). Yes (isSmall (byte q))) (sym (having-text s p r)) (step-first s _)
 
-steps-first : (ss : Steps) (r : List ℕ) → Yes (isLetter (byte (stepsText ss ++ r)))
+steps-first : (ss : Steps) (r : List ℕ) → Yes (isSmall (byte (stepsText ss ++ r)))
 unfolding stepsText
 steps-first (one s) r = step-first s r
-steps-first (more s ss) r = subst (λ (q : List ℕ). Yes (isLetter (byte q))) (sym (more-text s ss r)) (step-first s _)
+steps-first (more s ss) r = subst (λ (q : List ℕ). Yes (isSmall (byte q))) (sym (more-text s ss r)) (step-first s _)
 
 -- ---- every path is read
 
@@ -99,14 +99,14 @@ not-slash r = not-byte r 47 (λ e. omega arith) (λ e. omega arith)
 not-open : (r : List ℕ) → Stops r → ¬ Yes (eqb (byte r) 91)
 not-open r = not-byte r 91 (λ e. omega arith) (λ e. omega arith)
 
-not-letter : (r : List ℕ) → Stops r → ¬ Yes (isLetter (byte r))
-unfolding isLetter isCapital _and_ _or_
-not-letter r (inl e) y = false≢true (subst (λ (b : ℕ). Yes (isLetter b)) e y)
-not-letter r (inr e) y = false≢true (subst (λ (b : ℕ). Yes (isLetter b)) e y)
+not-small : (r : List ℕ) → Stops r → ¬ Yes (isSmall (byte r))
+unfolding isSmall _and_
+not-small r (inl e) y = false≢true (subst (λ (b : ℕ). Yes (isSmall b)) e y)
+not-small r (inr e) y = false≢true (subst (λ (b : ℕ). Yes (isSmall b)) e y)
 
--- a letter is not /
-letter-not : (b : ℕ) → Yes (isLetter b) → ¬ Yes (eqb b 47)
-letter-not b l y = let h = letter-range b l .0 in let e : b ≡ 47 = is-eq y in omega arith
+-- a small letter is not /
+small-not : (b : ℕ) → Yes (isSmall b) → ¬ Yes (eqb b 47)
+small-not b l y = let h = small-range b l .0 in let e : b ≡ 47 = is-eq y in omega arith
 
 -- no bracket follows
 brackets-none : (s : Step) (r : List ℕ) → ¬ Yes (eqb (byte r) 91) → (k : ℕ) → 4 * length r < k → bracketsAt k s r ≡ got s r
@@ -141,15 +141,15 @@ steps-more s ss r q k e d =
 
 path-alone : (r : List ℕ) (k : ℕ) → Stops r → pathAt (suc k) (47 ∷ r) ≡ got alone r
 unfolding pathAt
-path-alone r k h = pick-yes _ _ refl ∙ pick-no _ _ (not-letter r h)
+path-alone r k h = pick-yes _ _ refl ∙ pick-no _ _ (not-small r h)
 
-path-root : (ss : Steps) (r q : List ℕ) (k : ℕ) → Yes (isLetter (byte q)) → stepsAt k q ≡ got ss r → pathAt (suc k) (47 ∷ q) ≡ got (from-root ss) r
+path-root : (ss : Steps) (r q : List ℕ) (k : ℕ) → Yes (isSmall (byte q)) → stepsAt k q ≡ got ss r → pathAt (suc k) (47 ∷ q) ≡ got (from-root ss) r
 unfolding pathAt
 path-root ss r q k l e = pick-yes _ _ refl ∙ pick-yes _ _ l ∙ ap (λ (g : Got Steps). andThen g λ ss r. got (from-root ss) r) e
 
-path-here : (ss : Steps) (r q : List ℕ) (k : ℕ) → Yes (isLetter (byte q)) → stepsAt k q ≡ got ss r → pathAt (suc k) q ≡ got (from-here ss) r
+path-here : (ss : Steps) (r q : List ℕ) (k : ℕ) → Yes (isSmall (byte q)) → stepsAt k q ≡ got ss r → pathAt (suc k) q ≡ got (from-here ss) r
 unfolding pathAt
-path-here ss r q k l e = pick-no _ _ (letter-not (byte q) l) ∙ ap (λ (g : Got Steps). andThen g λ ss r. got (from-here ss) r) e
+path-here ss r q k l e = pick-no _ _ (small-not (byte q) l) ∙ ap (λ (g : Got Steps). andThen g λ ss r. got (from-here ss) r) e
 
 length-step : (s : Step) (r : List ℕ) → length r < length (stepText s ++ r)
 length-step (move a t) r =

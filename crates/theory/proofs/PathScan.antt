@@ -10,7 +10,7 @@ use lib.Dec.{eqb}
 use Rattle.meaning.specs.Tree.{isCapital}
 use Rattle.meaning.specs.Finite.{Yes, pick, _and_, _or_, neg}
 use Rattle.meaning.specs.Ascii.{ascii}
-use Rattle.meaning.specs.Paths.{Axis, to-self, to-child, to-parent, to-descendant, to-ancestor, to-descendant-or-self, to-ancestor-or-self, to-following-sibling, to-preceding-sibling, isLetter, Test, letter, any, Path, alone, from-root, from-here, Steps, one, more, Step, move, having, axisText, testByte, pathText, stepsText, stepText}
+use Rattle.meaning.specs.Paths.{Axis, to-self, to-child, to-parent, to-descendant, to-ancestor, to-descendant-or-self, to-ancestor-or-self, to-following-sibling, to-preceding-sibling, isSmall, isLetter, Test, letter, any, Path, alone, from-root, from-here, Steps, one, more, Step, move, having, axisText, testByte, pathText, stepsText, stepText}
 use Rattle.theory.specs.PathReader.{Got, nothing, got, andThen, byte, pathAt, bracketsAt, goesOn}
 use Rattle.theory.proofs.PathReader.{move-text, having-text, more-text}
 use Rattle.theory.proofs.PathForm.{Reads, first, path-reads}
@@ -67,7 +67,7 @@ letter-as : (b c : ℕ) → Yes (isLetter b) → Yes (eqb b c) → Yes (isLetter
 letter-as b c l y = subst (λ (k : ℕ). Yes (isLetter k)) (is-eq y) l
 
 test-plain : (t : Test) → Yes (noBracket (58 ∷ 58 ∷ testByte t ∷ []))
-unfolding testByte neg _and_ isLetter isCapital _or_
+unfolding testByte neg _and_ isLetter isSmall isCapital _or_
 test-plain (letter b l) =
     and-both (no-neg (λ y. false≢true (letter-as b 91 l y))) (and-both (no-neg (λ y. false≢true (letter-as b 93 l y))) refl)
 test-plain any = refl

@@ -7,7 +7,7 @@ use Prim.Native.Nat.{ℕ, zero, suc, _+_, _*_}
 use lib.ListN.{length, getD, drop}
 use lib.Dec.{eqb, leb}
 use Rattle.meaning.specs.Finite.{pick, _and_}
-use Rattle.meaning.specs.Paths.{Axis, to-self, to-child, to-parent, to-descendant, to-ancestor, to-descendant-or-self, to-ancestor-or-self, to-following-sibling, to-preceding-sibling, isLetter, Test, letter, any, Path, alone, from-root, from-here, Steps, one, more, Step, move, having, axisText}
+use Rattle.meaning.specs.Paths.{Axis, to-self, to-child, to-parent, to-descendant, to-ancestor, to-descendant-or-self, to-ancestor-or-self, to-following-sibling, to-preceding-sibling, isSmall, isLetter, Test, letter, any, Path, alone, from-root, from-here, Steps, one, more, Step, move, having, axisText}
 use Rattle.meaning.specs.PathRecords.{recordsOf, variablesOf, fileBytes}
 use Rattle.meaning.specs.Results.{PathsRead, paths-refused, paths-written}
 
@@ -56,12 +56,13 @@ testAt bs = testBy (byte bs) (isLetter (byte bs)) refl (drop 1 bs)
 unfoldable pub moveAt : List ℕ → Got Step
 moveAt bs = andThen (axisAt bs) λ a r. pick (front r (58 ∷ 58 ∷ [])) (andThen (testAt (drop 2 r)) λ t q. got (move a t) q) nothing
 
+-- a step begins as the name of its axis, with a small letter
 unfoldable mutual
   pub pathAt : ℕ → List ℕ → Got Path
   pathAt zero bs = nothing
   pathAt (suc k) bs =
       pick (eqb (byte bs) 47)
-      (pick (isLetter (byte (drop 1 bs))) (andThen (stepsAt k (drop 1 bs)) λ ss r. got (from-root ss) r) (got alone (drop 1 bs)))
+      (pick (isSmall (byte (drop 1 bs))) (andThen (stepsAt k (drop 1 bs)) λ ss r. got (from-root ss) r) (got alone (drop 1 bs)))
       (andThen (stepsAt k bs) λ ss r. got (from-here ss) r)
 
   pub stepsAt : ℕ → List ℕ → Got Steps

@@ -11,7 +11,7 @@ use lib.Dec.{eqb}
 use Rattle.meaning.specs.Finite.{Yes, pick}
 use Rattle.meaning.specs.Tree.{Var}
 use Rattle.meaning.specs.Constraint.{is-same}
-use Rattle.meaning.specs.Paths.{isLetter, Path, from-root, from-here, Steps, one, more, Step}
+use Rattle.meaning.specs.Paths.{isSmall, Path, from-root, from-here, Steps, one, more, Step}
 use Rattle.meaning.specs.PathRecords.{Sheet, nextTaken, withRecords, rooted, stepSheet, endSheet, lineSheet, linesSheet, recordBytes}
 use Rattle.meaning.proofs.Tests.{pick-yes, pick-no, eq-yes, is-eq}
 use Rattle.meaning.proofs.PathSheets.{step-next}
@@ -22,7 +22,7 @@ use Rattle.xpath.specs.declared.Moved.{Moved}
 use Rattle.xpath.specs.declared.Moved.the-variants as moved
 use Rattle.xpath.specs.Reading.{MoveRead, nextIn, rootIn, numberedIn, putIn, rootedIn, moveIn, endNumber, endNumbered, Follows, For, ReadTo, BracketsRead, StepRead, EndRead, LineRead, AllRead, LinesRead}
 use Rattle.xpath.proofs.Follow.{numbered-follows, rooted-follows, put-follows}
-use Rattle.xpath.proofs.Returns.{above, read-nothing, read-got, read-along, read-map, byte-yes, byte-no, one-on, letter-after, move-none, move-some, step-is}
+use Rattle.xpath.proofs.Returns.{above, read-nothing, read-got, read-along, read-map, byte-yes, byte-no, one-on, small-after, move-none, move-some, step-is}
 
 -- ---- the steps of a line
 
@@ -117,26 +117,26 @@ module _ (s : List ℕ) (at : ℕ) (b : List ℕ) where
     root-is : (v : Sheet) → Follows v b → For (rooted v) x (rooted v .rootAt)
     root-is v o z = d ∙ ap (λ (w : List ℕ). rootIn w) (sym e) ∙ root-follows v o .few z .1
 
-    pub line-alone : (c : List ℕ) → isLetter (getD s (at + 1) 0) ≡ false → c ≡ putIn 4 x 0 0 u → LineRead s at b (at + 1) c
+    pub line-alone : (c : List ℕ) → isSmall (getD s (at + 1) 0) ≡ false → c ≡ putIn 4 x 0 0 u → LineRead s at b (at + 1) c
     unfolding pathAt lineSheet recordBytes
     line-alone c n f v zero o l = absurd (not-suc-le-zero l)
     line-alone c n f v (suc k) o l =
         let q = is-same (rooted v .rootAt) 0 in
         read-along s (λ p. lineSheet p v) (at + 1) c
-        (pick-yes _ _ (byte-yes s at 47 i) ∙ pick-no _ _ (λ y. false≢true (sym n ∙ sym (letter-after s at) ∙ y))) (
+        (pick-yes _ _ (byte-yes s at 47 i) ∙ pick-no _ _ (λ y. false≢true (sym n ∙ sym (small-after s at) ∙ y))) (
           omega arith,
           sym (one-on s at),
           subst (Follows (withRecords (q ∷ []) (rooted v))) (sym f)
               (put-follows (rooted v) u q 4 x 0 0 (root-follows v o) (λ h. ap (λ (z : ℕ). 4 ∷ z ∷ 0 ∷ 0 ∷ []) (sym (root-is v o h)))),
         )
 
-    pub line-root : (r : ℕ) (c : List ℕ) → at < length s → isLetter (getD s (at + 1) 0) ≡ true → EndRead s (at + 1) x u r c → LineRead s at b r c
+    pub line-root : (r : ℕ) (c : List ℕ) → at < length s → isSmall (getD s (at + 1) 0) ≡ true → EndRead s (at + 1) x u r c → LineRead s at b r c
     unfolding pathAt lineSheet
     line-root r c j n h v zero o l = absurd (not-suc-le-zero l)
     line-root r c j n h v (suc k) o l =
         read-along s (λ p. lineSheet p v) r c
         (pick-yes _ _ (byte-yes s at 47 i)
-        ∙ pick-yes _ _ (letter-after s at ∙ n)
+        ∙ pick-yes _ _ (small-after s at ∙ n)
         ∙ ap (λ (z : List ℕ). andThen (stepsAt k z) λ ss q. got (from-root ss) q) (one-on s at))
         (read-map s (λ p. lineSheet p v) from-root (stepsAt k (drop (at + 1) s)) r c (h (rooted v) (rooted v .rootAt) k (root-follows v o) (root-is v o) (omega arith)))
 

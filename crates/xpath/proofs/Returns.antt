@@ -10,7 +10,7 @@ use lib.Seq.{drop-drop, getD-drop}
 use lib.Dec.{eqb}
 use Rattle.meaning.specs.Finite.{Yes, pick}
 use Rattle.meaning.specs.Tree.{Var}
-use Rattle.meaning.specs.Paths.{Axis, isLetter, Test, testByte, Path, from-root, from-here, Steps, one, more, Step, move, having}
+use Rattle.meaning.specs.Paths.{Axis, isSmall, Test, testByte, Path, from-root, from-here, Steps, one, more, Step, move, having}
 use Rattle.meaning.specs.PathRecords.{Sheet, nextTaken, rooted, pathSheet, stepsSheet, stepSheet}
 use Rattle.meaning.proofs.Tests.{pick-yes, pick-no, eq-yes, is-eq}
 use Rattle.meaning.proofs.PathSheets.{path-next, step-next}
@@ -57,8 +57,8 @@ byte-no s i b n y = n (sym (byte-at s i) ∙ is-eq y)
 pub one-on : (s : List ℕ) (i : ℕ) → drop 1 (drop i s) ≡ drop (i + 1) s
 one-on s i = drop-drop 1 i s
 
-pub letter-after : (s : List ℕ) (i : ℕ) → isLetter (byte (drop 1 (drop i s))) ≡ isLetter (getD s (i + 1) 0)
-letter-after s i = ap isLetter (ap byte (one-on s i) ∙ byte-at s (i + 1))
+pub small-after : (s : List ℕ) (i : ℕ) → isSmall (byte (drop 1 (drop i s))) ≡ isSmall (getD s (i + 1) 0)
+small-after s i = ap isSmall (ap byte (one-on s i) ∙ byte-at s (i + 1))
 
 module _ (s : List ℕ) (at x : ℕ) (b : List ℕ) where
   -- ---- a path
@@ -74,22 +74,22 @@ module _ (s : List ℕ) (at x : ℕ) (b : List ℕ) where
     root-follows : (v : Sheet) → Follows v b → Follows (rooted v) u
     root-follows v o = subst (Follows (rooted v)) (sym e) (rooted-follows v b o)
 
-    pub path-alone : isLetter (getD s (at + 1) 0) ≡ false → PathRead s at x b (at + 1) u
+    pub path-alone : isSmall (getD s (at + 1) 0) ≡ false → PathRead s at x b (at + 1) u
     unfolding pathAt stepSheet
     path-alone n v X zero o p l = absurd (not-suc-le-zero l)
     path-alone n v X (suc k) o p l =
         read-along s (λ p. pathSheet p X v) (at + 1) u
-        (pick-yes _ _ (byte-yes s at 47 i) ∙ pick-no _ _ (λ y. false≢true (sym n ∙ sym (letter-after s at) ∙ y)))
+        (pick-yes _ _ (byte-yes s at 47 i) ∙ pick-no _ _ (λ y. false≢true (sym n ∙ sym (small-after s at) ∙ y)))
         (omega arith, sym (one-on s at), root-follows v o)
 
-    pub path-root : (r y : ℕ) (c : List ℕ) → y ≡ rootIn (rootedIn b) → at < length s → isLetter (getD s (at + 1) 0) ≡ true → StepsRead s (at + 1) y u r c → PathRead s at x b r c
+    pub path-root : (r y : ℕ) (c : List ℕ) → y ≡ rootIn (rootedIn b) → at < length s → isSmall (getD s (at + 1) 0) ≡ true → StepsRead s (at + 1) y u r c → PathRead s at x b r c
     unfolding pathAt stepSheet
     path-root r y c d j n h v X zero o p l = absurd (not-suc-le-zero l)
     path-root r y c d j n h v X (suc k) o p l =
         let f = root-follows v o in
         read-along s (λ p. pathSheet p X v) r c
         (pick-yes _ _ (byte-yes s at 47 i)
-        ∙ pick-yes _ _ (letter-after s at ∙ n)
+        ∙ pick-yes _ _ (small-after s at ∙ n)
         ∙ ap (λ (z : List ℕ). andThen (stepsAt k z) λ ss q. got (from-root ss) q) (one-on s at))
         (read-map s (λ p. pathSheet p X v) from-root (stepsAt k (drop (at + 1) s)) r c
         (h (rooted v) (rooted v .rootAt) k f (λ z. d ∙ ap (λ (w : List ℕ). rootIn w) (sym e) ∙ f .few z .1) (omega arith)))

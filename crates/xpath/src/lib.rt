@@ -231,7 +231,7 @@ fn path(s: &[u8], at: usize, x: u8, sheet: &mut [u8; SHEET_BYTES]) -> usize
         return steps(s, at, x, sheet);
     }
     let root = rooted(sheet);
-    if labels::is_letter(byte_at(s, at + 1)) {
+    if labels::is_small(byte_at(s, at + 1)) {
         return steps(s, at + 1, root, sheet);
     }
     at + 1
@@ -382,7 +382,7 @@ fn line(s: &[u8], at: usize, sheet: &mut [u8; SHEET_BYTES]) -> usize
         return end_steps(s, at, x, sheet);
     }
     let root = rooted(sheet);
-    if labels::is_letter(byte_at(s, at + 1)) {
+    if labels::is_small(byte_at(s, at + 1)) {
         return end_steps(s, at + 1, root, sheet);
     }
     put(SAME, root, 0, 0, sheet);

@@ -3,7 +3,7 @@ use native.Mathlib.Nat.{le-refl, lt-irrefl}
 use native.Mathlib.Omega.{arith}
 use lib.Dec.{lit<}
 use lib.ListN.{length, drop}
-use Rattle.meaning.specs.Paths.{isLetter}
+use Rattle.meaning.specs.Paths.{isSmall}
 use Rattle.theory.specs.PathReader.{moveAt}
 use Rattle.xpath.proofs.Moves.{byte-inside}
 use Rattle.xpath.proofs.Returns.{above, path-here, path-alone, path-root, steps-bad, steps-one, steps-more, move-some, step-not, step-is, brackets-none, brackets-bad, brackets-open, brackets-more}
@@ -26,7 +26,7 @@ use Rattle.xpath.proofs.steps.Reads as steps
 use Rattle.xpath.proofs.steps.Kinds as steps-kinds
 use Rattle.xpath.proofs.+brackets+path+step+steps.Lts-steps as steps-lts
 use Rattle.xpath.proofs.byte_at.Reads as byte-at-reads
-use Rattle.labels.proofs.is_letter.Reads as is-letter-reads
+use Rattle.labels.proofs.is_small.Reads as is-small-reads
 use Rattle.xpath.proofs.move_at.Reads as move-at-reads
 use Rattle.xpath.proofs.number.Reads as number-reads
 use Rattle.xpath.proofs.put_move.Reads as put-move-reads
@@ -75,7 +75,7 @@ abbrev brackets-claims : ℕ → brackets-lts.Claims
 brackets-claims t = (byte-at-reads.Asked, byte-at-reads.Learnt, path-below t, path.Post)
 
 abbrev path-claims : ℕ → path-lts.Claims
-path-claims t = (byte-at-reads.Asked, byte-at-reads.Learnt, steps-below t, steps.Post, rooted-reads.Asked, rooted-reads.Learnt, is-letter-reads.Asked, is-letter-reads.Learnt)
+path-claims t = (byte-at-reads.Asked, byte-at-reads.Learnt, steps-below t, steps.Post, rooted-reads.Asked, rooted-reads.Learnt, is-small-reads.Asked, is-small-reads.Learnt)
 
 abbrev step-claims : ℕ → step-lts.Claims
 step-claims t = (move-at-reads.Asked, move-at-reads.Learnt, put-move-reads.Asked, put-move-reads.Learnt, brackets-below t, brackets.Post)
@@ -255,8 +255,8 @@ path-add-byte-at t c =
 path-byte-at-requires-2 : (t : ℕ) → path-lts.Need-byte-at-requires-2 (path-claims t) (path-at t) path.Post
 path-byte-at-requires-2 t c κs = search needs
 
-path-is-letter-requires : (t : ℕ) → path-lts.Need-is-letter-requires (path-claims t) (path-at t) path.Post
-path-is-letter-requires t c κs = search needs
+path-is-small-requires : (t : ℕ) → path-lts.Need-is-small-requires (path-claims t) (path-at t) path.Post
+path-is-small-requires t c κs = search needs
 
 path-add-steps : (t : ℕ) → path-lts.Need-add-steps (path-claims t) (path-at t) path.Post
 path-add-steps t c =
@@ -290,7 +290,7 @@ path-returns-2 t c =
     let u = sym b ∙ c .before .before .before .before .before .before .before .if1 .left in
     let i = byte-inside s (a .at) 47 (sym u) (lit< tt) in
     let w = c .before .before .before .before .before .rooted in
-    let n = sym (ap isLetter (c .before .before .before .before .byte-at2 .ensures)) ∙ sym (c .before .before .before .is-letter .ensures) ∙ c .before .before .if2 .taken in
+    let n = sym (ap isSmall (c .before .before .before .before .byte-at2 .ensures)) ∙ sym (c .before .before .before .is-small .ensures) ∙ c .before .before .if2 .taken in
     let t = c .steps2 in (
       path-root s (a .at) (a .x) (a .sheet .now) (w .last .0) (w .ensures .1) u (t .result) (w .result) (t .last .1 .1 .1 .0) (w .ensures .0) i n (t .ensures .0),
       λ h. let k = t .ensures .1 h in (omega (arith, k .0), k .1),
@@ -317,7 +317,7 @@ path-returns-3 t c =
     let u = sym b ∙ c .before .before .before .before .before .if1 .left in
     let i = byte-inside s (a .at) 47 (sym u) (lit< tt) in
     let w = c .before .before .before .rooted in
-    let n = sym (ap isLetter (c .before .before .byte-at2 .ensures)) ∙ sym (c .before .is-letter .ensures) ∙ c .if2 .left in
+    let n = sym (ap isSmall (c .before .before .byte-at2 .ensures)) ∙ sym (c .before .is-small .ensures) ∙ c .if2 .left in
     (path-alone s (a .at) (a .x) (a .sheet .now) (w .last .0) (w .ensures .1) u n, λ h. (omega arith, omega (arith, i)))
 
 step-move-at-requires : (t : ℕ) → step-lts.Need-move-at-requires (step-claims t) (step-at t) step.Post
@@ -489,8 +489,8 @@ pub +brackets+path+step+steps-spec : {M : Type 1} → statement M
       steps.Post,
       rooted-reads.Asked,
       rooted-reads.Learnt,
-      is-letter-reads.Asked,
-      is-letter-reads.Learnt,
+      is-small-reads.Asked,
+      is-small-reads.Learnt,
     )
     (path-at t)
     path.Post
@@ -500,7 +500,7 @@ pub +brackets+path+step+steps-spec : {M : Type 1} → statement M
     (path-rooted-requires t)
     (path-add-byte-at t)
     (path-byte-at-requires-2 t)
-    (path-is-letter-requires t)
+    (path-is-small-requires t)
     (path-add-steps t)
     (path-steps-requires-2 t)
     (path-returns-2 t)

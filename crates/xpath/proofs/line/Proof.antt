@@ -1,7 +1,7 @@
 use mathlib.Core.Path.{sym, ap, _∙_}
 use native.Mathlib.Omega.{arith}
 use lib.Dec.{lit<}
-use Rattle.meaning.specs.Paths.{isLetter}
+use Rattle.meaning.specs.Paths.{isSmall}
 use Rattle.xpath.proofs.Moves.{byte-inside}
 use Rattle.xpath.proofs.LineReturns.{line-here, line-alone, line-root}
 use borrow.Author.Needs.{needs}
@@ -11,7 +11,7 @@ use Rattle.xpath.proofs.line.Reads as reads
 use Rattle.xpath.proofs.line.Lts as lts
 use Rattle.xpath.proofs.byte_at.Reads as byte-at-reads
 use Rattle.xpath.proofs.end_steps.Reads as end-steps-reads
-use Rattle.labels.proofs.is_letter.Reads as is-letter-reads
+use Rattle.labels.proofs.is_small.Reads as is-small-reads
 use Rattle.xpath.proofs.number.Reads as number-reads
 use Rattle.xpath.proofs.put.Reads as put-reads
 use Rattle.xpath.proofs.rooted.Reads as rooted-reads
@@ -62,8 +62,8 @@ add-byte-at c =
 byte-at-requires-2 : tie.Need-byte-at-requires-2
 byte-at-requires-2 c κs = search needs
 
-is-letter-requires : tie.Need-is-letter-requires
-is-letter-requires c κs = search needs
+is-small-requires : tie.Need-is-small-requires
+is-small-requires c κs = search needs
 
 add-end-steps : tie.Need-add-end-steps
 add-end-steps c =
@@ -97,7 +97,7 @@ returns-2 c =
     let u = sym b ∙ c .before .before .before .before .before .before .before .if1 .left in
     let i = byte-inside s (a .at) 47 (sym u) (lit< tt) in
     let w = c .before .before .before .before .before .rooted in
-    let n = sym (ap isLetter (c .before .before .before .before .byte-at2 .ensures)) ∙ sym (c .before .before .before .is-letter .ensures) ∙ c .before .before .if2 .taken in
+    let n = sym (ap isSmall (c .before .before .before .before .byte-at2 .ensures)) ∙ sym (c .before .before .before .is-small .ensures) ∙ c .before .before .if2 .taken in
     let t = c .end-steps2 in (
       line-root s (a .at) (a .sheet .now) (w .result) (w .last .0) (w .ensures .0) (w .ensures .1) u (t .result) (t .last .1 .1 .1 .0) i n (t .ensures .0),
       λ h. let k = t .ensures .1 h in (omega (arith, k .0), k .1),
@@ -127,7 +127,7 @@ returns-3 c =
     let u = sym b ∙ c .before .before .before .before .before .before .before .if1 .left in
     let i = byte-inside s (a .at) 47 (sym u) (lit< tt) in
     let w = c .before .before .before .before .before .rooted in
-    let n = sym (ap isLetter (c .before .before .before .before .byte-at2 .ensures)) ∙ sym (c .before .before .before .is-letter .ensures) ∙ c .before .before .if2 .left in
+    let n = sym (ap isSmall (c .before .before .before .before .byte-at2 .ensures)) ∙ sym (c .before .before .before .is-small .ensures) ∙ c .before .before .if2 .left in
     let p = c .put in (
       line-alone s (a .at) (a .sheet .now) (w .result) (w .last .0) (w .ensures .0) (w .ensures .1) u (p .last .1 .1 .1 .1 .0) n (p .ensures),
       λ h. (omega arith, omega (arith, i)),
@@ -144,7 +144,7 @@ line-spec =
     rooted-requires
     add-byte-at
     byte-at-requires-2
-    is-letter-requires
+    is-small-requires
     add-end-steps
     end-steps-requires-2
     returns-2
