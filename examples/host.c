@@ -1,7 +1,8 @@
 /*
  * A host program: solves the question of document 01's listing (M10), prints the tree and marks four candidates; solves and marks a question
- * in another order and with other numbers, one of siblings in order, and one of the document node; reads one set as paths and solves it; and
- * lists what a refusal can say. What it prints is held to examples/host.stdout. It is C99 and C++; host.rs is the same in Rust.
+ * in another order and with other numbers, one of siblings in order, one of the document node, and one with capitals; reads one set as paths
+ * and solves it; and lists what a refusal can say. What it prints is held to examples/host.stdout. It is C99 and C++; host.rs is the same in
+ * Rust.
  */
 #include <inttypes.h>
 #include <stdbool.h>
@@ -212,6 +213,33 @@ static void solve_document(uint8_t *answer)
     print_marked(cudreth_mark(question, sizeof question, too_low, sizeof too_low));
 }
 
+/* Capitals count as small letters: A and a are one label, and the tree has the small one. Then a tree drawn with A, and one with { for [. */
+static void solve_capitals(uint8_t *answer)
+{
+    const uint8_t question[] = {
+        CUDRETH_LABEL, 0, 0, 'A',
+        CUDRETH_LABEL, 0, 0, 'a',
+    };
+    print_solved(cudreth_solve(question, sizeof question, answer, CUDRETH_ANSWER_BYTES, UINT32_MAX), answer);
+    const uint8_t capital[] = {
+        CUDRETH_NODE,  0, 0, 0,
+        CUDRETH_NODE,  1, 0, 'A',
+        CUDRETH_PLACE, 0, 1, 0,
+    };
+    printf("a capital drawn: ");
+    print_marked(cudreth_mark(question, sizeof question, capital, sizeof capital));
+    const uint8_t bracket[] = {
+        CUDRETH_LABEL, 0, 0, '[',
+    };
+    const uint8_t brace[] = {
+        CUDRETH_NODE,  0, 0, 0,
+        CUDRETH_NODE,  1, 0, '{',
+        CUDRETH_PLACE, 0, 1, 0,
+    };
+    printf("{ drawn for [: ");
+    print_marked(cudreth_mark(bracket, sizeof bracket, brace, sizeof brace));
+}
+
 /* A node that both lines select: its records, then a tree that has it, as the node of variable 0. */
 static void read_and_solve(uint8_t *records, uint8_t *answer)
 {
@@ -245,6 +273,7 @@ int main(void)
     solve_shuffled(answer, other);
     solve_brothers(answer);
     solve_document(answer);
+    solve_capitals(answer);
     read_and_solve(records, answer);
     for (uint32_t number = CUDRETH_Q_CONSTRAINTS_LONG; number <= CUDRETH_Q_TEXT_VARIABLES; number++)
         print_refused(number);

@@ -4,8 +4,8 @@
 mod cudreth;
 
 use cudreth::{
-    Marked, PathsRead, Solved, ANSWER_BYTES, BEFORE, BELOW, CHILD, DIFFER, NODE, PLACE, RECORDS_BYTES, RECORD_BYTES,
-    ROOT,
+    Marked, PathsRead, Solved, ANSWER_BYTES, BEFORE, BELOW, CHILD, DIFFER, LABEL, NODE, PLACE, RECORDS_BYTES,
+    RECORD_BYTES, ROOT,
 };
 
 fn print_answer(answer: &[u8]) {
@@ -157,6 +157,31 @@ const TOO_LOW: [u8; 24] = [
     PLACE, 2, 2, 0,
 ];
 
+#[rustfmt::skip]
+const BOTH_CASES: [u8; 8] = [
+    LABEL, 0, 0, b'A',
+    LABEL, 0, 0, b'a',
+];
+
+#[rustfmt::skip]
+const CAPITAL: [u8; 12] = [
+    NODE,  0, 0, 0,
+    NODE,  1, 0, b'A',
+    PLACE, 0, 1, 0,
+];
+
+#[rustfmt::skip]
+const BRACKET: [u8; 4] = [
+    LABEL, 0, 0, b'[',
+];
+
+#[rustfmt::skip]
+const BRACE: [u8; 12] = [
+    NODE,  0, 0, 0,
+    NODE,  1, 0, b'{',
+    PLACE, 0, 1, 0,
+];
+
 const LINES: &str = "/child::a/descendant::c\nchild::b/child::c\n";
 
 /// M10: solved, and four answers to it marked.
@@ -213,6 +238,15 @@ fn solve_document(answer: &mut [u8]) {
     print_marked(cudreth::mark(&DOCUMENT, &TOO_LOW));
 }
 
+/// Capitals count as small letters: A and a are one label, and the tree has the small one. Then a tree drawn with A, and one with { for [.
+fn solve_capitals(answer: &mut [u8]) {
+    print_solved(cudreth::solve(&BOTH_CASES, answer, u32::MAX), answer);
+    print!("a capital drawn: ");
+    print_marked(cudreth::mark(&BOTH_CASES, &CAPITAL));
+    print!("{{ drawn for [: ");
+    print_marked(cudreth::mark(&BRACKET, &BRACE));
+}
+
 /// A node that both lines select: its records, then a tree that has it, as the node of variable 0.
 fn read_and_solve(records: &mut [u8], answer: &mut [u8]) {
     let text = LINES.as_bytes();
@@ -236,6 +270,7 @@ fn main() {
     solve_shuffled(&mut answer);
     solve_brothers(&mut answer);
     solve_document(&mut answer);
+    solve_capitals(&mut answer);
     read_and_solve(&mut records, &mut answer);
     for question in cudreth::Q_CONSTRAINTS_LONG..=cudreth::Q_TEXT_VARIABLES {
         print_refused(question);

@@ -27,7 +27,7 @@ extern "C" {
 #endif
 
 /* Rises with each landing that a host can notice. The archive does not know it: take header and archive from one commit. */
-#define CUDRETH_VERSION 4
+#define CUDRETH_VERSION 5
 
 /* Every record has 4 bytes; a file has no header. */
 #define CUDRETH_RECORD_BYTES 4
@@ -58,7 +58,7 @@ enum cudreth_kind {
     CUDRETH_DIFFER = 5,         /* x and y are on two nodes */
     CUDRETH_ROOT = 6,           /* x is on the document node, node 0 */
     CUDRETH_LEAF = 7,           /* the node of x has no child */
-    CUDRETH_LABEL = 8,          /* the node of x has that label, 1 to 255 */
+    CUDRETH_LABEL = 8,          /* the node of x has that label, 1 to 255, a letter in either case */
     CUDRETH_BEFORE = 9          /* x and y are on siblings, and the node of x has the smaller number */
 };
 
@@ -110,13 +110,16 @@ enum cudreth_question_number {
  * The records of an accepted file in another order get, with the same allowance and a buffer that is long enough, the same result and
  * write the same bytes; a refused file stays refused, by its first bad record. With its variables renumbered one to one an accepted file
  * still has none or a tree, whichever it had, but count and tree may change, and so may whether the allowance is enough.
+ *
+ * Capitals, labels 65 to 90, count as small letters: two files that are equal but for the case of their labels get the same result and
+ * the same bytes, or the same refusal. No tree that is written has a capital.
  */
 uint64_t cudreth_solve(const uint8_t *constraints, size_t constraints_len, uint8_t *answer, size_t answer_len,
                        uint32_t allowance);
 
 /*
  * Marks a candidate's answer file. With the same records in another order met stays met; position and kind are those of the first unmet
- * record in the order of the file that is marked.
+ * record in the order of the file that is marked. The case of labels, in either file, changes nothing.
  */
 uint64_t cudreth_mark(const uint8_t *constraints, size_t constraints_len, const uint8_t *answer, size_t answer_len);
 
@@ -124,6 +127,8 @@ uint64_t cudreth_mark(const uint8_t *constraints, size_t constraints_len, const 
  * Reads a text of 1 to 8 paths, each a line, and writes the constraint file that some tree meets if and only if some tree has a node
  * that every line selects; variable 0 stands for that node. Only the verdict CUDRETH_WRITTEN writes: cudreth_written(result) bytes at
  * the front of `records`; all other bytes stay as they were. `records_len` is the length lent, at least CUDRETH_RECORDS_BYTES.
+ *
+ * A test is a letter in either case, and the byte that stands in the text is the label written; names of axes are small.
  */
 uint64_t cudreth_paths(const uint8_t *text, size_t text_len, uint8_t *records, size_t records_len);
 

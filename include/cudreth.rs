@@ -17,7 +17,7 @@
 #![allow(dead_code)]
 
 /// Rises with each landing that a host can notice. The archive does not know it: take this file and the archive from one commit.
-pub const VERSION: u32 = 4;
+pub const VERSION: u32 = 5;
 
 /// Every record has 4 bytes; a file has no header.
 pub const RECORD_BYTES: usize = 4;
@@ -55,7 +55,7 @@ pub const DIFFER: u8 = 5;
 pub const ROOT: u8 = 6;
 /// The node of x has no child.
 pub const LEAF: u8 = 7;
-/// The node of x has that label, 1 to 255.
+/// The node of x has that label, 1 to 255, a letter in either case.
 pub const LABEL: u8 = 8;
 /// x and y are on siblings, and the node of x has the smaller number.
 pub const BEFORE: u8 = 9;

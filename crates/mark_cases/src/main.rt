@@ -49,6 +49,13 @@ fn answer_questions() {
     mark_answer(b"a_node_4");
 }
 
+// Labels in either case, and two that are no letters.
+fn cases() {
+    marking::mark_files(b"c_capital", b"a_small");
+    marking::mark_files(b"c_small", b"a_capital");
+    marking::mark_files(b"c_bracket", b"a_brace");
+}
+
 // As few nodes as can be: the document node and its child.
 fn smallest() {
     marking::mark_files(b"c_two_nodes", b"a_two_nodes");
@@ -72,6 +79,7 @@ fn main() {
     met_and_unmet();
     constraint_questions();
     answer_questions();
+    cases();
     smallest();
     largest();
     unreadable();
