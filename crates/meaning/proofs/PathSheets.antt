@@ -35,7 +35,7 @@ unfolding vars named moveRecords
 move-vars k (letter b l) x y = let e = axis-named k x y in omega arith
 move-vars k any x y = let e = axis-named k x y in omega arith
 
--- its label, if it has one, is a letter
+-- its label, if it has one, is within the range of letters
 abbrev pub Lettered : Constraint → Type 0
 Lettered = OnLabelOf (λ l. (65 ≤ l) × (l ≤ 122))
 

@@ -1,4 +1,5 @@
--- What solver, marker and path reader promise, of any bytes: demands 1 to 3 in two records, and questions set as paths in a third.
+-- What solver, marker and path reader promise, of any bytes: demands 1 to 3 in two records, and questions set as paths in a third; and what it is for
+-- two files to get one answer.
 use mathlib.Core.Path.{_≡_}
 use mathlib.Core.Logic.{_↔_}
 use mathlib.Core.List.{List, List·Memᴰ}

@@ -6,7 +6,7 @@ ghost use Rattle.constraints.specs.declared.Judgement.the-variants.{Accepted};
 ghost use Rattle.seed.specs.Seeds.{labelled, secondLabel, noFacts, kindRow, RowsOf, TogetherOf, SeedsOf};
 use tables::Facts;
 
-// The tables, or a clash: two labels on one variable, not equal but for case, which no tables hold.
+// The tables, or a clash: two labels on one variable, case aside, which no tables hold.
 pub struct Seeds {
     pub clash: bool,
     pub facts: Facts,
