@@ -111,8 +111,8 @@ enum cudreth_question_number {
  * write the same bytes; a refused file stays refused, by its first bad record. With its variables renumbered one to one an accepted file
  * still has none or a tree, whichever it had, but count and tree may change, and so may whether the allowance is enough.
  *
- * Capitals, labels 65 to 90, count as small letters: two files that are equal but for the case of their labels get the same result and
- * the same bytes, or the same refusal. No tree that is written has a capital.
+ * Capitals, labels 65 to 90, count as small letters: two constraint files that are equal but for the case of their labels get, with the
+ * same allowance and buffers that are long enough, the same result and the same bytes. No tree that is written has a capital.
  */
 uint64_t cudreth_solve(const uint8_t *constraints, size_t constraints_len, uint8_t *answer, size_t answer_len,
                        uint32_t allowance);
@@ -128,7 +128,7 @@ uint64_t cudreth_mark(const uint8_t *constraints, size_t constraints_len, const 
  * that every line selects; variable 0 stands for that node. Only the verdict CUDRETH_WRITTEN writes: cudreth_written(result) bytes at
  * the front of `records`; all other bytes stay as they were. `records_len` is the length lent, at least CUDRETH_RECORDS_BYTES.
  *
- * A test is a letter in either case, and the byte that stands in the text is the label written; names of axes are small.
+ * A test is a letter in either case, whose byte as it stands in the text is the label written, or `*`; names of axes are small.
  */
 uint64_t cudreth_paths(const uint8_t *text, size_t text_len, uint8_t *records, size_t records_len);
 

@@ -188,6 +188,9 @@ impl PathsRead {
 /// The records of an accepted file in another order get, with the same allowance and a buffer that is long enough, the same answer and
 /// write the same bytes; a refused file stays refused, by its first bad record. With its variables renumbered one to one an accepted file
 /// still has none or a tree, whichever it had, but count and tree may change, and so may whether the allowance is enough.
+///
+/// Capitals, labels 65 to 90, count as small letters: two constraint files that are equal but for the case of their labels get, with the
+/// same allowance and buffers that are long enough, the same answer and the same bytes. No tree that is written has a capital.
 pub fn solve(constraints: &[u8], answer: &mut [u8], allowance: u32) -> Solved {
     // Safe: a slice's pointer is valid for its length, and not null where that is 0; `answer` overlaps nothing that is borrowed.
     Solved::decode(unsafe {
@@ -196,7 +199,7 @@ pub fn solve(constraints: &[u8], answer: &mut [u8], allowance: u32) -> Solved {
 }
 
 /// Marks a candidate's answer file. With the same records in another order met stays met; position and kind are those of the first unmet
-/// record in the order of the file that is marked.
+/// record in the order of the file that is marked. The case of labels, in either file, changes nothing.
 pub fn mark(constraints: &[u8], answer: &[u8]) -> Marked {
     // Safe: as in `solve`; nothing is written.
     Marked::decode(unsafe { cudreth_mark(constraints.as_ptr(), constraints.len(), answer.as_ptr(), answer.len()) })
@@ -205,6 +208,8 @@ pub fn mark(constraints: &[u8], answer: &[u8]) -> Marked {
 /// Reads a text of 1 to 8 paths, each a line, and writes the constraint file that some tree meets if and only if some tree has a node
 /// that every line selects; variable 0 stands for that node. Only `PathsRead::Written` writes: `written` bytes at the front of `records`;
 /// all other bytes stay as they were. `records` has at least `RECORDS_BYTES` bytes, or is refused.
+///
+/// A test is a letter in either case, whose byte as it stands in the text is the label written, or `*`; names of axes are small.
 pub fn paths(text: &[u8], records: &mut [u8]) -> PathsRead {
     // Safe: as in `solve`.
     PathsRead::decode(unsafe { cudreth_paths(text.as_ptr(), text.len(), records.as_mut_ptr(), records.len()) })

@@ -118,7 +118,7 @@ pub fn cases() -> Vec<Case> {
     ]
 }
 
-// Blank, and labels of which some are equal and some are not: capitals, small letters, and two that 32 parts as it does letters.
+// Blank, and labels of which some are equal and some are not: capitals, small letters, and two others 32 apart.
 const NAMES: [u8; 8] = [0, 1, b'A', b'a', b'Z', b'z', b'[', b'{'];
 
 // Markers agree on files drawn at random: small bytes, whole records and files that nearly pass, so that every answer comes.

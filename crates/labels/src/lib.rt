@@ -22,7 +22,9 @@ pub fn folded(label: u8) -> u8
 pub fn same(one: u8, other: u8) -> bool
     ensures { λ r. ⌜ r ≡ eqb (folded one) (folded other) ⌝ }
 {
-    folded(one) == folded(other)
+    let first = folded(one);
+    let second = folded(other);
+    first == second
 }
 
 // a to z: how the name of an axis begins.

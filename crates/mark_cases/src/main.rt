@@ -1,5 +1,5 @@
-// Marks the pairs of files in data/, one of each sort: met, unmet by each kind, refused by each question of the marker, files that fill
-// the reader's buffer many times over, and files that cannot be read, of which standard output says nothing.
+// Marks the pairs of files in data/, one of each sort: met, unmet by each kind, refused by each question of the marker, labels in either case,
+// files that fill the reader's buffer many times over, and files that cannot be read, of which standard output says nothing.
 fn mark_sheet(constraints: &[u8]) {
     marking::mark_files(constraints, b"sheet");
 }
@@ -50,7 +50,7 @@ fn answer_questions() {
 }
 
 // Labels in either case, and two that are no letters.
-fn cases() {
+fn either_case() {
     marking::mark_files(b"c_capital", b"a_small");
     marking::mark_files(b"c_small", b"a_capital");
     marking::mark_files(b"c_bracket", b"a_brace");
@@ -79,7 +79,7 @@ fn main() {
     met_and_unmet();
     constraint_questions();
     answer_questions();
-    cases();
+    either_case();
     smallest();
     largest();
     unreadable();

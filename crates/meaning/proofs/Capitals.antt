@@ -1,7 +1,7 @@
 -- Capitals count as small letters: constraint files that are equal but for the case of their labels get one answer from the solver, and one from
 -- the marker with answer files that are so too. Each follows from the promises alone.
 use mathlib.Core.Path.{_≡_, refl, sym, ap, _∙_, subst}
-use mathlib.Core.List.{List, [], _∷_, _++_, map}
+use mathlib.Core.List.{List, [], _∷_, _++_, map, List·Memᴰ·head, List·Memᴰ·tail}
 use Prim.Native.Nat.{ℕ, max, _<_}
 use native.Mathlib.Omega.{arith}
 use lib.ListN.{length, getD, length-map, List·getD-map}
@@ -9,11 +9,11 @@ use Rattle.meaning.specs.Tree.{Node, SameLabel, Assignment, Tree, Parent
 use Rattle.meaning.specs.Constraint.{Constraint, is-child, is-below, is-strictly-below, is-same, is-differ, is-root, is-leaf, is-label, is-before, Meets, vars, factsOf}
 use Rattle.meaning.specs.ReadOff.{NodeRecord, blankRecord, treeOf}
 use Rattle.meaning.specs.Marking.{Mark, unmet, Marks, all-met, not-met, is-met}
-use Rattle.meaning.specs.Files.{smallLabels, Judged, refused, accepted, judge, JudgedAnswer, refused-answer, accepted-answer, judgeAnswer, assigned}
+use Rattle.meaning.specs.Files.{quad, quads, smallLabels, NoCapitals, Judged, refused, accepted, judge, JudgedAnswer, refused-answer, accepted-answer, judgeAnswer, assigned}
 use Rattle.meaning.specs.Results.{Marked, marker-refuses, marker-answers}
 use Rattle.meaning.specs.Promises.{MarkerPromise}
 use Rattle.meaning.specs.Capitals.{EqualButForCase, CaseAside}
-use Rattle.meaning.proofs.Labels.{folded-twice}
+use Rattle.meaning.proofs.Labels.{folded-other, folded-twice}
 use Rattle.meaning.proofs.Congruence.{SameFacts}
 use Rattle.meaning.proofs.SameAnswer.{one-refusal, one-answer}
 use Rattle.meaning.proofs.RecasedFiles.{small-kept, Seen, seen, seenFile, file-seen, smallNode, smallAnswer, answer-seen}
@@ -78,19 +78,19 @@ facts-vars (c ∷ cs) (d ∷ ds) e =
 seen-meets : {t u : Tree} → Recased t u → (a : Assignment) (c d : Constraint) → seen c ≡ seen d → Meets t a c → Meets u a d
 seen-meets {t} r a c d e h = meets-kept r a d (coe 0 1 (i. e i .meets t a) h)
 
-not-none : {s : Seen} {ss : List Seen} → s ∷ ss ≡ [] → ⊥
-not-none e = let z : _≡_ {A = ℕ} 0 1 = cc in omega arith
+not-empty : {s : Seen} {ss : List Seen} → s ∷ ss ≡ [] → ⊥
+not-empty e = let z : _≡_ {A = ℕ} 0 1 = cc in omega arith
 
 -- the first that is not met stands at the same place and is of the same kind
 marks-kept : {t u : Tree} → Recased t u → {a : Assignment} {cs : List Constraint} {m : Mark} → Marks t a cs m
     → (ds : List Constraint) → map seen cs ≡ map seen ds → Marks u a ds m
 marks-kept r all-met [] e = all-met
-marks-kept r all-met (d ∷ ds) e = absurd (not-none (sym e))
-marks-kept r (not-met h) [] e = absurd (not-none e)
+marks-kept r all-met (d ∷ ds) e = absurd (not-empty (sym e))
+marks-kept r (not-met h) [] e = absurd (not-empty e)
 marks-kept {u = u} r {a = a} (not-met {c} h) (d ∷ ds) e =
     let s : seen d ≡ seen c = cc in
     subst (λ (k : ℕ). Marks u a (d ∷ ds) (unmet 0 k)) (ap (λ (x : Seen). x .kind) s) (not-met (λ m. h (seen-meets (recased-back r) a d c s m)))
-marks-kept r (is-met h w) [] e = absurd (not-none e)
+marks-kept r (is-met h w) [] e = absurd (not-empty e)
 marks-kept r {a = a} (is-met {c} h w) (d ∷ ds) e = let s : seen c ≡ seen d = cc in is-met (seen-meets r a c d s h) (marks-kept r w ds (cc))
 
 -- ---- files
@@ -99,6 +99,15 @@ marks-kept r {a = a} (is-met {c} h w) (d ∷ ds) e = let s : seen c ≡ seen d =
 pub made-small : (bs : List ℕ) → EqualButForCase bs (smallLabels bs)
 unfolding smallLabels
 made-small bs = sym (small-kept smallLabels (λ a b c d bs cs e. cc (folded-twice d)) bs)
+
+-- a file without capitals is its own small one
+pub kept-small : (bs : List ℕ) → NoCapitals bs → smallLabels bs ≡ bs
+unfolding smallLabels quads
+kept-small [] h = refl
+kept-small (a ∷ []) h = refl
+kept-small (a ∷ b ∷ []) h = refl
+kept-small (a ∷ b ∷ c ∷ []) h = refl
+kept-small (a ∷ b ∷ c ∷ d ∷ bs) h = cc (folded-other d (h (quad a b c d) (List·Memᴰ·head refl)), kept-small bs (λ q m. h q (List·Memᴰ·tail m)))
 
 -- of two accepted files
 module _ {file other answer drawn : List ℕ} {r s : Marked} (u : MarkerPromise file answer r) (v : MarkerPromise other drawn s)

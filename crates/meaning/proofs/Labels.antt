@@ -6,7 +6,11 @@ use native.Mathlib.Omega.{arith}
 use lib.Dec.{leb}
 use Rattle.meaning.specs.Finite.{Yes, _and_}
 use Rattle.meaning.specs.Tree.{Label, isCapital, folded, SameLabel}
-use Rattle.meaning.proofs.Tests.{and-left, and-right, pick-yes, pick-no, pick-either, is-le}
+use Rattle.meaning.proofs.Tests.{and-left, and-right, and-both, pick-yes, pick-no, pick-either, is-le, le-yes}
+
+pub range-capital : (l : Label) → 65 ≤ l → l ≤ 90 → Yes (isCapital l)
+unfolding isCapital
+range-capital l a b = and-both (le-yes a) (le-yes b)
 
 pub capital-range : (l : Label) → Yes (isCapital l) → (65 ≤ l) × (l ≤ 90)
 unfolding isCapital
@@ -19,6 +23,13 @@ folded-capital l y = pick-yes _ _ y
 pub folded-other : (l : Label) → ¬ Yes (isCapital l) → folded l ≡ l
 unfolding folded
 folded-other l n = pick-no _ _ n
+
+-- "Labels 65 to 90 equal their small letters 97 to 122"
+pub capital-same : (l : Label) → 65 ≤ l → l ≤ 90 → SameLabel l (l + 32)
+capital-same l a b =
+    let f = folded-capital l (range-capital l a b) in
+    let g = folded-other (l + 32) (λ y. let c = capital-range (l + 32) y .1 in omega arith) in
+    cc
 
 -- what it has of a capital and of any other label
 pub folded-either : (P : Label → Type 0) (l : Label) → (Yes (isCapital l) → P (l + 32)) → (¬ Yes (isCapital l) → P l) → P (folded l)

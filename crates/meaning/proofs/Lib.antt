@@ -16,7 +16,7 @@ pub mod Records
 -- joins: the first is one, and one of its alternatives holds; how many alternatives a search enters
 pub mod Joins
 pub mod Choices
--- the search sees its facts as a set, so the answer depends on the set of constraints
+-- the search sees its facts as a set, so the answer depends on the set of given facts
 pub mod Congruence
 pub mod SameAnswer
 -- how many nodes are read off

@@ -6,10 +6,10 @@ use mathlib.Core.List.{List, [], _∷_, _++_, List·Memᴰ, List·Memᴰ·head, 
 use Prim.Native.Nat.{_<_}
 use native.Mathlib.Nat.{lt-irrefl}
 use native.Mathlib.Omega.{arith}
-use Rattle.meaning.specs.Tree.{Var, Node, folded, Assignment, Tree, IsTree, Parent, Above, self, up}
+use Rattle.meaning.specs.Tree.{Var, Node, Label, folded, Assignment, Tree, IsTree, Parent, Above, self, up}
 use Rattle.meaning.specs.Constraint.{Constraint, is-label, Meets}
 use Rattle.meaning.specs.Paths.{Axis, to-self, to-child, to-parent, to-descendant, to-ancestor, to-descendant-or-self, to-ancestor-or-self, to-following-sibling, to-preceding-sibling, Test, letter, any}
-use Rattle.meaning.specs.Selection.{Denotes, axisExpr, testExpr}
+use Rattle.meaning.specs.Selection.{Denotes, axisExpr, testExpr, tag}
 use Rattle.meaning.specs.PathRecords.{axisRecord, moveRecords}
 use Rattle.meaning.proofs.Trees.{parent-smaller, above-le, above-trans}
 
@@ -70,6 +70,9 @@ module _ (t : Tree) (i : IsTree t) where
     pub met-append : (cs ds : List Constraint) → Met cs → Met ds → Met (cs ++ ds)
     met-append cs ds h k c m = ⊎-elim (h c) (k c) (List·Memᴰ·append-cases cs m)
 
+    label-denotes : (y : Var) (b : Label) → Meets t a (is-label y b) → Denotes t (tag b) (a y) (a y)
+    label-denotes y b h = (refl, cc)
+
     pub move-meets : (k : Axis) (q : Test) (x y : Var) → Denotes t (testExpr q (axisExpr k)) (a x) (a y) → Met (moveRecords k q x y)
     unfolding testExpr moveRecords
     move-meets k (letter b l) x y d =
@@ -81,5 +84,5 @@ module _ (t : Tree) (i : IsTree t) where
     pub move-denotes : (k : Axis) (q : Test) (x y : Var) → a y < t .size → Met (moveRecords k q x y) → Denotes t (testExpr q (axisExpr k)) (a x) (a y)
     unfolding testExpr moveRecords
     move-denotes k (letter b l) x y ins m =
-        (a y, ins, axis-denotes k x y (m _ (List·Memᴰ·head refl)), (refl, m (is-label y b) (List·Memᴰ·tail (List·Memᴰ·head refl))))
+        (a y, ins, axis-denotes k x y (m _ (List·Memᴰ·head refl)), label-denotes y b (m (is-label y b) (List·Memᴰ·tail (List·Memᴰ·head refl))))
     move-denotes k any x y ins m = axis-denotes k x y (m _ (List·Memᴰ·head refl))

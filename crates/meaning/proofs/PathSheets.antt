@@ -35,9 +35,9 @@ unfolding vars named moveRecords
 move-vars k (letter b l) x y = let e = axis-named k x y in omega arith
 move-vars k any x y = let e = axis-named k x y in omega arith
 
--- its label, if it has one, is within the range of letters
+-- its label, if it has one, is a letter
 abbrev pub Lettered : Constraint → Type 0
-Lettered = OnLabelOf (λ l. (65 ≤ l) × (l ≤ 122))
+Lettered = OnLabelOf (λ l. Yes (isLetter l))
 
 axis-lettered : (k : Axis) (x y : Var) → Lettered (axisRecord k x y)
 unfolding axisRecord
@@ -69,7 +69,7 @@ move-lettered : (k : Axis) (t : Test) (x y : Var) (c : Constraint) → List·Mem
 unfolding moveRecords
 move-lettered k (letter b l) x y c m =
     ⊎-elim (λ e. subst Lettered (sym e) (axis-lettered k x y))
-    (λ m. ⊎-elim (λ e. subst Lettered (sym e) (letter-range b l)) (λ m. absurd (List·Memᴰ·not-nil m)) (List·Memᴰ·cases-cons m))
+    (λ m. ⊎-elim (λ e. subst Lettered (sym e) l) (λ m. absurd (List·Memᴰ·not-nil m)) (List·Memᴰ·cases-cons m))
     (List·Memᴰ·cases-cons m)
 move-lettered k any x y c m =
     ⊎-elim (λ e. subst Lettered (sym e) (axis-lettered k x y)) (λ m. absurd (List·Memᴰ·not-nil m)) (List·Memᴰ·cases-cons m)

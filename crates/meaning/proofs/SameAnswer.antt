@@ -66,7 +66,8 @@ module _ {A : ℕ} {file other buffer after lent later : List ℕ} {r s : Solved
   and-bytes : s ≡ r → (s ≡ r) × (after ≡ written r buffer) × (later ≡ written r lent)
   and-bytes e = (e, u .wrote, v .wrote ∙ ap (λ (x : Solved). written x lent) e)
 
-  answered-alike : SameRoom buffer lent → {cs ds : List Constraint} → judge file ≡ accepted cs → judge other ≡ accepted ds → SameFacts (factsOf cs) (factsOf ds) → vars ds ≡ vars cs → s ≡ r
+  answered-alike : SameRoom buffer lent → {cs ds : List Constraint} → judge file ≡ accepted cs → judge other ≡ accepted ds
+      → SameFacts (factsOf cs) (factsOf ds) → vars ds ≡ vars cs → s ≡ r
   answered-alike room {cs} {ds} e f same n = go (decLe 136 (length buffer))
     where
       go : Dec (136 ≤ length buffer) → s ≡ r

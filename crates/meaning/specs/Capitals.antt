@@ -13,6 +13,6 @@ EqualButForCase file other = smallLabels file ≡ smallLabels other
 -- of any bytes, also of files that are refused
 pub record CaseAside (file other : List ℕ) : Type 0 where
   pub solved : OneAnswer file other
-  -- whichever of two answer files the marker is given with each
+  -- with answer files that are equal but for case too
   pub marked : {answer drawn : List ℕ} {r s : Marked} → EqualButForCase answer drawn
       → MarkerPromise file answer r → MarkerPromise other drawn s → s ≡ r

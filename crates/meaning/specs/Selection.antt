@@ -25,7 +25,7 @@ Denotes t ⟵ n n′ = EarlierSibling t n′ n
 Denotes t ⟶ n n′ = EarlierSibling t n n′
 -- (8)
 Denotes t document-root n n′ = n′ ≡ 0
--- (9)
+-- (9), labels compared with capitals as small letters
 Denotes t (tag l) n n′ = (n ≡ n′) × SameLabel (t .label n) l
 -- (10) p₁/p₂
 Denotes t (over p₁ p₂) n n′ = (n″ : Node) × (n″ < t .size) × Denotes t p₁ n n″ × Denotes t p₂ n″ n′

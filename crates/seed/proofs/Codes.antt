@@ -34,7 +34,7 @@ variables-named c = let e = named-record c in (omega arith, omega arith)
 -- ---- a fact's constraints
 
 module _ (cs : List Constraint) where
-  -- a label that is l where labels are compared
+  -- a label record of x whose label, its capital made small, is l
   abbrev pub Labelled : Var → Label → Type 0
   Labelled x l = (k : Label) × List·Memᴰ (is-label x k) cs × (folded k ≡ l)
 

@@ -162,7 +162,8 @@ module _ (cs : List Constraint) (i : ℕ) (over : drop i cs ≡ []) (small : (c 
       label-are : (x l : ℕ) → Yes (has f (label x l)) ↔ Source cs (label x l)
       label-are x l = (
         λ u. let v = label-is f x l u in s .labels .from x l (ap (λ (t : List ℕ). row t x) (sym (w .names-kept)) ∙ v .0) (v .1),
-        λ m. ⊎-elim (λ n. absurd (List·Memᴰ·not-nil (rw over at n))) (λ v. label-has f x l (ap (λ (t : List ℕ). row t x) (w .names-kept) ∙ v .0 ∙ m .2) (λ z. v .1 (m .2 ∙ z))) (s .labels .to x (m .0) (m .1)),
+        λ m. ⊎-elim (λ n. absurd (List·Memᴰ·not-nil (rw over at n)))
+            (λ v. label-has f x l (ap (λ (t : List ℕ). row t x) (w .names-kept) ∙ v .0 ∙ m .2) (λ z. v .1 (m .2 ∙ z))) (s .labels .to x (m .0) (m .1)),
       )
 
       apart-to : (x y : ℕ) → Unlike x y → Sown (factsOf cs) (differ x y)

@@ -314,7 +314,7 @@ module _ {N : Type 0} (T : AnyTree N) where
         let e : number-of (node-of i) ≡ i = node-number i l in
         let s : number-of (parent-of (node-of i)) < number-of (node-of i) = number-smaller _ _ (key-parent (parent-there (node-of i) (not-root (node-of i) (omega arith)))) in
         omega arith;
-    small-label = λ i l. b (node-of i);
+    byte-label = λ i l. b (node-of i);
   }
     where
       two : 1 < size-of

@@ -7,13 +7,14 @@ use native.Mathlib.Nat.{le-trans, mul-mod-left}
 use native.Mathlib.Omega.{arith}
 use lib.ListN.{length}
 use Rattle.meaning.specs.Tree.{Label}
+use Rattle.meaning.specs.Finite.{Yes}
 use Rattle.meaning.specs.Constraint.{Constraint, named}
 use Rattle.meaning.specs.Files.{Quad, quads, quadOf, accepted, judge}
-use Rattle.meaning.specs.Paths.{Path}
+use Rattle.meaning.specs.Paths.{isLetter, Path}
 use Rattle.meaning.specs.PathRecords.{blankSheet, recordsOf, variablesOf, recordBytes, fileBytes}
 use Rattle.meaning.proofs.Constraints.{on-label-of}
 use Rattle.meaning.proofs.Records.{Askable, file-accepted}
-use Rattle.meaning.proofs.PathSheets.{Lettered, blank-fine, lines-grown}
+use Rattle.meaning.proofs.PathSheets.{letter-range, Lettered, blank-fine, lines-grown}
 use Rattle.meaning.proofs.PathCounts.{records-few, records-most}
 
 pub file-length : (cs : List Constraint) → length (fileBytes cs) ≡ length cs * 4
@@ -36,7 +37,7 @@ records-lettered ps c m = lines-grown ps blankSheet blank-fine .fine .lettered c
 
 records-askable : (ps : List Path) → variablesOf ps ≤ 16 → (c : Constraint) → List·Memᴰ c (recordsOf ps) → Askable c
 records-askable ps h c m =
-    record { few = records-low ps h c m; labelled = on-label-of c (λ (l : Label) (r : (65 ≤ l) × (l ≤ 122)). let k = r .0 in omega arith) (records-lettered ps c m) }
+    record { few = records-low ps h c m; labelled = on-label-of c (λ (l : Label) (y : Yes (isLetter l)). let k = letter-range l y .0 in omega arith) (records-lettered ps c m) }
 
 -- questions 1 to 6 let the bytes in, with the records as constraints; their n is the number of variables (PathCounts: variables-are)
 pub bytes-accepted : (ps : List Path) → length ps ≤ 8 → variablesOf ps ≤ 16 → judge (fileBytes (recordsOf ps)) ≡ accepted (recordsOf ps)

@@ -105,8 +105,8 @@ not-small r (inl e) y = false≢true (subst (λ (b : ℕ). Yes (isSmall b)) e y)
 not-small r (inr e) y = false≢true (subst (λ (b : ℕ). Yes (isSmall b)) e y)
 
 -- a small letter is not /
-small-not : (b : ℕ) → Yes (isSmall b) → ¬ Yes (eqb b 47)
-small-not b l y = let h = small-range b l .0 in let e : b ≡ 47 = is-eq y in omega arith
+small-not-slash : (b : ℕ) → Yes (isSmall b) → ¬ Yes (eqb b 47)
+small-not-slash b l y = let h = small-range b l .0 in let e : b ≡ 47 = is-eq y in omega arith
 
 -- no bracket follows
 brackets-none : (s : Step) (r : List ℕ) → ¬ Yes (eqb (byte r) 91) → (k : ℕ) → 4 * length r < k → bracketsAt k s r ≡ got s r
@@ -149,7 +149,7 @@ path-root ss r q k l e = pick-yes _ _ refl ∙ pick-yes _ _ l ∙ ap (λ (g : Go
 
 path-here : (ss : Steps) (r q : List ℕ) (k : ℕ) → Yes (isSmall (byte q)) → stepsAt k q ≡ got ss r → pathAt (suc k) q ≡ got (from-here ss) r
 unfolding pathAt
-path-here ss r q k l e = pick-no _ _ (small-not (byte q) l) ∙ ap (λ (g : Got Steps). andThen g λ ss r. got (from-here ss) r) e
+path-here ss r q k l e = pick-no _ _ (small-not-slash (byte q) l) ∙ ap (λ (g : Got Steps). andThen g λ ss r. got (from-here ss) r) e
 
 length-step : (s : Step) (r : List ℕ) → length r < length (stepText s ++ r)
 length-step (move a t) r =
