@@ -3,16 +3,14 @@
 use crate::rounds::Solved;
 use crate::{disagree, Comparison};
 use questions::capitals::{
-    answer_has_capital, apart, capital, in_either_case, question_has_capital, relabelled_answer, relabelled_lines,
-    relabelled_question, small,
+    answer_has_capital, apart, capital, has_both_cases, in_either_case, question_has_capital, relabelled_answer,
+    relabelled_lines, relabelled_question, small,
 };
 use second::closure::Clash;
-use second::constraint::{self, number_of_variables, Constraint, Variable};
 use second::path::{text_of, Path};
 use second::search::Trace;
 use second::verdict::{hex, MarkerVerdict, PathsVerdict, SolverVerdict};
-use second::{answer, LEAST_BUFFER};
-use std::collections::BTreeSet;
+use second::LEAST_BUFFER;
 
 pub const CAPITALS: [&str; 20] = [
     "a capital written as its small letter",
@@ -61,23 +59,7 @@ impl Comparison {
     /// Of a question with a capital that has a tree.
     fn note_letters(&mut self, file: &[u8], answer_file: &[u8]) {
         self.capitals.note("a capital written as its small letter");
-        let constraints = constraint::read(file).expect("an accepted file");
-        let (_, assignment) =
-            answer::read(answer_file, number_of_variables(&constraints)).expect("an answer of the second solver");
-        let asked: BTreeSet<(Variable, u8)> = constraints
-            .iter()
-            .filter_map(|&record| match record {
-                Constraint::Label(x, label) => Some((x, label)),
-                _ => None,
-            })
-            .collect();
-        let is_in_both_cases = |on_one_variable: bool| {
-            let mut pairs = asked.iter().flat_map(|x| asked.iter().map(move |y| (x, y)));
-            pairs.any(|((x, label), (y, other))| {
-                (x == y) == on_one_variable && label != other && assignment.node_of(*x) == assignment.node_of(*y)
-            })
-        };
-        let (one, two) = (is_in_both_cases(true), is_in_both_cases(false));
+        let (one, two) = (has_both_cases(file, answer_file, true), has_both_cases(file, answer_file, false));
         self.capitals.note_if(one, "a tree with both cases of a letter on one variable");
         self.capitals.note_if(two, "a tree with both cases of a letter on two variables of one node");
     }

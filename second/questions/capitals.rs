@@ -3,8 +3,10 @@
 //! on which letters are equal.
 
 use crate::Random;
-use second::constraint::{Constraint, Variable};
+use second::answer;
+use second::constraint::{self, number_of_variables, Constraint, Variable};
 use second::path::{Path, Step, Test};
+use std::collections::BTreeSet;
 
 pub fn small(label: u8) -> u8 {
     label.to_ascii_lowercase()
@@ -78,6 +80,22 @@ pub fn answer_has_capital(file: &[u8]) -> bool {
 
 fn has_capital(file: &[u8], kind: u8) -> bool {
     file.chunks_exact(4).any(|record| record[0] == kind && record[3].is_ascii_uppercase())
+}
+
+/// Of an accepted question and its tree: is a label asked in both cases on one node, of one variable or of two?
+pub fn has_both_cases(file: &[u8], answer_file: &[u8], on_one_variable: bool) -> bool {
+    let constraints = constraint::read(file).expect("an accepted file");
+    let (_, assignment) =
+        answer::read(answer_file, number_of_variables(&constraints)).expect("an answer of the second solver");
+    let label_asked = |&record: &Constraint| match record {
+        Constraint::Label(x, label) => Some((x, label)),
+        _ => None,
+    };
+    let asked: BTreeSet<(Variable, u8)> = constraints.iter().filter_map(label_asked).collect();
+    let mut pairs = asked.iter().flat_map(|x| asked.iter().map(move |y| (x, y)));
+    pairs.any(|((x, label), (y, other))| {
+        (x == y) == on_one_variable && label != other && assignment.node_of(*x) == assignment.node_of(*y)
+    })
 }
 
 /// A path down from the root whose nodes have letters, and others with letters that must stand on it: which alternatives clash hangs on which
