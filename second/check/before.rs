@@ -1,6 +1,7 @@
 //! A stored file as it was before a request that changed answers in it. What the request does to every answer alike is undone here; the
 //! questions of which it changed more are listed as they were, and each of these must have changed by a rule of the request.
 
+use crate::changes::{print_by_sort, print_listed};
 use crate::{fail, text_of};
 use second::search::Trace;
 use second::tree::{Assignment, Node, Tree, DOCUMENT_NODE, OUTERMOST_ELEMENT};
@@ -15,11 +16,14 @@ pub struct Request {
     undone: fn(&str) -> String,
     /// Why a line that is listed as it was may have changed to what it is.
     pub why: fn(&str, &str) -> Result<String, String>,
+    /// Prints what it changed.
+    pub changes: fn(&Request, &str, &str),
 }
 
-pub const REQUESTS: [(&str, Request); 2] = [
-    ("iii", Request { undone: str::to_string, why: why_by_kind_9 }),
-    ("v", Request { undone: without_document_node, why: why_by_document_node }),
+pub const REQUESTS: [(&str, Request); 3] = [
+    ("iii", Request { undone: str::to_string, why: why_by_kind_9, changes: print_listed }),
+    ("v", Request { undone: without_document_node, why: why_by_document_node, changes: print_by_sort }),
+    ("vi", Request { undone: str::to_string, why: why_by_capitals, changes: print_listed }),
 ];
 
 /// `lines` are the questions listed, as they were; each stands in the file under its name.
@@ -61,6 +65,35 @@ fn why_by_kind_9(before: &str, now: &str) -> Result<String, String> {
         Some("refused 3") => Err("has not changed".to_string()),
         Some(_) => Ok("kind 9 passes question 3".to_string()),
     }
+}
+
+/// A tree carried labels 65 to 90 as the records write them, and carries their small letters now; all else of the question is as it was.
+fn why_by_capitals(before: &str, now: &str) -> Result<String, String> {
+    let Some(Question { name, file, expected: Expected::Solver { buffer, allowance, verdict } }) =
+        written::stored_question(before)
+    else {
+        return Err("was no question to the solver".to_string());
+    };
+    if now == before {
+        return Err("has not changed".to_string());
+    }
+    let is_capital = |record: &[u8]| record[0] == 8 && (65..=90).contains(&record[3]);
+    if !file.chunks(4).any(is_capital) {
+        return Err("has no label 65 to 90".to_string());
+    }
+    let SolverVerdict::Tree { count, mut answer } = verdict else {
+        return Err("was no tree".to_string());
+    };
+    let mut changed = Vec::new();
+    for node in answer.chunks_mut(4).filter(|record| record[0] == 1 && (65..=90).contains(&record[3])) {
+        changed.push(format!("node {}: {}, now {}", node[1], node[3], node[3] + 32));
+        node[3] += 32;
+    }
+    let verdict = SolverVerdict::Tree { count, answer };
+    if now != format!("{name} solve {} {buffer} {allowance} {verdict}", hex(&file)) {
+        return Err("has changed by more than the case of labels".to_string());
+    }
+    Ok(changed.join("; "))
 }
 
 /// The shortest buffer was 132 bytes, and a tree had no nodes but those of groups and a blank one over several.

@@ -1,4 +1,4 @@
-//! What request (v) changed in the stored questions: how many of each sort, and a row for each whose verdict or count is another.
+//! What a request changed in the stored questions, in markdown.
 
 use crate::before::{added_node, drawn, name_of, pairs, without_document_node, Request};
 use crate::fail;
@@ -7,8 +7,20 @@ use second::verdict::SolverVerdict;
 use std::collections::BTreeMap;
 use written::Expected;
 
-/// In markdown.
-pub fn print(request: &Request, lines: &str, path: &str) {
+/// A row for each question that is listed as it was.
+pub fn print_listed(request: &Request, lines: &str, path: &str) {
+    println!("| {path} | by |\n|---|---|");
+    for (now, before) in pairs(lines, path) {
+        if let Some(before) = before {
+            let why = (request.why)(&before, &now).unwrap_or_else(|how| fail(lines, &how));
+            println!("| {} | {why} |", name_of(&now));
+        }
+    }
+    println!();
+}
+
+/// Of request (v): how many of each sort, and a row for each whose verdict or count is another.
+pub fn print_by_sort(request: &Request, lines: &str, path: &str) {
     let mut sorts: BTreeMap<String, usize> = BTreeMap::new();
     let mut rows = Vec::new();
     for (now, before) in pairs(lines, path) {

@@ -1,7 +1,7 @@
 //! Holds the second side and the archive to the stored questions and to the examples. After a change of the rules, `again` prints a
 //! stored file with the verdicts that the second solver now gives: its diff with the file lists the stored answers that change.
 //!
-//! `before` prints a stored file as it was before request iii or v, and fails if more than that request asks has changed since; `changes`
+//! `before` prints a stored file as it was before request iii, v or vi, and fails if more than that request asks has changed since; `changes`
 //! prints what the request changed.
 //!
 //! usage: check stored FILE... | check examples FILE... | check again FILE | check before|changes REQUEST LINES FILE
@@ -20,7 +20,10 @@ fn main() {
         ["examples", files @ ..] => hold_files(files, written::examples),
         ["again", file] => print_again(file),
         ["before", request, lines, file] => before::print(request_named(request), lines, file),
-        ["changes", request, lines, file] => changes::print(request_named(request), lines, file),
+        ["changes", request, lines, file] => {
+            let request = request_named(request);
+            (request.changes)(request, lines, file);
+        }
         _ => usage(),
     }
 }
@@ -79,7 +82,7 @@ fn text_of(path: &str) -> String {
 }
 
 fn fail(path: &str, how: &str) -> ! {
-    println!("{path}: {how}");
+    eprintln!("{path}: {how}");
     std::process::exit(1);
 }
 

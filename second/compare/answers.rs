@@ -29,6 +29,7 @@ impl Comparison {
         for answer_file in &answer_files {
             self.mark("whole answers", &solved.file, answer_file);
             self.marked_in_another_order(&solved.file, answer_file);
+            self.marked_in_other_case(&solved.file, answer_file);
         }
         if self.random.one_in(4) {
             let at = self.random.below(answer_files.len());
@@ -42,7 +43,8 @@ impl Comparison {
         for at in 0..answer_file.len() {
             let right = answer_file[at];
             let chance = self.random.byte();
-            for wrong in [right.wrapping_add(1), right.wrapping_sub(1), 0, 1, 2, 255, chance] {
+            // With bit 5 changed a letter is in the other case.
+            for wrong in [right.wrapping_add(1), right.wrapping_sub(1), right ^ 32, 0, 1, 2, 255, chance] {
                 mutant[at] = wrong;
                 self.mark(SORT, file, &mutant);
             }

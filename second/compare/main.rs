@@ -6,6 +6,8 @@
 mod answers;
 mod brothers;
 mod came_up;
+mod capital_paths;
+mod capitals;
 mod document;
 mod meaning;
 mod one_pass;
@@ -18,12 +20,14 @@ mod rounds;
 mod selection;
 mod shuffled;
 mod small;
+mod small_capitals;
 mod small_document;
 mod small_passes;
 mod small_shuffles;
 
 use brothers::BROTHERS;
 use came_up::CameUp;
+use capitals::CAPITALS;
 use document::DOCUMENT;
 use meaning::all_ordered_trees;
 use one_pass::PASSES;
@@ -49,6 +53,7 @@ struct Comparison {
     against_all_small_trees: u64,
     brothers: CameUp,
     document: CameUp,
+    capitals: CameUp,
     shuffles: CameUp,
     passes: CameUp,
     path_sorts: PathSorts,
@@ -80,6 +85,7 @@ fn main() {
         against_all_small_trees: 0,
         brothers: CameUp::new(&BROTHERS),
         document: CameUp::new(&DOCUMENT),
+        capitals: CameUp::new(&CAPITALS),
         shuffles: CameUp::new(&SHUFFLES),
         passes: CameUp::new(&PASSES),
         path_sorts: PathSorts::default(),
@@ -92,9 +98,11 @@ fn main() {
     comparison.all_small_questions();
     comparison.all_small_answers();
     comparison.all_small_documents();
+    comparison.all_small_capitals();
     comparison.all_small_shuffles();
     comparison.all_small_passes();
     comparison.all_small_paths();
+    comparison.all_small_paths_with_capitals();
     let deadline = Instant::now() + Duration::from_secs(seconds);
     while Instant::now() < deadline {
         comparison.round();
@@ -143,6 +151,7 @@ impl Comparison {
         self.hold_solver(sort, file, buffer, allowance, &verdict);
         self.note_brothers(file, &verdict, &trace);
         self.note_document(file, buffer, &verdict, &trace);
+        self.note_capitals(file, &verdict, &trace);
         verdict
     }
 
@@ -158,6 +167,7 @@ impl Comparison {
         };
         self.tally(sort, verdict);
         self.note_document_marked(answer_file, &expected);
+        self.note_capitals_marked(file, answer_file, &expected);
         expected
     }
 
@@ -169,7 +179,7 @@ impl Comparison {
             .chain([7, 13, 14].map(|question| format!("paths refused {question}")))
             .chain(["tree", "none", "spent", "met", "paths written"].map(String::from));
         let not_seen = must_be_seen.into_iter().find(|verdict| !self.seen.contains_key(verdict));
-        let came_up = [&self.brothers, &self.document, &self.shuffles, &self.passes];
+        let came_up = [&self.brothers, &self.document, &self.capitals, &self.shuffles, &self.passes];
         let not_seen = not_seen.or_else(|| came_up.into_iter().find_map(CameUp::missing));
         if let Some(sort) = not_seen.or_else(|| self.path_sort_not_seen()) {
             println!("compare: '{sort}' never came up; a longer run is needed");
@@ -182,6 +192,7 @@ impl Comparison {
         println!("compare: {} verdicts of the second solver agree with all small trees", self.against_all_small_trees);
         println!("compare: brothers in order: {}", self.brothers);
         println!("compare: the document node: {}", self.document);
+        println!("compare: capitals: {}", self.capitals);
         println!("compare: shuffled papers: {}", self.shuffles);
         println!("compare: one pass: {}", self.passes);
         let Selections { trees, nones, tree_by_tree } = self.selections;

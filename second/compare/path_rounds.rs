@@ -35,6 +35,7 @@ impl Comparison {
         }
         let text = text_of(&lines);
         let verdict = self.text("random texts", &text);
+        self.text_in_other_case(&lines, &verdict);
         for buffer in [0, 1, 1023] {
             self.paths("random texts and buffers", &text, buffer);
         }

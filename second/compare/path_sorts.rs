@@ -26,7 +26,12 @@ impl Comparison {
         );
         for step in &path.steps {
             self.note(step.axis.name(), in_brackets as usize);
-            self.note(if step.test == Test::Any { "*" } else { "a letter" }, in_brackets as usize);
+            let test = match step.test {
+                Test::Any => "*",
+                Test::Letter(b'A'..=b'Z') => "a capital",
+                Test::Letter(_) => "a small letter",
+            };
+            self.note(test, in_brackets as usize);
             step.brackets.iter().for_each(|path| self.note_path(path, true));
         }
     }
@@ -35,7 +40,7 @@ impl Comparison {
     pub fn path_sort_not_seen(&self) -> Option<String> {
         let starts = ["/ alone as a line", "a line from the root", "a line from any node"];
         let in_brackets = ["/ alone in brackets", "brackets from the root", "brackets from their node"];
-        let words = AXES.map(|(_, name)| name).into_iter().chain(["*", "a letter"]);
+        let words = AXES.map(|(_, name)| name).into_iter().chain(["*", "a capital", "a small letter"]);
         let mut sorts: Vec<(&str, usize)> = starts.into_iter().chain(in_brackets).map(|sort| (sort, 0)).collect();
         sorts.extend(words.flat_map(|word| [(word, 0), (word, 1)]));
         sorts.extend((1..=8).map(|lines| ("lines", lines)));

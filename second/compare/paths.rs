@@ -9,14 +9,16 @@ use second::{Refusal, LEAST_RECORDS_BUFFER};
 const ROOT_ALONE: Path = Path { from_root: true, steps: Vec::new() };
 
 /// Right texts that have every word of the form in every place.
-const RIGHT: [&str; 18] = [
+const RIGHT: [&str; 20] = [
     "/\n",
     "/\n/\n",
     "self::a\n",
     "/self::*\n",
     "child::a[child::b]/child::c\n",
+    "child::A[child::b]/child::C\n",
     "/child::a/parent::*\n",
     "descendant::z[/]\n",
+    "descendant::Z[/self::m][child::M]\n",
     "ancestor::a[/self::b]\n",
     "descendant-or-self::a\n/\n",
     "ancestor-or-self::*[self::*][/]\n",
@@ -150,10 +152,30 @@ impl Comparison {
         }
     }
 
+    /// A letter is written as the byte that stands in the text, `*` writes no label, and no other byte is a test.
     fn every_byte_as_test(&mut self) {
-        for byte in 0..=255 {
-            self.text("every byte as a test", &[b"self::", &[byte][..], b"\n"].concat());
-            self.text("every byte as a test", &[b"child::*[parent::", &[byte][..], b"]\n"].concat());
+        const SORT: &str = "every byte as a test";
+        let outside = ("self::", "\n", vec![4, 1, 0, 0], 0);
+        let in_brackets = ("child::*[parent::", "]\n", vec![1, 1, 0, 0, 1, 2, 0, 0], 2);
+        for (front, back, axis_records, reached) in [outside, in_brackets] {
+            for byte in 0..=255u8 {
+                let expected = match byte {
+                    b'*' => PathsVerdict::Written(axis_records.clone()),
+                    _ if byte.is_ascii_alphabetic() => {
+                        PathsVerdict::Written([&axis_records[..], &[8, reached, 0, byte]].concat())
+                    }
+                    _ => PathsVerdict::Refused(Refusal(13)),
+                };
+                self.hold_text_by_rule(SORT, &[front.as_bytes(), &[byte], back.as_bytes()].concat(), &expected);
+            }
+        }
+    }
+
+    pub fn hold_text_by_rule(&mut self, sort: &'static str, text: &[u8], expected: &PathsVerdict) {
+        let said = self.text(sort, text);
+        if said != *expected {
+            let text = String::from_utf8_lossy(text);
+            disagree(sort, &format!("{said}, by the rule {expected}\ntext {text}"));
         }
     }
 

@@ -1,6 +1,7 @@
 //! Random questions, and all that is asked about each.
 
 use crate::{disagree, Comparison};
+use questions::capitals::crowded_letters;
 use questions::document::{crowded_document, with_document};
 use questions::{
     crowded_path, crowded_siblings, free, planted, random_assignment, random_constraint, random_tree, Mix,
@@ -15,6 +16,19 @@ pub struct Solved {
     pub file: Vec<u8>,
     pub allowance: u32,
     pub verdict: SolverVerdict,
+}
+
+impl Solved {
+    /// The same question spent, where there are choices.
+    pub fn with_one_choice_too_few(&self) -> Option<Solved> {
+        match self.verdict {
+            SolverVerdict::Tree { count: count @ 1.., .. } | SolverVerdict::None { count: count @ 1.. } => {
+                let (allowance, verdict) = (count - 1, SolverVerdict::Spent { count: count - 1 });
+                Some(Solved { file: self.file.clone(), allowance, verdict })
+            }
+            _ => None,
+        }
+    }
 }
 
 /// A random question.
@@ -44,6 +58,7 @@ impl Comparison {
         self.buffers(&solved);
         self.doubled(&solved, &constraints);
         self.solved_in_another_order(&solved);
+        self.solved_in_other_case(&solved);
         self.solved_with_other_numbers(&solved, number_of_variables(&constraints));
         self.split_question(&solved.file);
         self.damaged(&solved);
@@ -62,17 +77,18 @@ impl Comparison {
         let number_of_nodes = 2 + self.random.below(variables + 3);
         let tree = random_tree(&mut self.random, number_of_nodes);
         let assignment = random_assignment(&mut self.random, variables, &tree);
-        let (sort, constraints) = match self.random.below(18) {
+        let (sort, constraints) = match self.random.below(19) {
             0 if self.random.one_in(2) => ("crowded paths", crowded_path(&mut self.random)),
             0 => ("crowded siblings", crowded_siblings(&mut self.random)),
             1 => ("crowded documents", crowded_document(&mut self.random)),
-            2 => {
+            2 => ("crowded letters", crowded_letters(&mut self.random)),
+            3 => {
                 let mut constraints = planted(&mut self.random, &tree, &assignment, records.min(250), &mix);
                 with_document(&mut self.random, &mut constraints, variables, &mix);
                 ("questions with a root in front", constraints)
             }
-            3..=9 => ("planted questions", planted(&mut self.random, &tree, &assignment, records, &mix)),
-            10..=13 => {
+            4..=10 => ("planted questions", planted(&mut self.random, &tree, &assignment, records, &mix)),
+            11..=14 => {
                 let mut constraints = planted(&mut self.random, &tree, &assignment, records.min(254), &mix);
                 for _ in 0..1 + self.random.below(2) {
                     let at = self.random.below(constraints.len() + 1);
@@ -152,17 +168,20 @@ impl Comparison {
         for _ in 0..6 {
             let file = self.damage(&solved.file);
             let buffer = self.random.pick(&[0, 1, 135, 136, 137, 200]);
-            let verdict = self.solve("damaged questions", &file, buffer, solved.allowance.min(60));
+            let allowance = solved.allowance.min(60);
+            let verdict = self.solve("damaged questions", &file, buffer, allowance);
             if let SolverVerdict::Refused(refusal @ Refusal(1 | 3..=6)) = verdict {
                 self.refused_in_another_order(&file, refusal);
             }
-            self.split_damaged(&file);
+            let damaged = Solved { file, allowance, verdict };
+            self.damaged_in_other_case(&damaged, buffer);
+            self.split_damaged(&damaged.file);
             let answer_file = match &solved.verdict {
                 SolverVerdict::Tree { answer, .. } => answer.clone(),
                 _ => vec![1, 0, 0, 0, 1, 1, 0, 0],
             };
             let answer_length = self.random.pick(&[answer_file.len(), answer_file.len() - 1, 0]);
-            self.mark("damaged questions", &file, &answer_file[..answer_length]);
+            self.mark("damaged questions", &damaged.file, &answer_file[..answer_length]);
         }
     }
 
@@ -186,7 +205,7 @@ impl Comparison {
                 2 => bytes[record] = self.random.pick(&[0, 9, 10, 16, 128, 255]),
                 3 => bytes[record + 1] = self.random.pick(&[15, 16, 17, 31, 128, 255]),
                 4 => bytes[record + 2] = self.random.pick(&[1, 15, 16, 17, 31, 128, 255]),
-                5 => bytes[record + 3] = self.random.pick(&[0, 1, 128, 255]),
+                5 => bytes[record + 3] = self.random.pick(&[0, 1, 65, 97, 128, 255]),
                 6 => {
                     bytes[record] = 8;
                     bytes[record + 3] = 0;

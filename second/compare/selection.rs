@@ -3,6 +3,7 @@
 
 use crate::meaning::MORE_NODES;
 use crate::{disagree, Comparison};
+use questions::capitals::{capital, small};
 use second::constraint::{self, number_of_variables, Constraint};
 use second::path::{text_of, Path, Step, Test};
 use second::select::{expression, selected_by_all, Expression};
@@ -20,7 +21,7 @@ const SORT: &str = "paths against definition 2.3";
 pub struct SmallTrees(BTreeMap<(usize, Vec<u8>), Rc<Vec<Tree>>>);
 
 impl SmallTrees {
-    fn of(&mut self, nodes: usize, labels: &[u8]) -> Rc<Vec<Tree>> {
+    pub fn of(&mut self, nodes: usize, labels: &[u8]) -> Rc<Vec<Tree>> {
         self.0.entry((nodes, labels.to_vec())).or_insert_with(|| Rc::new(brute::trees(nodes, labels))).clone()
     }
 }
@@ -79,9 +80,14 @@ impl Comparison {
     /// More than the theorem asks: on each tree of up to so many nodes the lines select exactly the nodes on which variable 0 stands when
     /// the records are met. This tells a parent from a child where both can be met.
     pub fn hold_tree_by_tree(&mut self, lines: &[Path], most_nodes: usize) {
+        self.hold_labelled_tree_by_tree(lines, most_nodes, &labels_of(lines));
+    }
+
+    /// The same, on trees whose elements have labels of these.
+    pub fn hold_labelled_tree_by_tree(&mut self, lines: &[Path], most_nodes: usize, labels: &[u8]) {
         let (records, expressions) = (translate(lines).records, expressions(lines));
         for nodes in brute::LEAST_NODES..=most_nodes {
-            for tree in self.small_trees.of(nodes, &labels_of(lines)).iter() {
+            for tree in self.small_trees.of(nodes, labels).iter() {
                 let (selected, met) = (selected_by_all(tree, &expressions), ends_that_meet(tree, &records));
                 if selected != met {
                     let tree = hex(&answer::write(tree, &Assignment(Vec::new())));
@@ -124,7 +130,7 @@ fn next_assignment(assignment: &mut Assignment, nodes: usize) -> bool {
     false
 }
 
-/// Blank and the letters named: a label that no line names could as well be blank.
+/// Blank and the letters named: a label that no line names could as well be blank. Where a capital is named, each letter in both cases.
 fn labels_of(lines: &[Path]) -> Vec<u8> {
     fn of_step(step: &Step, labels: &mut BTreeSet<u8>) {
         if let Test::Letter(letter) = step.test {
@@ -134,6 +140,9 @@ fn labels_of(lines: &[Path]) -> Vec<u8> {
     }
     let mut labels = BTreeSet::from([0]);
     lines.iter().flat_map(|line| &line.steps).for_each(|step| of_step(step, &mut labels));
+    if labels.iter().any(u8::is_ascii_uppercase) {
+        labels = labels.into_iter().flat_map(|label| [small(label), capital(label)]).collect();
+    }
     labels.into_iter().collect()
 }
 

@@ -80,13 +80,15 @@ impl Comparison {
     }
 
     /// One question, its verdict against all small trees, and the allowances around its count.
-    pub fn set(&mut self, sort: &'static str, constraints: &[Constraint]) {
+    pub fn set(&mut self, sort: &'static str, constraints: &[Constraint]) -> Solved {
         let file = constraint::write(constraints);
         let verdict = self.solve(sort, &file, LEAST_BUFFER, u32::MAX);
         self.check_meaning(constraints, &verdict, number_of_variables(constraints) + MORE_NODES);
-        if let SolverVerdict::Tree { count: 1.., .. } | SolverVerdict::None { count: 1.. } = verdict {
-            self.allowances(&Solved { file, allowance: u32::MAX, verdict });
+        let solved = Solved { file, allowance: u32::MAX, verdict };
+        if let SolverVerdict::Tree { count: 1.., .. } | SolverVerdict::None { count: 1.. } = solved.verdict {
+            self.allowances(&solved);
         }
+        solved
     }
 
     /// Every tree of up to 5 nodes, every assignment of 3 variables, every single record.

@@ -113,14 +113,8 @@ impl Comparison {
     }
 
     /// Where there are choices, with one too few as well.
-    fn every_order(&mut self, sort: &'static str, solved: &Solved) {
-        let spent = match solved.verdict {
-            SolverVerdict::Tree { count: count @ 1.., .. } | SolverVerdict::None { count: count @ 1.. } => {
-                let (allowance, verdict) = (count - 1, SolverVerdict::Spent { count: count - 1 });
-                Some(Solved { file: solved.file.clone(), allowance, verdict })
-            }
-            _ => None,
-        };
+    pub fn every_order(&mut self, sort: &'static str, solved: &Solved) {
+        let spent = solved.with_one_choice_too_few();
         for other in other_orders(&solved.file) {
             self.hold_reordered(sort, solved, &other);
             if let Some(spent) = &spent {

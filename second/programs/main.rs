@@ -5,6 +5,7 @@
 //! usage: programs FOLDER OF solve, mark AND paths      from the root of the repository
 
 mod call;
+mod capitals;
 mod limits;
 mod lost;
 mod paths;
@@ -44,7 +45,7 @@ struct Trial {
 }
 
 /// What is run, in this order.
-const PARTS: [(&str, fn(&mut Trial)); 12] = [
+const PARTS: [(&str, fn(&mut Trial)); 16] = [
     ("written questions", Trial::written_questions),
     ("benchmark files", Trial::known_counts),
     ("constraint files by length", Trial::lengths_of_constraints),
@@ -53,6 +54,10 @@ const PARTS: [(&str, fn(&mut Trial)); 12] = [
     ("answer files by length", Trial::lengths_of_answers),
     ("texts of paths by length", Trial::lengths_of_texts),
     ("texts of paths piped on to solve", Trial::piped_to_solve),
+    ("capitals to solve", Trial::capitals_solved),
+    ("capitals to mark", Trial::capitals_marked),
+    ("capitals in texts of paths", Trial::capitals_in_paths),
+    ("capitals piped on to solve", Trial::capitals_piped),
     ("files in pieces", Trial::pieces),
     ("texts of paths in pieces", Trial::texts_in_pieces),
     ("usages and losses", Trial::lost),

@@ -64,19 +64,22 @@ impl Trial {
         ];
         for lines in texts {
             let printed = text::of_paths(&second::paths(lines, LEAST_RECORDS_BUFFER));
-            let verdict = second::solve(&printed, LEAST_BUFFER, ALLOWANCE);
-            let mut pipe = Command::new("sh");
-            pipe.args(["-c", "\"$0\" | \"$1\"", &self.paths, &self.solve]).stdin(open(&written("text", lines)));
-            let said = self.run(pipe);
-            hold_verdict("paths piped on to solve", &said, text::of_solve(&verdict), &[("text", lines)]);
-            let said = match verdict {
-                SolverVerdict::Tree { .. } => "tree".to_string(),
-                SolverVerdict::None { .. } => "none".to_string(),
-                SolverVerdict::Spent { .. } => "spent".to_string(),
-                SolverVerdict::Refused(Refusal(question)) => format!("refused {question}"),
-            };
-            self.seen.note(format!("paths: piped on to solve, {said}"));
+            self.piped_on_to_solve(lines, &second::solve(&printed, LEAST_BUFFER, ALLOWANCE));
         }
+    }
+
+    pub fn piped_on_to_solve(&mut self, lines: &[u8], verdict: &SolverVerdict) {
+        let mut pipe = Command::new("sh");
+        pipe.args(["-c", "\"$0\" | \"$1\"", &self.paths, &self.solve]).stdin(open(&written("text", lines)));
+        let said = self.run(pipe);
+        hold_verdict("paths piped on to solve", &said, text::of_solve(verdict), &[("text", lines)]);
+        let said = match verdict {
+            SolverVerdict::Tree { .. } => "tree".to_string(),
+            SolverVerdict::None { .. } => "none".to_string(),
+            SolverVerdict::Spent { .. } => "spent".to_string(),
+            SolverVerdict::Refused(Refusal(question)) => format!("refused {question}"),
+        };
+        self.seen.note(format!("paths: piped on to solve, {said}"));
     }
 
     /// Texts that come through a pipe, so many bytes at a time.

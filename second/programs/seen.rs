@@ -18,6 +18,9 @@ impl Seen {
         match verdict {
             SolverVerdict::Tree { count, answer } => {
                 self.note("solve: tree");
+                if labels(constraints).any(|(_, label)| label.is_ascii_uppercase()) {
+                    self.note("solve: a capital printed as its small letter");
+                }
                 self.note(format!("solve: {} in a count", digits(*count)));
                 for node in answer.chunks(4).filter(|record| record[0] == 1) {
                     for (name, number) in [("parent", node[2]), ("label", node[3])] {
@@ -45,7 +48,12 @@ impl Seen {
             _ => "mark: an answer above 65,536 bytes",
         });
         match verdict {
-            MarkerVerdict::Met => self.note("mark: met"),
+            MarkerVerdict::Met => {
+                self.note("mark: met");
+                if labels(constraints).any(|(variable, label)| label_drawn(answer, variable) != label) {
+                    self.note("mark: met in the other case");
+                }
+            }
             MarkerVerdict::Unmet { position, kind } => {
                 self.note(format!("mark: unmet {}", KIND_NAMES[*kind as usize - 1]));
                 self.note(format!("mark: {} in a position", digits(*position)));
@@ -56,6 +64,12 @@ impl Seen {
 
     pub fn paths(&mut self, text: &[u8], verdict: &PathsVerdict) {
         self.note(format!("paths: {}", length_of(text)));
+        if text.iter().any(u8::is_ascii_uppercase) {
+            self.note(match verdict {
+                PathsVerdict::Written(_) => "paths: a capital written",
+                PathsVerdict::Refused(_) => "paths: a capital refused",
+            });
+        }
         match verdict {
             PathsVerdict::Written(records) => self.note(match records.len() {
                 4 => "paths: one record written",
@@ -91,6 +105,8 @@ fn must_be_seen() -> Vec<String> {
         sorts.extend(["is a folder", "is closed"].map(|how| format!("{program}: standard input {how}")));
     }
     sorts.extend(["tree", "none", "spent 1000000"].map(|sort| format!("solve: {sort}")));
+    sorts.extend(["solve: a capital printed as its small letter", "mark: met in the other case"].map(String::from));
+    sorts.extend(["written", "refused"].map(|how| format!("paths: a capital {how}")));
     sorts.extend((1..=6).map(|count| format!("solve: {} in a count", digits_of(count))));
     for (number, most) in [("parent", 2), ("label", 3)] {
         sorts.extend((1..=most).map(|count| format!("solve: {} in a {number}", digits_of(count))));
@@ -117,6 +133,18 @@ fn length_of(constraints: &[u8]) -> &'static str {
         1_025 => 3,
         _ => 4,
     }]
+}
+
+/// The variable and the label of each label record.
+fn labels(constraints: &[u8]) -> impl Iterator<Item = (u8, u8)> + '_ {
+    constraints.chunks(4).filter(|record| record[0] == 8).map(|record| (record[1], record[3]))
+}
+
+/// The label of the node that the variable is on, in an answer that is not refused.
+fn label_drawn(answer: &[u8], variable: u8) -> u8 {
+    let nodes = answer.chunks(4).take_while(|record| record[0] == 1).count();
+    let node = answer[4 * (nodes + variable as usize) + 2];
+    answer[4 * node as usize + 3]
 }
 
 fn digits(number: impl ToString) -> String {

@@ -17,7 +17,7 @@ pub fn crowded_document(random: &mut Random) -> Vec<Constraint> {
         match random.below(8) {
             0 => constraints.push(Constraint::Differ(w, root)),
             1 => constraints.push(Constraint::Differ(w, element)),
-            2 => constraints.push(Constraint::Label(w, random.pick(&[97, 98]))),
+            2 => constraints.push(Constraint::Label(w, random.pick(&[65, 97, 98]))),
             3 => constraints.push(Constraint::Below(w, other)),
             4 => constraints.push(Constraint::Differ(w, other)),
             5 => constraints.push(Constraint::Child(w, random.pick(crowd))),

@@ -1,9 +1,11 @@
 //! Seeded questions for the comparison and for the stored corpus.
 
+pub mod capitals;
 pub mod document;
 pub mod paths;
 pub mod shuffle;
 
+use capitals::in_either_case;
 use second::constraint::{Constraint, Variable};
 use second::tree::{meets, Assignment, Node, Tree, DOCUMENT_NODE};
 
@@ -47,8 +49,9 @@ impl Random {
     }
 }
 
-/// Few labels, so that two records often ask for different ones; small letters, capitals and both ends of the range.
-const LABELS: [u8; 6] = [97, 98, 65, 66, 1, 255];
+/// Few labels, so that two records often ask for the same one, in either case: small letters, their capitals, and both ends of the range;
+/// more seldom the last letter and the bytes beside the letters.
+const LABELS: [u8; 18] = [97, 97, 98, 98, 65, 65, 66, 66, 1, 1, 255, 255, 90, 122, 64, 91, 96, 123];
 
 /// What a file leans to.
 pub struct Mix {
@@ -117,7 +120,7 @@ pub fn planted(
         }
         let constraint = match random_constraint(random, variables, mix) {
             Constraint::Label(x, _) if tree.label(assignment.node_of(x)) > 0 => {
-                Constraint::Label(x, tree.label(assignment.node_of(x)))
+                Constraint::Label(x, in_either_case(random, tree.label(assignment.node_of(x))))
             }
             Constraint::Before(x, y) => match on_later_siblings(tree, assignment, x).as_slice() {
                 [] => Constraint::Before(x, y),

@@ -23,7 +23,8 @@ impl PathMix {
             axes.extend(AXES.map(|(axis, _)| axis));
         }
         let mut tests = vec![Test::Any; random.pick(&[1, 1, 3])];
-        tests.extend(random.pick(&[&b"a"[..], b"ab", b"az", b"abz", b""]).iter().map(|&letter| Test::Letter(letter)));
+        let letters = random.pick(&[&b"a"[..], b"ab", b"az", b"abz", b"aA", b"aAB", b"AZz", b""]);
+        tests.extend(letters.iter().map(|&letter| Test::Letter(letter)));
         PathMix { axes, tests, one_root_in: random.pick(&[2, 4, 9]), one_bracket_in: random.pick(&[2, 3, 6, 99]) }
     }
 }
@@ -126,7 +127,7 @@ pub fn nested(random: &mut Random, depth: usize, mix: &PathMix) -> Path {
 
 /// What a hand might slip: bytes lacking, doubled, changed or moved, words of the language in the wrong place, lines too many or too few.
 pub fn damaged_text(random: &mut Random, text: &[u8]) -> Vec<u8> {
-    const WORDS: [&[u8]; 22] = [
+    const WORDS: [&[u8]; 24] = [
         b"/",
         b"//",
         b"[",
@@ -138,6 +139,8 @@ pub fn damaged_text(random: &mut Random, text: &[u8]) -> Vec<u8> {
         b"*",
         b"a",
         b"A",
+        b"SELF",
+        b"Self::Z",
         b" ",
         b"\n",
         b"\r",

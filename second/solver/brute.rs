@@ -62,8 +62,8 @@ pub fn some_tree_meets(constraints: &[Constraint], most_nodes: usize) -> bool {
     })
 }
 
-/// For each node the last label asked of it, or blank. If any labelling meets the constraints, this one does: where two labels are
-/// asked of one node none does, nor where one is asked of the document node.
+/// For each node the last label asked of it, or blank. If any labelling meets the constraints, this one does: where two labels that are not
+/// equal are asked of one node none does, nor where one is asked of the document node.
 fn asked_labels(constraints: &[Constraint], assignment: &Assignment, nodes: usize) -> Vec<u8> {
     let mut labels = vec![0; nodes];
     for &constraint in constraints {

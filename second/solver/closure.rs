@@ -1,8 +1,9 @@
 //! Facts and the settled set: the least set that holds the given facts and is closed under the rules (source 000, rules 1 to 9, and
-//! document 02, request (iii), for before, and request (v), for the document node).
+//! document 02, request (iii), for before, request (v), for the document node, and request (vi), for labels that are equal).
 //! A round draws every conclusion of every rule from the facts held; rounds are repeated until one brings nothing new.
 
 use crate::constraint::{Constraint, Variable};
+use crate::label::are_equal;
 use std::collections::BTreeSet;
 
 #[derive(Clone, Copy, PartialEq, Eq, PartialOrd, Ord, Debug)]
@@ -42,7 +43,7 @@ pub fn facts_of(constraint: Constraint) -> Vec<Fact> {
 pub enum Clash {
     /// differ(x,x), rule 8.
     DiffersFromItself,
-    /// Rule 9.
+    /// Rule 9, of labels that differ by more than case.
     TwoLabels,
     /// before(x,y) with below(x,y).
     LaterSiblingBelow,
@@ -82,6 +83,7 @@ impl Settled {
         self.holds(Root(x))
     }
 
+    /// As some record writes it; all that x has are equal.
     pub fn label(&self, x: Variable) -> Option<u8> {
         labels_of(&self.facts, x).next()
     }
@@ -130,7 +132,7 @@ fn settle(variables: Vec<Variable>, mut facts: BTreeSet<Fact>) -> Settling {
 fn first_clash(facts: &BTreeSet<Fact>) -> Option<Clash> {
     facts.iter().find_map(|&fact| match fact {
         Differ(x, y) if x == y => Some(Clash::DiffersFromItself),
-        Label(x, label) if labels_of(facts, x).any(|other| other != label) => Some(Clash::TwoLabels),
+        Label(x, label) if labels_of(facts, x).any(|other| !are_equal(other, label)) => Some(Clash::TwoLabels),
         Before(x, y) if facts.contains(&Below(x, y)) => Some(Clash::LaterSiblingBelow),
         Before(x, y) if facts.contains(&Below(y, x)) => Some(Clash::EarlierSiblingBelow),
         Root(x) if facts.contains(&Leaf(x)) => Some(Clash::LeafOnDocumentNode),

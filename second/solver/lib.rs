@@ -6,6 +6,7 @@ pub mod answer;
 pub mod brute;
 pub mod closure;
 pub mod constraint;
+pub mod label;
 pub mod one_pass;
 pub mod path;
 pub mod readoff;

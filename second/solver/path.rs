@@ -1,4 +1,4 @@
-//! Questions set as paths (document 02, requests (i) and (iii)): the syntax of a text, its reader and its printer. The reader takes a text
+//! Questions set as paths (document 02, requests (i), (iii) and (vi)): the syntax of a text, its reader and its printer. The reader takes a text
 //! apart from outside to inside: lines, then steps at the `/` outside brackets, then the brackets of a step.
 
 use std::fmt;
@@ -35,6 +35,7 @@ pub enum Axis {
 
 #[derive(Clone, Copy, PartialEq, Eq, Debug)]
 pub enum Test {
+    /// The byte that stands in the text, a capital or a small letter.
     Letter(u8),
     Any,
 }
@@ -112,7 +113,7 @@ fn read_head(head: &[u8]) -> Option<(Axis, Test)> {
     let colons = head.windows(2).position(|pair| pair == b"::")?;
     let (axis, _) = AXES.into_iter().find(|(_, name)| name.as_bytes() == &head[..colons])?;
     let test = match head[colons + 2..] {
-        [letter @ b'a'..=b'z'] => Test::Letter(letter),
+        [letter @ (b'a'..=b'z' | b'A'..=b'Z')] => Test::Letter(letter),
         [b'*'] => Test::Any,
         _ => return None,
     };

@@ -2,6 +2,7 @@
 
 use crate::closure::Settled;
 use crate::constraint::Variable;
+use crate::label::folded;
 use crate::tree::{Assignment, Node, Tree, DOCUMENT_NODE};
 
 /// A group of same variables, named by its lowest one.
@@ -62,7 +63,8 @@ pub fn read_off(settled: &Settled) -> (Tree, Assignment) {
     let node_of = |group: Group| number_of(group).unwrap_or(DOCUMENT_NODE);
     for &group in &groups {
         tree.parents.push(Some(parent_element(group).map_or(over_all_groups, node_of)));
-        tree.labels.push(settled.label(group).unwrap_or(0));
+        // Whichever case the records have, the tree carries the small letter.
+        tree.labels.push(settled.label(group).map_or(0, folded));
     }
     let places = settled.variables.iter().map(|&x| node_of(group_of(settled, x)));
     let assignment = Assignment(places.collect());

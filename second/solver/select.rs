@@ -1,6 +1,8 @@
 //! What a path selects on a tree: source 004, definitions 2.2 and 2.3, the cases by their numbers there. Cases 12 to 14 (intersection, union,
 //! difference) are none of requests (i) and (iii). The root is the document node (request (v)), which has no name: no letter passes it.
+//! A letter passes its capital and its small letter (request (vi)).
 
+use crate::label::are_equal;
 use crate::path::{Axis, Path, Step, Test};
 use crate::tree::{Node, Tree, DOCUMENT_NODE};
 
@@ -87,7 +89,7 @@ fn pairs(tree: &Tree, expression: &Expression) -> Pairs {
         // (8)
         Root => Pairs::of(tree, |_, m| tree.parent(m).is_none()),
         // (9)
-        Tag(tag) => Pairs::of(tree, |n, m| n == m && n != DOCUMENT_NODE && tree.label(n) == *tag),
+        Tag(tag) => Pairs::of(tree, |n, m| n == m && n != DOCUMENT_NODE && are_equal(tree.label(n), *tag)),
         // (10)
         Then(first, second) => {
             let (first, second) = (pairs(tree, first), pairs(tree, second));

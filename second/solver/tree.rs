@@ -2,6 +2,7 @@
 //! assignments, and when a constraint is met (source 000, section 2).
 
 use crate::constraint::{Constraint, Variable};
+use crate::label::are_equal;
 
 #[derive(Clone, Copy, PartialEq, Eq, PartialOrd, Ord, Debug)]
 pub struct Node(pub usize);
@@ -12,6 +13,7 @@ pub struct Tree {
     /// stand in the order of their numbers. Node 0 is the document node: blank, with exactly one child, so that node 1 is the outermost
     /// element and only it has parent 0.
     pub parents: Vec<Option<Node>>,
+    /// As they are drawn: a candidate's tree may have capitals.
     pub labels: Vec<u8>,
 }
 
@@ -76,7 +78,7 @@ pub fn meets(tree: &Tree, assignment: &Assignment, constraint: Constraint) -> bo
         Constraint::Differ(x, y) => node(x) != node(y),
         Constraint::Root(x) => tree.parent(node(x)).is_none(),
         Constraint::Leaf(x) => !tree.has_child(node(x)),
-        Constraint::Label(x, label) => tree.label(node(x)) == label,
+        Constraint::Label(x, label) => are_equal(tree.label(node(x)), label),
         Constraint::Before(x, y) => tree.is_earlier_sibling(node(x), node(y)),
     }
 }

@@ -1,54 +1,44 @@
-//! Answers to the marker, most of them trees below a document node.
+//! Answers to the marker, in which labels 65 to 90 are asked or drawn.
 
 use crate::share::{is_full, keep, print, share, Share};
+use questions::capitals::{apart, has_both_cases, relabelled_answer, relabelled_question};
 use questions::{planted, random_assignment, random_constraint, random_tree, Mix, Random};
-use second::constraint::{self, number_of_variables, Constraint, Variable};
-use second::tree::{Assignment, Node, Tree, DOCUMENT_NODE, OUTERMOST_ELEMENT};
+use second::constraint::{self, number_of_variables, Constraint};
+use second::tree::{Assignment, Tree, DOCUMENT_NODE};
 use second::verdict::{hex, MarkerVerdict};
 use second::{answer, Refusal};
 
 /// What was drawn, what it was drawn for, what was done to its file, and what the marker says.
 struct Asked {
     constraints: Vec<Constraint>,
+    tree: Tree,
     assignment: Assignment,
-    nodes: usize,
     damage: Damage,
     verdict: MarkerVerdict,
+    /// What it would say if case counted.
+    if_case_counted: MarkerVerdict,
 }
 
+/// A letter in place of another byte.
 #[derive(Clone, Copy, PartialEq, Eq)]
 enum Damage {
     Nothing,
-    OneNode,
-    TooManyNodes,
-    Label,
-    SecondChild,
-    Number,
+    DocumentNode,
     Place,
-    Cut,
     Kind,
 }
 
-const DAMAGES: [Damage; 8] = [
-    Damage::OneNode,
-    Damage::TooManyNodes,
-    Damage::Label,
-    Damage::SecondChild,
-    Damage::Number,
-    Damage::Place,
-    Damage::Cut,
-    Damage::Kind,
-];
+const DAMAGES: [Damage; 3] = [Damage::DocumentNode, Damage::Place, Damage::Kind];
 
 pub fn store() {
     println!("# Made by 'target/second/store mark', that is, by the second marker alone. One question a line:");
     println!("# name, mark, constraint file in hex, answer file in hex; met, unmet with position and kind, or refused with the number.");
     let mut shares = shares();
-    let mut random = Random::new(2026);
+    let mut random = Random::new(2036);
     while !is_full(&shares) {
-        let variables = 1 + random.below(16);
-        let nodes = if random.one_in(30) { 64 } else { 2 + random.below(20) };
-        let records = random.below(20);
+        let variables = 1 + random.below(8);
+        let nodes = 2 + random.below(10);
+        let records = 1 + random.below(8);
         let mix = Mix::random(&mut random);
         let tree = random_tree(&mut random, nodes);
         let mut assignment = random_assignment(&mut random, variables, &tree);
@@ -58,7 +48,7 @@ pub fn store() {
             constraints.insert(at, random_constraint(&mut random, variables, &mix));
         }
         assignment.0.truncate(number_of_variables(&constraints));
-        store_drawn(&mut random, &mut shares, constraints, &tree, assignment);
+        store_drawn(&mut random, &mut shares, constraints, tree, assignment);
     }
     print(&shares);
 }
@@ -67,34 +57,26 @@ fn store_drawn(
     random: &mut Random,
     shares: &mut [Share<Asked>],
     constraints: Vec<Constraint>,
-    tree: &Tree,
+    tree: Tree,
     assignment: Assignment,
 ) {
-    let damage = if random.one_in(3) { random.pick(&DAMAGES) } else { Damage::Nothing };
+    let damage = if random.one_in(6) { random.pick(&DAMAGES) } else { Damage::Nothing };
     let file = constraint::write(&constraints);
-    let answer_file = damaged(random, tree, &assignment, damage);
+    let answer_file = damaged(random, &tree, &assignment, damage);
     let verdict = second::mark(&file, &answer_file);
+    let if_case_counted = second::mark(&relabelled_question(&file, apart), &relabelled_answer(&answer_file, apart));
     let line = format!("mark {} {} {verdict}", hex(&file), hex(&answer_file));
-    keep(shares, &Asked { constraints, assignment, nodes: tree.parents.len(), damage, verdict }, line);
+    keep(shares, &Asked { constraints, tree, assignment, damage, verdict, if_case_counted }, line);
 }
 
 fn damaged(random: &mut Random, tree: &Tree, assignment: &Assignment, damage: Damage) -> Vec<u8> {
     let mut file = answer::write(tree, assignment);
-    let nodes = tree.parents.len();
-    let node = random.below(nodes);
+    let node = random.below(tree.parents.len());
     match damage {
         Damage::Nothing => {}
-        Damage::OneNode => drop(file.drain(4..4 * nodes)),
-        Damage::TooManyNodes => {
-            let more = (nodes..65 + random.below(3)).flat_map(|node| [1, node as u8, 1, 0]);
-            file.splice(4 * nodes..4 * nodes, more.collect::<Vec<u8>>());
-        }
-        Damage::Label => file[3] = 1 + random.below(255) as u8,
-        Damage::SecondChild => file[4 * node.max(2).min(nodes - 1) + 2] = 0,
-        Damage::Number => file[4 * node + 1 + random.below(2)] += 1 + random.below(nodes) as u8,
-        Damage::Place => file.extend([2, assignment.0.len() as u8, 1, 0]),
-        Damage::Cut => drop(file.pop()),
-        Damage::Kind => file[4 * node] = random.pick(&[0, 2, 3]),
+        Damage::DocumentNode => file[3] = random.pick(&[65, 90, 97]),
+        Damage::Place => file.extend([2, assignment.0.len() as u8, 1, 65]),
+        Damage::Kind => file[4 * node] = random.pick(&[65, 97]),
     }
     file
 }
@@ -103,47 +85,83 @@ fn shares() -> Vec<Share<Asked>> {
     let refused = |damage, question| {
         move |asked: &Asked| asked.damage == damage && asked.verdict == MarkerVerdict::Refused(Refusal(question))
     };
-    let unmet =
-        |number| move |asked: &Asked| matches!(asked.verdict, MarkerVerdict::Unmet { kind, .. } if kind == number);
-    let on = |number, node| {
-        move |asked: &Asked| unmet(number)(asked) && unmet_x(asked).is_some_and(|x| on_node(asked, x, node))
+    let unmet = |fits: fn(u8, u8) -> bool| {
+        move |asked: &Asked| unmet_label(asked).is_some_and(|(label, drawn)| fits(label, drawn))
     };
     vec![
-        share("met-64-nodes", 4, |asked: &Asked| asked.verdict == MarkerVerdict::Met && asked.nodes == 64),
-        share("met-2-nodes", 6, |asked: &Asked| asked.verdict == MarkerVerdict::Met && asked.nodes == 2),
-        share("met", 20, |asked: &Asked| asked.verdict == MarkerVerdict::Met),
-        share("unmet-root-element", 6, on(6, OUTERMOST_ELEMENT)),
-        share("unmet-leaf-document", 5, on(7, DOCUMENT_NODE)),
-        share("unmet-label-document", 6, on(8, DOCUMENT_NODE)),
-        share("unmet-before-document", 5, on(9, DOCUMENT_NODE)),
-        share("unmet-child", 5, unmet(1)),
-        share("unmet-below", 5, unmet(2)),
-        share("unmet-strictly-below", 5, unmet(3)),
-        share("unmet-same", 5, unmet(4)),
-        share("unmet-differ", 5, unmet(5)),
-        share("unmet-root", 5, unmet(6)),
-        share("unmet-leaf", 5, unmet(7)),
-        share("unmet-label", 5, unmet(8)),
-        share("unmet-before", 8, unmet(9)),
-        share("refused-10-one-node", 6, refused(Damage::OneNode, 10)),
-        share("refused-10-many-nodes", 5, refused(Damage::TooManyNodes, 10)),
-        share("refused-11-label", 10, refused(Damage::Label, 11)),
-        share("refused-11-second-child", 10, refused(Damage::SecondChild, 11)),
-        share("refused-11-number", 6, refused(Damage::Number, 11)),
-        share("refused-12", 5, refused(Damage::Place, 12)),
-        share("refused-8", 4, refused(Damage::Cut, 8)),
+        share("met-capital-drawn", 8, |asked| met(asked) && met_by(asked, small_letter, capital)),
+        share("met-capital-asked", 8, |asked| met(asked) && met_by(asked, capital, small_letter)),
+        share("met-both-cases", 8, |asked| met(asked) && is_asked_in_both_cases(asked)),
+        share("met-capital", 4, |asked| met(asked) && met_by(asked, capital, capital)),
+        share("unmet-later", 6, |asked| is_unmet_later(asked) && unmet_label(asked).is_none()),
+        share("unmet-later-label", 6, |asked| is_unmet_later(asked) && unmet_label(asked).is_some()),
+        share("unmet-capital-drawn", 6, unmet(|label, drawn| small_letter(label) && capital(drawn))),
+        share("unmet-capital-asked", 6, unmet(|label, drawn| capital(label) && small_letter(drawn))),
+        share("unmet-two-capitals", 4, unmet(|label, drawn| capital(label) && capital(drawn))),
+        share("unmet-beside", 8, unmet(|label, drawn| label.abs_diff(drawn) == 32)),
+        share("unmet-blank", 4, unmet(|label, drawn| capital(label) && drawn == 0)),
+        share("unmet-document-node", 4, is_unmet_on_document_node),
+        share("refused-11-document-node", 5, refused(Damage::DocumentNode, 11)),
+        share("refused-12", 4, refused(Damage::Place, 12)),
         share("refused-9", 4, refused(Damage::Kind, 9)),
     ]
 }
 
-/// x of the first unmet record.
-fn unmet_x(asked: &Asked) -> Option<Variable> {
+fn capital(label: u8) -> bool {
+    label.is_ascii_uppercase()
+}
+
+fn small_letter(label: u8) -> bool {
+    label.is_ascii_lowercase()
+}
+
+fn met(asked: &Asked) -> bool {
+    asked.verdict == MarkerVerdict::Met
+}
+
+/// For each label record the label asked and the one drawn.
+fn labels(asked: &Asked) -> impl Iterator<Item = (u8, u8)> + '_ {
+    asked.constraints.iter().filter_map(|&record| label_and_drawn(asked, record))
+}
+
+fn label_and_drawn(asked: &Asked, record: Constraint) -> Option<(u8, u8)> {
+    match record {
+        Constraint::Label(x, label) => Some((label, asked.tree.label(asked.assignment.node_of(x)))),
+        _ => None,
+    }
+}
+
+fn met_by(asked: &Asked, is_asked: fn(u8) -> bool, is_drawn: fn(u8) -> bool) -> bool {
+    labels(asked).any(|(label, drawn)| is_asked(label) && is_drawn(drawn))
+}
+
+fn is_asked_in_both_cases(asked: &Asked) -> bool {
+    let file = constraint::write(&asked.constraints);
+    let answer_file = answer::write(&asked.tree, &asked.assignment);
+    [true, false].into_iter().any(|on_one_variable| has_both_cases(&file, &answer_file, on_one_variable))
+}
+
+/// Of the first unmet record, if it is a label.
+fn unmet_label(asked: &Asked) -> Option<(u8, u8)> {
     match asked.verdict {
-        MarkerVerdict::Unmet { position, .. } => Some(asked.constraints[position].variables()[0]),
+        MarkerVerdict::Unmet { position, .. } => label_and_drawn(asked, asked.constraints[position]),
         MarkerVerdict::Met | MarkerVerdict::Refused(_) => None,
     }
 }
 
-fn on_node(asked: &Asked, x: Variable, node: Node) -> bool {
-    asked.assignment.node_of(x) == node
+fn is_unmet_on_document_node(asked: &Asked) -> bool {
+    let MarkerVerdict::Unmet { position, .. } = asked.verdict else { return false };
+    match asked.constraints[position] {
+        Constraint::Label(x, label) => capital(label) && asked.assignment.node_of(x) == DOCUMENT_NODE,
+        _ => false,
+    }
+}
+
+/// A label record before it would be the first, if case counted.
+fn is_unmet_later(asked: &Asked) -> bool {
+    use MarkerVerdict::Unmet;
+    match (asked.verdict, asked.if_case_counted) {
+        (Unmet { position, .. }, Unmet { position: earlier, .. }) => earlier < position,
+        _ => false,
+    }
 }

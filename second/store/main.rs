@@ -1,6 +1,7 @@
-//! Makes stored questions with the second solver alone: `store solve` and `store mark` print the files of `stored/` that have a document node,
-//! solve-document.txt and mark-document.txt. (The older ones were made in the same way, by earlier states of this program: solve.txt and
-//! mark.txt when there were eight kinds, solve-brothers.txt and mark-brothers.txt before node 0 was the document node.)
+//! Makes stored questions with the second solver alone: `store solve` and `store mark` print the files of `stored/` in which capitals matter,
+//! solve-capitals.txt and mark-capitals.txt. (The older ones were made in the same way, by earlier states of this program: solve.txt and
+//! mark.txt when there were eight kinds, solve-brothers.txt and mark-brothers.txt before node 0 was the document node, solve-document.txt and
+//! mark-document.txt before capitals counted as small letters.)
 //! Questions are drawn at random, always the same ones, and kept until each sort has its share.
 
 mod answers;

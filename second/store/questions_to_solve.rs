@@ -1,38 +1,39 @@
-//! Questions to the solver, each with a root.
+//! Questions to the solver, each with a label 65 to 90 or with labels beside the letters.
 
 use crate::share::{is_full, keep, print, share, Share};
-use questions::document::{crowded_document, with_document};
-use questions::{free, has_root, planted, random_assignment, random_constraint, random_tree, Mix, Random};
+use questions::capitals::{apart, crowded_letters, has_both_cases, question_has_capital, relabelled_question};
+use questions::document::with_document;
+use questions::{free, planted, random_assignment, random_constraint, random_tree, Mix, Random};
 use second::closure::Clash;
-use second::constraint::{self, number_of_variables, Constraint, Variable};
-use second::search::{Join, Trace};
-use second::tree::{DOCUMENT_NODE, OUTERMOST_ELEMENT};
+use second::constraint::{self, Constraint};
+use second::search::Trace;
 use second::verdict::{hex, SolverVerdict};
-use second::{answer, Refusal, LEAST_BUFFER};
+use second::{Refusal, LEAST_BUFFER};
 use std::collections::BTreeSet;
 
 const ALLOWANCE: u32 = 1_000_000;
 /// Above this count the naive search takes too long to be run again at every check.
-const LARGEST_COUNT: u32 = 4_999;
+const LARGEST_COUNT: u32 = 999;
 
-/// A question, what it was put with, and what came of it.
+/// A question, what it was put with, what came of it, and what would if case counted.
 struct Asked {
-    constraints: Vec<Constraint>,
+    file: Vec<u8>,
     buffer: usize,
     allowance: u32,
     verdict: SolverVerdict,
     trace: Trace,
+    if_case_counted: SolverVerdict,
 }
 
 impl Asked {
-    fn new(constraints: &[Constraint], buffer: usize, allowance: u32) -> Asked {
-        let (verdict, trace) = second::solve_traced(&constraint::write(constraints), buffer, allowance);
-        Asked { constraints: constraints.to_vec(), buffer, allowance, verdict, trace }
+    fn new(file: &[u8], buffer: usize, allowance: u32) -> Asked {
+        let (verdict, trace) = second::solve_traced(file, buffer, allowance);
+        let if_case_counted = second::solve(&relabelled_question(file, apart), buffer, allowance);
+        Asked { file: file.to_vec(), buffer, allowance, verdict, trace, if_case_counted }
     }
 
     fn keep_in(&self, shares: &mut [Share<Asked>]) {
-        let file = hex(&constraint::write(&self.constraints));
-        keep(shares, self, format!("solve {file} {} {} {}", self.buffer, self.allowance, self.verdict));
+        keep(shares, self, format!("solve {} {} {} {}", hex(&self.file), self.buffer, self.allowance, self.verdict));
     }
 }
 
@@ -40,18 +41,39 @@ pub fn store() {
     println!("# Made by 'target/second/store solve', that is, by the second solver alone. One question a line:");
     println!("# name, solve, constraint file in hex, bytes lent, allowance; verdict, count or number of the question, answer file in hex.");
     let mut shares = shares();
-    let mut random = Random::new(2021);
+    let mut random = Random::new(2031);
     while !is_full(&shares) {
-        let constraints = if random.one_in(3) { crowded_document(&mut random) } else { random_question(&mut random) };
-        if has_root(&constraints) {
-            store_with_root(&mut random, &mut shares, &constraints);
+        let constraints = if random.one_in(3) { crowded_letters(&mut random) } else { random_question(&mut random) };
+        let file = constraint::write(&constraints);
+        if random.one_in(4) {
+            store_beside(&mut shares, &relabelled_question(&file, beside));
+        } else if question_has_capital(&file) {
+            store_with_capital(&mut random, &mut shares, &file);
         }
     }
     print(&shares);
 }
 
-fn store_with_root(random: &mut Random, shares: &mut [Share<Asked>], constraints: &[Constraint]) {
-    let mut asked = Asked::new(constraints, LEAST_BUFFER, LARGEST_COUNT);
+/// The letters a and b become the bytes beside the letters, of which no two are equal.
+fn beside(label: u8) -> u8 {
+    match label {
+        65 => 64,
+        97 => 96,
+        66 => 91,
+        98 => 123,
+        other => other,
+    }
+}
+
+fn store_beside(shares: &mut [Share<Asked>], file: &[u8]) {
+    let asked = Asked::new(file, LEAST_BUFFER, LARGEST_COUNT);
+    if !matches!(asked.verdict, SolverVerdict::Spent { .. }) {
+        asked.keep_in(shares);
+    }
+}
+
+fn store_with_capital(random: &mut Random, shares: &mut [Share<Asked>], file: &[u8]) {
+    let mut asked = Asked::new(file, LEAST_BUFFER, LARGEST_COUNT);
     let (SolverVerdict::Tree { count, .. } | SolverVerdict::None { count }) = asked.verdict else {
         return;
     };
@@ -59,37 +81,45 @@ fn store_with_root(random: &mut Random, shares: &mut [Share<Asked>], constraints
     asked.allowance = if random.one_in(3) { count } else { ALLOWANCE };
     asked.keep_in(shares);
     if count > 0 && random.one_in(4) {
-        let allowance = if random.one_in(3) { count - 1 } else { random.below(count as usize) as u32 };
-        Asked::new(constraints, LEAST_BUFFER, allowance).keep_in(shares);
+        Asked::new(file, LEAST_BUFFER, random.below(count as usize) as u32).keep_in(shares);
     }
-    Asked::new(constraints, random.pick(&[131, 132, 133, 134, 135]), ALLOWANCE).keep_in(shares);
+    if random.one_in(4) {
+        Asked::new(file, random.pick(&[65, 97, 135]), ALLOWANCE).keep_in(shares);
+        Asked::new(&with_label_byte(random, file), LEAST_BUFFER, ALLOWANCE).keep_in(shares);
+    }
+}
+
+/// With a capital as the label byte of some record, which may be of another kind than 8.
+fn with_label_byte(random: &mut Random, file: &[u8]) -> Vec<u8> {
+    let mut changed = file.to_vec();
+    changed[4 * random.below(file.len() / 4) + 3] = random.pick(&[65, 66, 90]);
+    changed
 }
 
 fn shares() -> Vec<Share<Asked>> {
     let spent = |asked: &Asked| matches!(asked.verdict, SolverVerdict::Spent { .. });
+    let has = |asked: &Asked, label| asked.file.chunks(4).any(|record| record[0] == 8 && record[3] == label);
     vec![
-        share("fourth-join-first", 20, |asked| tree(asked, 1, 99) && takes(asked, 0) && !takes(asked, 1)),
-        share("fourth-join-second", 20, |asked| tree(asked, 1, 99) && takes(asked, 1)),
-        share("fourth-join-skipped", 8, |asked| tree(asked, 1, 99) && joins_a_skipped_variable(asked)),
-        share("fourth-join-none", 15, |asked| none(asked, 1, LARGEST_COUNT) && asked.trace.of_fourth_joins > 0),
-        share("fourth-join-spent-0", 4, move |asked| {
-            spent(asked) && asked.trace.of_fourth_joins == 0 && came_to(asked)
+        share("tree-none-if-case-counted-0", 8, |asked| tree(asked, 0, 0) && is_none(&asked.if_case_counted)),
+        share("tree-none-if-case-counted", 10, |asked| tree(asked, 1, 99) && is_none(&asked.if_case_counted)),
+        share("tree-other-count", 10, |asked| tree(asked, 1, 99) && has_other_count(asked)),
+        share("none-other-count", 8, |asked| none(asked, 1, LARGEST_COUNT) && has_other_count(asked)),
+        share("spent", 6, move |asked| spent(asked) && !spent_if_case_counted(asked)),
+        share("both-cases-on-one", 8, |asked| tree(asked, 0, 9) && has_both(asked, true)),
+        share("both-cases-on-two", 8, |asked| tree(asked, 0, 9) && has_both(asked, false)),
+        share("both-cases-of-z", 4, move |asked| {
+            has(asked, 90) && has(asked, 122) && tree(asked, 0, 99) && is_none(&asked.if_case_counted)
         }),
-        share("fourth-join-spent", 8, move |asked| spent(asked) && asked.trace.of_fourth_joins > 0),
-        share("fourth-join-siblings", 6, |asked| tree(asked, 1, 99) && came_to(asked) && has_third_join(asked)),
-        share("one-child", 12, |asked| tree(asked, 0, 99) && asked.trace.made_one_child),
-        share("one-child-clash", 6, |asked| none(asked, 0, 0) && asked.trace.made_one_child),
-        share("leaf-on-document", 6, |asked| clashes_by(asked, Clash::LeafOnDocumentNode)),
-        share("label-on-document", 6, |asked| clashes_by(asked, Clash::LabelOnDocumentNode)),
-        share("element-added", 10, |asked| tree(asked, 0, 9) && adds_an_element(asked) == Some(true)),
-        share("element-alone", 2, |asked| {
-            tree(asked, 0, 9) && has_two_nodes(asked) && adds_an_element(asked) == Some(true)
+        share("capital-alone", 8, |asked: &Asked| {
+            let has_both_cases = has_both(asked, true) || has_both(asked, false);
+            tree(asked, 0, 99) && question_has_capital(&asked.file) && !has_both_cases
         }),
-        share("no-element-added", 8, |asked| tree(asked, 0, 9) && adds_an_element(asked) == Some(false)),
-        share("tree-to-99", 8, |asked| tree(asked, 10, 99)),
-        share("none-to-99", 8, |asked| none(asked, 10, 99)),
-        share("none-to-999", 3, |asked| none(asked, 100, 999)),
-        share("refused-7", 6, |asked: &Asked| asked.verdict == SolverVerdict::Refused(Refusal(7))),
+        share("two-labels", 6, |asked: &Asked| clashes_by_labels(asked) && question_has_capital(&asked.file)),
+        share("beside-64-and-96", 6, move |asked| has(asked, 64) && has(asked, 96) && hangs_on_beside(asked)),
+        share("beside-91-and-123", 6, move |asked| has(asked, 91) && has(asked, 123) && hangs_on_beside(asked)),
+        share("beside-tree", 4, move |asked| tree(asked, 0, 99) && (has(asked, 64) || has(asked, 91))),
+        share("refused-6", 4, |asked: &Asked| asked.verdict == SolverVerdict::Refused(Refusal(6))),
+        share("refused-7", 2, |asked: &Asked| asked.verdict == SolverVerdict::Refused(Refusal(7))),
     ]
 }
 
@@ -101,45 +131,43 @@ fn none(asked: &Asked, least: u32, most: u32) -> bool {
     matches!(asked.verdict, SolverVerdict::None { count } if (least..=most).contains(&count))
 }
 
-fn came_to(asked: &Asked) -> bool {
-    asked.trace.came_to_fourth_join
+fn is_none(verdict: &SolverVerdict) -> bool {
+    matches!(verdict, SolverVerdict::None { .. })
 }
 
-/// Does the line that ended in a tree have this alternative of a fourth join?
-fn takes(asked: &Asked, alternative: usize) -> bool {
-    asked.trace.line.iter().any(|&(join, taken)| matches!(join, Join::Document { .. }) && taken == alternative)
-}
-
-/// A variable that no record names.
-fn joins_a_skipped_variable(asked: &Asked) -> bool {
-    let is_named = |w: Variable| asked.constraints.iter().any(|record| record.variables().contains(&w));
-    asked.trace.line.iter().any(|&(join, _)| matches!(join, Join::Document { w, .. } if !is_named(w)))
-}
-
-fn has_third_join(asked: &Asked) -> bool {
-    asked.trace.line.iter().any(|(join, _)| matches!(join, Join::Sibling { .. }))
-}
-
-fn clashes_by(asked: &Asked, clash: Clash) -> bool {
-    asked.trace.clashes == BTreeSet::from([clash])
-}
-
-/// Of a tree whose document node has a variable on it: has its outermost element none?
-fn adds_an_element(asked: &Asked) -> Option<bool> {
-    let SolverVerdict::Tree { answer: answer_file, .. } = &asked.verdict else {
-        return None;
-    };
-    let variables = number_of_variables(&asked.constraints);
-    let (_, assignment) = answer::read(answer_file, variables).expect("an answer of the second solver");
-    assignment.lowest_variable_on(DOCUMENT_NODE)?;
-    Some(assignment.lowest_variable_on(OUTERMOST_ELEMENT).is_none())
-}
-
-fn has_two_nodes(asked: &Asked) -> bool {
-    match &asked.verdict {
-        SolverVerdict::Tree { answer, .. } => answer.chunks(4).filter(|record| record[0] == 1).count() == 2,
+/// The same verdict, but for the count.
+fn has_other_count(asked: &Asked) -> bool {
+    use SolverVerdict::{None, Tree};
+    match (&asked.verdict, &asked.if_case_counted) {
+        (Tree { count, .. }, Tree { count: other, .. }) | (None { count }, None { count: other }) => count != other,
         _ => false,
     }
+}
+
+fn spent_if_case_counted(asked: &Asked) -> bool {
+    matches!(asked.if_case_counted, SolverVerdict::Spent { .. })
+}
+
+fn has_both(asked: &Asked, on_one_variable: bool) -> bool {
+    match &asked.verdict {
+        SolverVerdict::Tree { answer, .. } => has_both_cases(&asked.file, answer, on_one_variable),
+        _ => false,
+    }
+}
+
+/// None, and a tree if the bytes beside the letters were letters.
+fn hangs_on_beside(asked: &Asked) -> bool {
+    let as_letters = |label| match label {
+        64 => 96,
+        91 => 123,
+        other => other,
+    };
+    let file = relabelled_question(&asked.file, as_letters);
+    is_none(&asked.verdict) && matches!(second::solve(&file, asked.buffer, asked.allowance), SolverVerdict::Tree { .. })
+}
+
+fn clashes_by_labels(asked: &Asked) -> bool {
+    none(asked, 0, 0) && asked.trace.clashes == BTreeSet::from([Clash::TwoLabels])
 }
 
 fn random_question(random: &mut Random) -> Vec<Constraint> {
