@@ -7,7 +7,7 @@ use crate::small::for_each_choice;
 use crate::{disagree, Comparison};
 use questions::capitals::small;
 use second::constraint::{self, number_of_variables, Constraint, Variable};
-use second::tree::first_unmet;
+use second::tree::{first_unmet, meets};
 use second::verdict::{hex, MarkerVerdict, SolverVerdict};
 use second::{answer, brute, Refusal, LEAST_BUFFER};
 
@@ -22,7 +22,6 @@ impl Comparison {
         self.all_sets_of_labels();
         self.all_sets_of_labels_and_joins();
         self.all_sets_of_labels_on_one_element();
-        self.all_labellings_marked();
         self.labels_in_wrong_places();
     }
 
@@ -68,7 +67,8 @@ impl Comparison {
         }
     }
 
-    /// Up to 3 records over 2 variables, held to every tree of up to 4 nodes with every labelling; then in every order and in another case.
+    /// Up to 3 records over 2 variables, held to every tree of up to 4 nodes with every labelling; then in every order, in another case, and
+    /// marked as they are and from last to first.
     fn all_sets_of_labels(&mut self) {
         const SORT: &str = "sets of up to 3 with capitals over 2 variables";
         let [x, y] = [0, 1].map(Variable);
@@ -80,6 +80,11 @@ impl Comparison {
                 let solved = self.set_in_every_case(SORT, constraints);
                 self.hold_labelled_trees(constraints, &solved.verdict, &BLANK_AND_LABELS);
                 self.every_order("orders of up to 3 with capitals over 2 variables", &solved);
+                self.all_labellings_marked(constraints);
+                let reversed: Vec<Constraint> = constraints.iter().rev().copied().collect();
+                if reversed != constraints {
+                    self.all_labellings_marked(&reversed);
+                }
             });
         }
     }
@@ -147,28 +152,23 @@ impl Comparison {
         self.against_all_small_trees += 1;
     }
 
-    /// Every tree of 2 and 3 nodes with every labelling and assignment, to one label record and to two.
-    fn all_labellings_marked(&mut self) {
-        let one = LABELS.map(|label| vec![(Variable(0), label)]);
-        let two = LABELS.iter().flat_map(|&first| {
-            LABELS.iter().flat_map(move |&second| {
-                [0, 1].map(|variable| vec![(Variable(0), first), (Variable(variable), second)])
-            })
-        });
-        for asked in one.into_iter().chain(two) {
-            let records: Vec<Constraint> = asked.iter().map(|&(x, label)| Constraint::Label(x, label)).collect();
-            let file = constraint::write(&records);
-            for nodes in [2, 3] {
-                for assignment in brute::assignments(number_of_variables(&records), nodes) {
-                    for tree in self.small_trees.of(nodes, &BLANK_AND_LABELS).iter() {
-                        let answer_file = answer::write(tree, &assignment);
-                        let is_unmet = |&(x, label)| small(tree.label(assignment.node_of(x))) != small(label);
-                        let expected = match asked.iter().position(is_unmet) {
-                            Some(position) => MarkerVerdict::Unmet { position, kind: 8 },
-                            None => MarkerVerdict::Met,
-                        };
-                        self.hold_marked_by_rule("every labelling of 2 and 3 nodes", &file, &answer_file, expected);
-                    }
+    /// Every tree of 2 and 3 nodes with every labelling and assignment: the first record is unmet that is so where labels are compared by the
+    /// comparison's own rule.
+    fn all_labellings_marked(&mut self, constraints: &[Constraint]) {
+        let file = constraint::write(constraints);
+        for nodes in [2, 3] {
+            for assignment in brute::assignments(number_of_variables(constraints), nodes) {
+                for tree in self.small_trees.of(nodes, &BLANK_AND_LABELS).iter() {
+                    let is_unmet = |&record: &Constraint| match record {
+                        Constraint::Label(x, label) => small(tree.label(assignment.node_of(x))) != small(label),
+                        other => !meets(tree, &assignment, other),
+                    };
+                    let expected = match constraints.iter().position(is_unmet) {
+                        Some(position) => MarkerVerdict::Unmet { position, kind: constraints[position].kind() },
+                        None => MarkerVerdict::Met,
+                    };
+                    let answer_file = answer::write(tree, &assignment);
+                    self.hold_marked_by_rule("every labelling of 2 and 3 nodes", &file, &answer_file, expected);
                 }
             }
         }
