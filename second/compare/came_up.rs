@@ -1,5 +1,6 @@
 //! What came up in a run, how often, and what must.
 
+use crate::shares::add;
 use std::collections::BTreeMap;
 use std::fmt;
 
@@ -28,6 +29,10 @@ impl CameUp {
 
     pub fn note_if_asked_for(&mut self, what: &str) {
         self.note_if(self.must.contains(&what), what);
+    }
+
+    pub fn add(&mut self, other: CameUp) {
+        add(&mut self.times, other.times);
     }
 
     /// What must have come up, or a longer run is needed.

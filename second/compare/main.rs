@@ -18,6 +18,7 @@ mod renumbered;
 mod reordered;
 mod rounds;
 mod selection;
+mod shares;
 mod shuffled;
 mod small;
 mod small_capitals;
@@ -29,7 +30,6 @@ use brothers::BROTHERS;
 use came_up::CameUp;
 use capitals::CAPITALS;
 use document::DOCUMENT;
-use meaning::all_ordered_trees;
 use one_pass::PASSES;
 use path_sorts::PathSorts;
 use questions::Random;
@@ -62,7 +62,7 @@ struct Comparison {
 }
 
 fn main() {
-    let mut seconds = 60;
+    let mut seconds = 30;
     let mut seed = 1;
     let words: Vec<String> = std::env::args().skip(1).collect();
     for option in words.chunks(2) {
@@ -75,41 +75,11 @@ fn main() {
             }
         }
     }
-    println!("compare: seed {seed}; all small questions and texts of paths, then random ones for {seconds} s");
+    println!(
+        "compare: seed {seed}; all that is small, then random questions and texts on each processor for {seconds} s"
+    );
     let start = Instant::now();
-    let mut comparison = Comparison {
-        random: Random::new(seed),
-        compared: Vec::new(),
-        seen: BTreeMap::new(),
-        counts: BTreeMap::new(),
-        against_all_small_trees: 0,
-        brothers: CameUp::new(&BROTHERS),
-        document: CameUp::new(&DOCUMENT),
-        capitals: CameUp::new(&CAPITALS),
-        shuffles: CameUp::new(&SHUFFLES),
-        passes: CameUp::new(&PASSES),
-        path_sorts: PathSorts::default(),
-        selections: Selections::default(),
-        small_trees: SmallTrees::default(),
-    };
-    all_ordered_trees();
-    comparison.empty_files();
-    comparison.long_answers();
-    comparison.all_small_questions();
-    comparison.all_small_answers();
-    comparison.all_small_documents();
-    comparison.all_small_capitals();
-    comparison.all_small_shuffles();
-    comparison.all_small_passes();
-    comparison.all_small_paths();
-    comparison.all_small_paths_with_capitals();
-    let deadline = Instant::now() + Duration::from_secs(seconds);
-    while Instant::now() < deadline {
-        comparison.round();
-        comparison.round();
-        comparison.path_round();
-    }
-    comparison.report(start.elapsed());
+    shares::compared(seconds, seed).report(start.elapsed());
 }
 
 fn disagree(sort: &str, how: &str) -> ! {
@@ -118,11 +88,33 @@ fn disagree(sort: &str, how: &str) -> ! {
 }
 
 impl Comparison {
-    fn tally(&mut self, sort: &'static str, verdict: String) {
-        match self.compared.iter_mut().find(|(name, _)| *name == sort) {
-            Some((_, count)) => *count += 1,
-            None => self.compared.push((sort, 1)),
+    fn new(seed: u64) -> Comparison {
+        Comparison {
+            random: Random::new(seed),
+            compared: Vec::new(),
+            seen: BTreeMap::new(),
+            counts: BTreeMap::new(),
+            against_all_small_trees: 0,
+            brothers: CameUp::new(&BROTHERS),
+            document: CameUp::new(&DOCUMENT),
+            capitals: CameUp::new(&CAPITALS),
+            shuffles: CameUp::new(&SHUFFLES),
+            passes: CameUp::new(&PASSES),
+            path_sorts: PathSorts::default(),
+            selections: Selections::default(),
+            small_trees: SmallTrees::default(),
         }
+    }
+
+    fn count(&mut self, sort: &'static str, inputs: u64) {
+        match self.compared.iter_mut().find(|(name, _)| *name == sort) {
+            Some((_, count)) => *count += inputs,
+            None => self.compared.push((sort, inputs)),
+        }
+    }
+
+    fn tally(&mut self, sort: &'static str, verdict: String) {
+        self.count(sort, 1);
         *self.seen.entry(verdict).or_default() += 1;
     }
 

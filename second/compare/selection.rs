@@ -12,17 +12,17 @@ use second::tree::{first_unmet, Assignment, Node, Tree};
 use second::verdict::{hex, SolverVerdict};
 use second::{answer, brute, LEAST_BUFFER};
 use std::collections::{BTreeMap, BTreeSet};
-use std::rc::Rc;
+use std::sync::Arc;
 
 const SORT: &str = "paths against definition 2.3";
 
 /// The small trees by their number of nodes and their labels, made once.
 #[derive(Default)]
-pub struct SmallTrees(BTreeMap<(usize, Vec<u8>), Rc<Vec<Tree>>>);
+pub struct SmallTrees(BTreeMap<(usize, Vec<u8>), Arc<Vec<Tree>>>);
 
 impl SmallTrees {
-    pub fn of(&mut self, nodes: usize, labels: &[u8]) -> Rc<Vec<Tree>> {
-        self.0.entry((nodes, labels.to_vec())).or_insert_with(|| Rc::new(brute::trees(nodes, labels))).clone()
+    pub fn of(&mut self, nodes: usize, labels: &[u8]) -> Arc<Vec<Tree>> {
+        self.0.entry((nodes, labels.to_vec())).or_insert_with(|| Arc::new(brute::trees(nodes, labels))).clone()
     }
 }
 
