@@ -40,3 +40,4 @@ pub mod OnePass
 -- capitals: files that are equal but for the case of their labels are judged alike, and get one answer
 pub mod RecasedFiles
 pub mod Capitals
+pub mod PathCapitals

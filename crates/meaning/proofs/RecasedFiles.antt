@@ -33,7 +33,7 @@ small-kept F f (a ∷ b ∷ c ∷ d ∷ bs) = f a b c d (smallLabels bs) bs (sma
 case-kept {ℓ} : {X : Type ℓ} (F : List ℕ → X) → CaseBlind F → (file other : List ℕ) → EqualButForCase file other → F file ≡ F other
 case-kept F f file other e = sym (small-kept F f file) ∙ ap F e ∙ small-kept F f other
 
-length-kept : (file other : List ℕ) → EqualButForCase file other → length file ≡ length other
+pub length-kept : (file other : List ℕ) → EqualButForCase file other → length file ≡ length other
 length-kept = case-kept length (λ a b c d bs cs e. omega arith)
 
 -- ---- the tests on a label
