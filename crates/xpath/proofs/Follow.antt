@@ -18,8 +18,9 @@ use Rattle.meaning.specs.PathRecords.{Sheet, nextTaken, withRecords, rootedBy, 
 use Rattle.meaning.proofs.Tests.{clash, yes-case, pick-yes, pick-no, is-lt, lt-yes, eq-yes, is-eq}
 use Rattle.theory.proofs.PathFile.{file-length}
 use Rattle.meaning.proofs.PathSheets.{letter-range, rooted-next}
-use Rattle.xpath.specs.declared.Axis.{Axis}
-use Rattle.xpath.specs.Reading.{axisFor, nextIn, rootIn, bytesIn, numberedIn, putIn, rootedIn, axisIn, moveIn, Follows, For}
+use Rattle.axes.specs.declared.Axis.{Axis}
+use Rattle.axes.specs.Moving.{axisFor}
+use Rattle.xpath.specs.Reading.{nextIn, rootIn, bytesIn, numberedIn, putIn, rootedIn, axisIn, moveIn, Follows, For}
 
 -- ---- one number more
 

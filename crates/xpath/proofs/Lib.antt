@@ -1,5 +1,3 @@
-pub mod Front
-pub mod Moves
 pub mod Follow
 pub mod Copying
 pub mod Small

@@ -17,10 +17,11 @@ use Rattle.meaning.proofs.Tests.{pick-yes, pick-no, eq-yes, is-eq}
 use Rattle.meaning.proofs.PathSheets.{step-next}
 use Rattle.theory.specs.PathReader.{Got, nothing, got, andThen, byte, goesOn, moveAt, pathAt, stepsAt, stepAt, bracketsAt, fuel, linesAt}
 use Rattle.theory.proofs.PathScan.{goes-on-brackets}
-use Rattle.xpath.specs.declared.Axis as code
-use Rattle.xpath.specs.declared.Moved.{Moved}
-use Rattle.xpath.specs.declared.Moved.the-variants as moved
-use Rattle.xpath.specs.Reading.{MoveRead, nextIn, rootIn, numberedIn, putIn, rootedIn, moveIn, endNumber, endNumbered, Follows, For, ReadTo, BracketsRead, StepRead, EndRead, LineRead, AllRead, LinesRead}
+use Rattle.axes.specs.declared.Axis as code
+use Rattle.axes.specs.declared.Moved.{Moved}
+use Rattle.axes.specs.declared.Moved.the-variants as moved
+use Rattle.axes.specs.Moving.{MoveRead}
+use Rattle.xpath.specs.Reading.{nextIn, rootIn, numberedIn, putIn, rootedIn, moveIn, endNumber, endNumbered, Follows, For, ReadTo, BracketsRead, StepRead, EndRead, LineRead, AllRead, LinesRead}
 use Rattle.xpath.proofs.Follow.{numbered-follows, rooted-follows, put-follows}
 use Rattle.xpath.proofs.Returns.{above, read-nothing, read-got, read-along, read-map, byte-yes, byte-no, one-on, small-after, move-none, move-some, step-is}
 

@@ -15,10 +15,11 @@ use Rattle.meaning.specs.PathRecords.{Sheet, nextTaken, rooted, pathSheet, step
 use Rattle.meaning.proofs.Tests.{pick-yes, pick-no, eq-yes, is-eq}
 use Rattle.meaning.proofs.PathSheets.{path-next, step-next}
 use Rattle.theory.specs.PathReader.{Got, nothing, got, andThen, byte, moveAt, pathAt, stepsAt, stepAt, bracketsAt}
-use Rattle.xpath.specs.declared.Axis as code
-use Rattle.xpath.specs.declared.Moved.{Moved}
-use Rattle.xpath.specs.declared.Moved.the-variants as moved
-use Rattle.xpath.specs.Reading.{axisFor, MoveRead, nextIn, rootIn, numberedIn, rootedIn, moveIn, Follows, For, ReadTo, PathRead, StepsRead, StepRead, BracketsRead}
+use Rattle.axes.specs.declared.Axis as code
+use Rattle.axes.specs.declared.Moved.{Moved}
+use Rattle.axes.specs.declared.Moved.the-variants as moved
+use Rattle.axes.specs.Moving.{axisFor, MoveRead}
+use Rattle.xpath.specs.Reading.{nextIn, rootIn, numberedIn, rootedIn, moveIn, Follows, For, ReadTo, PathRead, StepsRead, StepRead, BracketsRead}
 use Rattle.xpath.proofs.Follow.{numbered-follows, rooted-follows, move-follows}
 
 pub above : {i : ℕ} → (i ≡ 0 → ⊥) → 0 < i

@@ -7,7 +7,7 @@ use native.Mathlib.Omega.{arith}
 use lib.ListN.{set}
 use lib.Seq.{sets}
 use Rattle.meaning.proofs.Tests.{pick-yes, pick-no, lt-yes, is-lt, eq-yes, is-eq}
-use Rattle.xpath.specs.declared.Axis.{Axis}
+use Rattle.axes.specs.declared.Axis.{Axis}
 use Rattle.xpath.specs.Reading.{nextIn, rootIn, bytesIn, numberedIn, putIn, rootedIn, axisIn, moveIn}
 
 module _ (b : List ℕ) where

@@ -13,37 +13,9 @@ use Rattle.meaning.specs.Paths.{Test, Step, move, testByte}
 use Rattle.meaning.specs.PathRecords.{Sheet, fileBytes, pathSheet, stepsSheet, stepSheet, endSheet, lineSheet, linesSheet}
 use Rattle.meaning.specs.Results.{PathsRead, paths-refused, paths-written}
 use Rattle.theory.specs.PathReader.{Got, nothing, got, pathAt, stepsAt, stepAt, bracketsAt, linesAt}
-use Rattle.xpath.specs.declared.Axis.{Axis}
-use Rattle.xpath.specs.declared.Named.{Named}
-use Rattle.xpath.specs.declared.Named.the-variants as named
-use Rattle.xpath.specs.declared.Moved.{Moved}
-use Rattle.xpath.specs.declared.Moved.the-variants as moved
+use Rattle.axes.specs.declared.Axis.{Axis}
 use Rattle.xpath.specs.declared.Answer.{Answer}
 use Rattle.xpath.specs.declared.Answer.the-variants.{Written, Refused}
-
--- ---- names and tests
-
--- the kind of an axis's record, and whether its x is the node reached
-abbrev pub axisFor : spec.Axis → Axis
-axisFor spec.to-self = record { 0 = 4; 1 = false }
-axisFor spec.to-child = record { 0 = 1; 1 = false }
-axisFor spec.to-parent = record { 0 = 1; 1 = true }
-axisFor spec.to-descendant = record { 0 = 3; 1 = false }
-axisFor spec.to-ancestor = record { 0 = 3; 1 = true }
-axisFor spec.to-descendant-or-self = record { 0 = 2; 1 = false }
-axisFor spec.to-ancestor-or-self = record { 0 = 2; 1 = true }
-axisFor spec.to-following-sibling = record { 0 = 9; 1 = false }
-axisFor spec.to-preceding-sibling = record { 0 = 9; 1 = true }
-
--- r is an axis read of s at a place, and the place after its name
-abbrev pub AxisRead : List ℕ → ℕ → Got spec.Axis → Named → Type 0
-AxisRead s at nothing r = r ≡ named.Unknown
-AxisRead s at (got a rest) r = (e : ℕ) × (r ≡ named.Is (axisFor a) e) × (drop e s ≡ rest) × (at < e) × (e ≤ length s)
-
--- r is a move read of s at a place, and the place after it
-abbrev pub MoveRead : List ℕ → ℕ → Got Step → Moved → Type 0
-MoveRead s at nothing r = r ≡ moved.Not
-MoveRead s at (got m rest) r = (a : spec.Axis) × (t : Test) × (e : ℕ) × (r ≡ moved.Is (axisFor a) (testByte t) e) × (m ≡ move a t) × (drop e s ≡ rest) × (at < e) × (e ≤ length s)
 
 -- ---- a sheet of bytes
 

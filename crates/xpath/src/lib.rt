@@ -5,8 +5,8 @@ ghost use mathlib.Core.List.{List, _++_};
 ghost use Prim.Native.Nat.{ℕ, _+_, _*_, _-_, _<_, _≤_};
 ghost use lib.ListN.{length, getD, take, drop};
 ghost use Rattle.meaning.specs.Results.{pathsWrote};
-ghost use Rattle.theory.specs.PathReader.{front, axisAt, moveAt, goesOn, readPaths};
-ghost use Rattle.xpath.specs.Reading.{AxisRead, MoveRead, nextIn, rootIn, numberedIn, putIn, rootedIn, axisIn, moveIn, endNumber, endNumbered, Ahead, Level, PathRead, StepsRead, StepRead, BracketsRead, EndRead, LineRead, LinesRead, AnswerOf};
+ghost use Rattle.theory.specs.PathReader.{goesOn, readPaths};
+ghost use Rattle.xpath.specs.Reading.{nextIn, rootIn, numberedIn, putIn, rootedIn, axisIn, moveIn, endNumber, endNumbered, Ahead, Level, PathRead, StepsRead, StepRead, BracketsRead, EndRead, LineRead, LinesRead, AnswerOf};
 
 // A sheet: room for 48 records, more than a text of 16 variables needs; then the next number, the root's number (0 while there is none) and the
 // bytes of the records. It is lent and not passed by value, since each level of brackets would copy it. Numbers stop at 17 and records at 48, so
@@ -19,140 +19,18 @@ const LENGTH: usize = 194;
 
 const SHEET_BYTES: usize = 195;
 
-// The kinds of record that are written.
-const CHILD: u8 = 1;
-
-const BELOW: u8 = 2;
-
-const STRICTLY_BELOW: u8 = 3;
-
+// The kinds of record that are written beside those of axes.
 const SAME: u8 = 4;
 
 const ROOTED: u8 = 6;
 
 const LABELLED: u8 = 8;
 
-const BEFORE: u8 = 9;
-
-// What an axis writes: the kind of its record, and whether x is the node reached.
-pub struct Axis(pub u8, pub bool);
-
-// An axis and the place after its name.
-pub enum Named {
-    Is(Axis, usize),
-    Unknown,
-}
-
-// An axis, the byte of a test and the place after it.
-pub enum Moved {
-    Is(Axis, u8, usize),
-    Not,
-}
-
 pub enum Answer {
     // So many bytes at the front of the buffer.
     Written(usize),
     // The number of the first question that is answered no.
     Refused(u8),
-}
-
-// The byte at a place, and 0 past the end.
-fn byte_at(s: &[u8], at: usize) -> u8
-    ensures { λ r. ⌜ r ≡ getD (now (s .entry)) at 0 ⌝ }
-{
-    if at < s.len() { s[at] } else { 0 }
-}
-
-// Whether the word stands at a place.
-fn starts(s: &[u8], at: usize, word: &[u8]) -> bool
-    requires { ⌜ 0 < length (now word) ⌝ }
-    ensures { λ r. ⌜ r ≡ front (drop at (now (s .entry))) (now (word .entry)) ⌝ }
-    ensures within { λ r. ⌜ (r ≡ true → at + length (now (word .entry)) ≤ length (now (s .entry))) ⌝ }
-{
-    if s.len() < at {
-        return false;
-    }
-    if s.len() - at < word.len() {
-        return false;
-    }
-    let mut i: usize = 0;
-    while i < word.len() {
-        if s[at + i] != word[i] {
-            return false;
-        }
-        i += 1;
-    }
-    true
-}
-
-// The axis whose name stands at a place, the longer name first.
-fn axis_at(s: &[u8], at: usize) -> Named
-    ensures { λ r. ⌜ AxisRead (now (s .entry)) at (axisAt (drop at (now (s .entry)))) r ⌝ }
-{
-    let first = byte_at(s, at);
-    if first == b'd' {
-        if starts(s, at, b"descendant-or-self") {
-            return Named::Is(Axis(BELOW, false), at + 18);
-        }
-        if starts(s, at, b"descendant") {
-            return Named::Is(Axis(STRICTLY_BELOW, false), at + 10);
-        }
-        return Named::Unknown;
-    }
-    if first == b'a' {
-        if starts(s, at, b"ancestor-or-self") {
-            return Named::Is(Axis(BELOW, true), at + 16);
-        }
-        if starts(s, at, b"ancestor") {
-            return Named::Is(Axis(STRICTLY_BELOW, true), at + 8);
-        }
-        return Named::Unknown;
-    }
-    if first == b'p' {
-        if starts(s, at, b"preceding-sibling") {
-            return Named::Is(Axis(BEFORE, true), at + 17);
-        }
-        if starts(s, at, b"parent") {
-            return Named::Is(Axis(CHILD, true), at + 6);
-        }
-        return Named::Unknown;
-    }
-    if first == b'f' {
-        if starts(s, at, b"following-sibling") {
-            return Named::Is(Axis(BEFORE, false), at + 17);
-        }
-        return Named::Unknown;
-    }
-    if starts(s, at, b"child") {
-        return Named::Is(Axis(CHILD, false), at + 5);
-    }
-    if starts(s, at, b"self") {
-        return Named::Is(Axis(SAME, false), at + 4);
-    }
-    Named::Unknown
-}
-
-// An axis, :: and a test.
-fn move_at(s: &[u8], at: usize) -> Moved
-    ensures { λ r. ⌜ MoveRead (now (s .entry)) at (moveAt (drop at (now (s .entry)))) r ⌝ }
-{
-    let named = axis_at(s, at);
-    match named {
-        Named::Unknown => Moved::Not,
-        Named::Is(axis, end) => {
-            if !starts(s, end, b"::") {
-                return Moved::Not;
-            }
-            let test = byte_at(s, end + 2);
-            if labels::is_letter(test) {
-                return Moved::Is(axis, test, end + 3);
-            }
-            if test == b'*' {
-                return Moved::Is(axis, test, end + 3);
-            }
-            Moved::Not
-        }
-    }
 }
 
 // Gives the next number away.
@@ -198,7 +76,7 @@ fn rooted(sheet: &mut [u8; SHEET_BYTES]) -> u8
 }
 
 // The axis record of a step from x to y.
-fn put_axis(axis: Axis, x: u8, y: u8, sheet: &mut [u8; SHEET_BYTES])
+fn put_axis(axis: axes::Axis, x: u8, y: u8, sheet: &mut [u8; SHEET_BYTES])
     ensures { λ _. ⌜ now (sheet .exit) ≡ axisIn axis x y (now (sheet .entry)) ⌝ }
 {
     if axis.1 {
@@ -209,7 +87,7 @@ fn put_axis(axis: Axis, x: u8, y: u8, sheet: &mut [u8; SHEET_BYTES])
 }
 
 // The axis record of a step from x to y, then any label.
-fn put_move(axis: Axis, test: u8, x: u8, y: u8, sheet: &mut [u8; SHEET_BYTES])
+fn put_move(axis: axes::Axis, test: u8, x: u8, y: u8, sheet: &mut [u8; SHEET_BYTES])
     ensures { λ _. ⌜ now (sheet .exit) ≡ moveIn axis test x y (now (sheet .entry)) ⌝ }
 {
     put_axis(axis, x, y, sheet);
@@ -227,11 +105,11 @@ fn path(s: &[u8], at: usize, x: u8, sheet: &mut [u8; SHEET_BYTES]) -> usize
     ensures { λ r. ⌜ PathRead (now (s .entry)) at x (now (sheet .entry)) r (now (sheet .exit)) ⌝ }
     ensures ahead { λ r. ⌜ Ahead (now (s .entry)) at r ⌝ }
 {
-    if byte_at(s, at) != b'/' {
+    if axes::byte_at(s, at) != b'/' {
         return steps(s, at, x, sheet);
     }
     let root = rooted(sheet);
-    if labels::is_small(byte_at(s, at + 1)) {
+    if labels::is_small(axes::byte_at(s, at + 1)) {
         return steps(s, at + 1, root, sheet);
     }
     at + 1
@@ -250,7 +128,7 @@ fn steps(s: &[u8], at: usize, x: u8, sheet: &mut [u8; SHEET_BYTES]) -> usize
         if end == 0 {
             return 0;
         }
-        if byte_at(s, end) != b'/' {
+        if axes::byte_at(s, end) != b'/' {
             return end;
         }
         i = end + 1;
@@ -263,10 +141,10 @@ fn step(s: &[u8], at: usize, x: u8, y: u8, sheet: &mut [u8; SHEET_BYTES]) -> usi
     ensures { λ r. ⌜ StepRead (now (s .entry)) at x y (now (sheet .entry)) r (now (sheet .exit)) ⌝ }
     ensures ahead { λ r. ⌜ Ahead (now (s .entry)) at r ⌝ }
 {
-    let found = move_at(s, at);
+    let found = axes::move_at(s, at);
     match found {
-        Moved::Not => 0,
-        Moved::Is(axis, test, end) => {
+        axes::Moved::Not => 0,
+        axes::Moved::Is(axis, test, end) => {
             put_move(axis, test, x, y, sheet);
             brackets(s, end, y, sheet)
         }
@@ -279,12 +157,12 @@ fn brackets(s: &[u8], at: usize, y: u8, sheet: &mut [u8; SHEET_BYTES]) -> usize
     ensures level { λ r. ⌜ Level (now (s .entry)) at r ⌝ }
 {
     let mut i = at;
-    while byte_at(s, i) == b'[' {
+    while axes::byte_at(s, i) == b'[' {
         let end = path(s, i + 1, y, sheet);
         if end == 0 {
             return 0;
         }
-        if byte_at(s, end) != b']' {
+        if axes::byte_at(s, end) != b']' {
             return 0;
         }
         i = end + 1;
@@ -297,7 +175,7 @@ fn goes_on(s: &[u8], at: usize) -> bool
     requires { ⌜ at ≤ length (now s) ⌝ }
     ensures { λ r. ⌜ r ≡ goesOn 0 (drop at (now (s .entry))) ⌝ }
 {
-    let first = byte_at(s, at);
+    let first = axes::byte_at(s, at);
     if first != b'[' {
         return first == b'/';
     }
@@ -319,7 +197,7 @@ fn goes_on(s: &[u8], at: usize) -> bool
                 depth -= 1;
                 continue;
             }
-            let next = byte_at(s, i);
+            let next = axes::byte_at(s, i);
             if next != b'[' {
                 return next == b'/';
             }
@@ -350,19 +228,19 @@ fn end_steps(s: &[u8], at: usize, x: u8, sheet: &mut [u8; SHEET_BYTES]) -> usize
     let mut from = x;
     let mut i = at;
     loop {
-        let found = move_at(s, i);
+        let found = axes::move_at(s, i);
         match found {
-            Moved::Not => {
+            axes::Moved::Not => {
                 return 0;
             }
-            Moved::Is(axis, test, tested) => {
+            axes::Moved::Is(axis, test, tested) => {
                 let y = end_number(s, tested, sheet);
                 put_move(axis, test, from, y, sheet);
                 let end = brackets(s, tested, y, sheet);
                 if end == 0 {
                     return 0;
                 }
-                if byte_at(s, end) != b'/' {
+                if axes::byte_at(s, end) != b'/' {
                     return end;
                 }
                 i = end + 1;
@@ -377,12 +255,12 @@ fn line(s: &[u8], at: usize, sheet: &mut [u8; SHEET_BYTES]) -> usize
     ensures { λ r. ⌜ LineRead (now (s .entry)) at (now (sheet .entry)) r (now (sheet .exit)) ⌝ }
     ensures ahead { λ r. ⌜ Ahead (now (s .entry)) at r ⌝ }
 {
-    if byte_at(s, at) != b'/' {
+    if axes::byte_at(s, at) != b'/' {
         let x = number(sheet);
         return end_steps(s, at, x, sheet);
     }
     let root = rooted(sheet);
-    if labels::is_small(byte_at(s, at + 1)) {
+    if labels::is_small(axes::byte_at(s, at + 1)) {
         return end_steps(s, at + 1, root, sheet);
     }
     put(SAME, root, 0, 0, sheet);
@@ -404,7 +282,7 @@ fn lines(s: &[u8], at: usize, n: u8, sheet: &mut [u8; SHEET_BYTES]) -> bool
         if end == 0 {
             return false;
         }
-        if byte_at(s, end) != 10 {
+        if axes::byte_at(s, end) != 10 {
             return false;
         }
         i = end + 1;

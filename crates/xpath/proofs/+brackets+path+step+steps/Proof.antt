@@ -5,7 +5,7 @@ use lib.Dec.{lit<}
 use lib.ListN.{length, drop}
 use Rattle.meaning.specs.Paths.{isSmall}
 use Rattle.theory.specs.PathReader.{moveAt}
-use Rattle.xpath.proofs.Moves.{byte-inside}
+use Rattle.axes.proofs.Moves.{byte-inside}
 use Rattle.xpath.proofs.Returns.{above, path-here, path-alone, path-root, steps-bad, steps-one, steps-more, move-some, step-not, step-is, brackets-none, brackets-bad, brackets-open, brackets-more}
 use Rattle.xpath.specs.Reading.{StepsRead, BracketsRead}
 use mathlib.Core.List.{List}
@@ -25,9 +25,9 @@ use Rattle.xpath.proofs.+brackets+path+step+steps.Lts-step as step-lts
 use Rattle.xpath.proofs.steps.Reads as steps
 use Rattle.xpath.proofs.steps.Kinds as steps-kinds
 use Rattle.xpath.proofs.+brackets+path+step+steps.Lts-steps as steps-lts
-use Rattle.xpath.proofs.byte_at.Reads as byte-at-reads
+use Rattle.axes.proofs.byte_at.Reads as byte-at-reads
 use Rattle.labels.proofs.is_small.Reads as is-small-reads
-use Rattle.xpath.proofs.move_at.Reads as move-at-reads
+use Rattle.axes.proofs.move_at.Reads as move-at-reads
 use Rattle.xpath.proofs.number.Reads as number-reads
 use Rattle.xpath.proofs.put_move.Reads as put-move-reads
 use Rattle.xpath.proofs.rooted.Reads as rooted-reads

@@ -7,7 +7,7 @@ use lib.Dec.{lit<}
 use lib.ListN.{length, drop}
 use Rattle.theory.specs.PathReader.{moveAt, goesOn}
 use Rattle.xpath.specs.Reading.{EndRead}
-use Rattle.xpath.proofs.Moves.{byte-inside}
+use Rattle.axes.proofs.Moves.{byte-inside}
 use Rattle.xpath.proofs.Returns.{above, move-some}
 use Rattle.xpath.proofs.LineReturns.{end-not, end-bad, end-one, end-more}
 use borrow.Author.Needs.{needs}
@@ -16,9 +16,9 @@ use Rattle.xpath.proofs.end_steps.Tie as tie
 use Rattle.xpath.proofs.end_steps.Reads as reads
 use Rattle.xpath.proofs.end_steps.Lts as lts
 use Rattle.xpath.proofs.brackets.Reads as brackets-reads
-use Rattle.xpath.proofs.byte_at.Reads as byte-at-reads
+use Rattle.axes.proofs.byte_at.Reads as byte-at-reads
 use Rattle.xpath.proofs.end_number.Reads as end-number-reads
-use Rattle.xpath.proofs.move_at.Reads as move-at-reads
+use Rattle.axes.proofs.move_at.Reads as move-at-reads
 use Rattle.xpath.proofs.put_move.Reads as put-move-reads
 
 abbrev Inv-loop : tie.InvT-loop

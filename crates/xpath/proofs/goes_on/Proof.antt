@@ -4,14 +4,14 @@ use native.Mathlib.Omega.{arith}
 use lib.Dec.{eqb, lit<}
 use lib.ListN.{length, drop}
 use Rattle.theory.specs.PathReader.{goesOn}
-use Rattle.xpath.proofs.Moves.{byte-inside}
+use Rattle.axes.proofs.Moves.{byte-inside}
 use Rattle.xpath.proofs.Scan.{goes-on-end, goes-on-open, goes-on-close, goes-on-inside, goes-on-now, goes-on-last, goes-on-next, other-one}
 use borrow.Author.Needs.{needs}
 use Rattle.xpath.proofs.goes_on.Statement.{statement}
 use Rattle.xpath.proofs.goes_on.Tie as tie
 use Rattle.xpath.proofs.goes_on.Reads as reads
 use Rattle.xpath.proofs.goes_on.Lts as lts
-use Rattle.xpath.proofs.byte_at.Reads as byte-at-reads
+use Rattle.axes.proofs.byte_at.Reads as byte-at-reads
 
 abbrev Inv-loop : tie.InvT-loop
 Inv-loop s at first depth₀ i₀ depth i = (i ≤ length s) × (0 < depth) × (depth ≤ i) × (goesOn depth (drop i s) ≡ goesOn 0 (drop at s))

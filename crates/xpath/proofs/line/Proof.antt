@@ -2,14 +2,14 @@ use mathlib.Core.Path.{sym, ap, _∙_}
 use native.Mathlib.Omega.{arith}
 use lib.Dec.{lit<}
 use Rattle.meaning.specs.Paths.{isSmall}
-use Rattle.xpath.proofs.Moves.{byte-inside}
+use Rattle.axes.proofs.Moves.{byte-inside}
 use Rattle.xpath.proofs.LineReturns.{line-here, line-alone, line-root}
 use borrow.Author.Needs.{needs}
 use Rattle.xpath.proofs.line.Statement.{statement}
 use Rattle.xpath.proofs.line.Tie as tie
 use Rattle.xpath.proofs.line.Reads as reads
 use Rattle.xpath.proofs.line.Lts as lts
-use Rattle.xpath.proofs.byte_at.Reads as byte-at-reads
+use Rattle.axes.proofs.byte_at.Reads as byte-at-reads
 use Rattle.xpath.proofs.end_steps.Reads as end-steps-reads
 use Rattle.labels.proofs.is_small.Reads as is-small-reads
 use Rattle.xpath.proofs.number.Reads as number-reads

@@ -6,7 +6,7 @@ use native.Mathlib.Omega.{arith}
 use lib.Dec.{lit<}
 use lib.ListN.{length}
 use Rattle.xpath.specs.Reading.{LinesRead}
-use Rattle.xpath.proofs.Moves.{byte-inside}
+use Rattle.axes.proofs.Moves.{byte-inside}
 use Rattle.xpath.proofs.Returns.{above}
 use Rattle.xpath.proofs.LineReturns.{other, lines-end, lines-over, lines-bad, lines-open, lines-more}
 use borrow.Author.Needs.{needs}
@@ -14,7 +14,7 @@ use Rattle.xpath.proofs.lines.Statement.{statement}
 use Rattle.xpath.proofs.lines.Tie as tie
 use Rattle.xpath.proofs.lines.Reads as reads
 use Rattle.xpath.proofs.lines.Lts as lts
-use Rattle.xpath.proofs.byte_at.Reads as byte-at-reads
+use Rattle.axes.proofs.byte_at.Reads as byte-at-reads
 use Rattle.xpath.proofs.line.Reads as line-reads
 
 abbrev Inv-loop : tie.InvT-loop

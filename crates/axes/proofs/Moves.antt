@@ -15,11 +15,11 @@ use Rattle.meaning.specs.Ascii.{ascii}
 use Rattle.meaning.specs.Paths.{Axis, to-self, to-child, to-parent, to-descendant, to-ancestor, to-descendant-or-self, to-ancestor-or-self, to-following-sibling, to-preceding-sibling, isLetter, Test, letter, any, Step, move, axisText, testByte}
 use Rattle.meaning.proofs.Tests.{pick-yes, pick-no, eq-yes, is-eq, not-yes}
 use Rattle.theory.specs.PathReader.{Got, nothing, got, andThen, byte, front, afterName, axisAt, testBy, testAt, moveAt}
-use Rattle.xpath.specs.declared.Axis as code
-use Rattle.xpath.specs.declared.Named.{Named}
-use Rattle.xpath.specs.declared.Named.the-variants as named
-use Rattle.xpath.specs.declared.Moved.the-variants as moved
-use Rattle.xpath.specs.Reading.{axisFor, AxisRead, MoveRead}
+use Rattle.axes.specs.declared.Axis as code
+use Rattle.axes.specs.declared.Named.{Named}
+use Rattle.axes.specs.declared.Named.the-variants as named
+use Rattle.axes.specs.declared.Moved.the-variants as moved
+use Rattle.axes.specs.Moving.{axisFor, AxisRead, MoveRead}
 
 name-long : (a : Axis) → 0 < length (axisText a)
 unfolding axisText ascii

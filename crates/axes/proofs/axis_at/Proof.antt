@@ -3,14 +3,14 @@ use native.Mathlib.Omega.{arith}
 use Rattle.meaning.specs.Ascii.{ascii}
 use Rattle.meaning.specs.Paths.{to-self, to-child, to-parent, to-descendant, to-ancestor, to-descendant-or-self, to-ancestor-or-self, to-following-sibling, to-preceding-sibling, axisText}
 use Rattle.theory.specs.PathReader.{axisAt}
-use Rattle.xpath.proofs.Moves.{name-hit, name-miss, d-second, d-none, a-first, a-second, a-none, p-first, p-second, p-none, f-first, f-none, past-four}
+use Rattle.axes.proofs.Moves.{name-hit, name-miss, d-second, d-none, a-first, a-second, a-none, p-first, p-second, p-none, f-first, f-none, past-four}
 use borrow.Author.Needs.{needs}
-use Rattle.xpath.proofs.axis_at.Statement.{statement}
-use Rattle.xpath.proofs.axis_at.Tie as tie
-use Rattle.xpath.proofs.axis_at.Reads as reads
-use Rattle.xpath.proofs.axis_at.Lts as lts
-use Rattle.xpath.proofs.byte_at.Reads as byte-at-reads
-use Rattle.xpath.proofs.starts.Reads as starts-reads
+use Rattle.axes.proofs.axis_at.Statement.{statement}
+use Rattle.axes.proofs.axis_at.Tie as tie
+use Rattle.axes.proofs.axis_at.Reads as reads
+use Rattle.axes.proofs.axis_at.Lts as lts
+use Rattle.axes.proofs.byte_at.Reads as byte-at-reads
+use Rattle.axes.proofs.starts.Reads as starts-reads
 
 byte-at-requires : tie.Need-byte-at-requires
 byte-at-requires c κs = search needs

@@ -5,12 +5,12 @@ use native.Mathlib.Nat.{add-zero, add-assoc}
 use native.Mathlib.Omega.{arith}
 use lib.ListN.{length, drop, length-drop}
 use Rattle.theory.specs.PathReader.{front}
-use Rattle.xpath.proofs.Front.{front-short, front-more, front-miss, front-end}
+use Rattle.axes.proofs.Front.{front-short, front-more, front-miss, front-end}
 use borrow.Author.Needs.{needs}
-use Rattle.xpath.proofs.starts.Statement.{statement}
-use Rattle.xpath.proofs.starts.Tie as tie
-use Rattle.xpath.proofs.starts.Reads as reads
-use Rattle.xpath.proofs.starts.Lts as lts
+use Rattle.axes.proofs.starts.Statement.{statement}
+use Rattle.axes.proofs.starts.Tie as tie
+use Rattle.axes.proofs.starts.Reads as reads
+use Rattle.axes.proofs.starts.Lts as lts
 
 abbrev Inv-loop : tie.InvT-loop
 Inv-loop s at word i₀ i = (i ≤ length word) × (front (drop (at + i) s) (drop i word) ≡ front (drop at s) word)

@@ -1,10 +1,10 @@
 use mathlib.Core.Path.{sym}
 use lib.ListN.{List·getD-eq-default}
 use borrow.Author.Needs.{needs}
-use Rattle.xpath.proofs.byte_at.Statement.{statement}
-use Rattle.xpath.proofs.byte_at.Tie as tie
-use Rattle.xpath.proofs.byte_at.Reads as reads
-use Rattle.xpath.proofs.byte_at.Lts as lts
+use Rattle.axes.proofs.byte_at.Statement.{statement}
+use Rattle.axes.proofs.byte_at.Tie as tie
+use Rattle.axes.proofs.byte_at.Reads as reads
+use Rattle.axes.proofs.byte_at.Lts as lts
 
 -- src/lib.rt:21:23
 shared-slice-read-result : tie.Need-shared-slice-read-result

@@ -4,16 +4,16 @@ use native.Mathlib.Omega.{arith}
 use lib.ListN.{drop}
 use borrow.Author.Tests.{not-true, not-false}
 use Rattle.theory.specs.PathReader.{axisAt}
-use Rattle.xpath.proofs.Moves.{axis-none, axis-some, move-none, no-colons, a-letter, a-star, no-test, letter-inside, byte-inside}
+use Rattle.axes.proofs.Moves.{axis-none, axis-some, move-none, no-colons, a-letter, a-star, no-test, letter-inside, byte-inside}
 use borrow.Author.Needs.{needs}
-use Rattle.xpath.proofs.move_at.Statement.{statement}
-use Rattle.xpath.proofs.move_at.Tie as tie
-use Rattle.xpath.proofs.move_at.Reads as reads
-use Rattle.xpath.proofs.move_at.Lts as lts
-use Rattle.xpath.proofs.axis_at.Reads as axis-at-reads
-use Rattle.xpath.proofs.byte_at.Reads as byte-at-reads
+use Rattle.axes.proofs.move_at.Statement.{statement}
+use Rattle.axes.proofs.move_at.Tie as tie
+use Rattle.axes.proofs.move_at.Reads as reads
+use Rattle.axes.proofs.move_at.Lts as lts
+use Rattle.axes.proofs.axis_at.Reads as axis-at-reads
+use Rattle.axes.proofs.byte_at.Reads as byte-at-reads
 use Rattle.labels.proofs.is_letter.Reads as is-letter-reads
-use Rattle.xpath.proofs.starts.Reads as starts-reads
+use Rattle.axes.proofs.starts.Reads as starts-reads
 
 axis-at-requires : tie.Need-axis-at-requires
 axis-at-requires c κs = search needs
