@@ -5,17 +5,16 @@ use mathlib.Core.Logic.{⊎-elim}
 use mathlib.Core.List.{List, [], _∷_, _++_, map, map-append, List·Memᴰ, List·Memᴰ·head, List·Memᴰ·tail, List·Memᴰ·cases-cons, List·Memᴰ·not-nil}
 use Prim.Native.Nat.{ℕ, zero, suc, _+_, _<_}
 use native.Mathlib.Omega.{arith}
-use lib.ListN.{length, length-map}
-use lib.Dec.{leb}
-use Rattle.meaning.specs.Finite.{Yes, pick, _and_, _or_}
+use lib.ListN.{length-map}
+use Rattle.meaning.specs.Finite.{Yes, pick, _and_}
 use Rattle.meaning.specs.Tree.{Var, Node, Label, isCapital, folded, Tree}
 use Rattle.meaning.specs.Constraint.{Constraint, is-child, is-below, is-strictly-below, is-same, is-differ, is-root, is-leaf, is-label, is-before}
 use Rattle.meaning.specs.Ascii.{ascii}
-use Rattle.meaning.specs.Files.{quadOf, smallLabels}
+use Rattle.meaning.specs.Files.{smallLabels}
 use Rattle.meaning.specs.Paths.{Axis, to-self, to-child, to-parent, to-descendant, to-ancestor, to-descendant-or-self, to-ancestor-or-self, to-following-sibling, to-preceding-sibling, isSmall, isLetter, Test, letter, any, Path, alone, from-root, from-here, Steps, one, more, Step, move, having, axisText, testByte, pathText, stepsText, stepText, linesText, OfForm}
 use Rattle.meaning.specs.PathRecords.{Sheet, blankSheet, nextTaken, withRecords, rootedBy, rooted, axisRecord, moveRecords, pathSheet, stepsSheet, stepSheet, endSheet, lineSheet, linesSheet, recordsOf, variablesOf, recordBytes, fileBytes}
-use Rattle.meaning.specs.Selection.{Expr, tag, over, filter, Denotes, testExpr, pathExpr, stepsExpr, stepExpr, Selects}
-use Rattle.meaning.specs.Capitals.{EqualButForCase, smallText, LinesCaseAside}
+use Rattle.meaning.specs.Selection.{Expr, tag, Denotes, testExpr, pathExpr, stepsExpr, stepExpr, Selects}
+use Rattle.meaning.specs.Capitals.{smallText, LinesCaseAside}
 use Rattle.meaning.proofs.Tests.{and-both, or-left, le-yes}
 use Rattle.meaning.proofs.Labels.{capital-range, folded-either, folded-twice, folded-blank}
 

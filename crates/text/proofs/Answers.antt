@@ -14,7 +14,7 @@ use Rattle.solver.specs.Solving.{verdictOf, SolverOf}
 use Rattle.solver.specs.declared.Verdict.{Verdict}
 use Rattle.solver.specs.declared.Verdict.the-variants.{Tree, None, Spent, Refused}
 use Rattle.solver.proofs.Short.{bytes-few}
-use Rattle.text.specs.Putting.{solverText, bytesOf}
+use Rattle.text.specs.Verdicts.{solverText, bytesOf}
 
 text-of : (s : Solved) (buffer : List ℕ) → solverText (verdictOf s) (take (bytesOf (verdictOf s)) (written s buffer)) ≡ solvedText s
 unfolding verdictOf solverText bytesOf written

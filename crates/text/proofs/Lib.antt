@@ -1,6 +1,4 @@
-pub mod Stores
-pub mod Numbers
-pub mod Lines
+pub mod Fronts
 pub mod Answers
 pub mod Read
 pub mod Records

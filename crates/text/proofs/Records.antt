@@ -16,9 +16,9 @@ use Rattle.xpath.specs.declared.Answer.{Answer}
 use Rattle.xpath.specs.declared.Answer.the-variants.{Written, Refused}
 use Rattle.xpath.specs.Reading.{AnswerOf}
 use Rattle.xpath.proofs.Answered.{answer-written, answer-refused}
-use Rattle.text.specs.Putting.{Put}
+use Rattle.putting.specs.Putting.{Put}
 use Rattle.text.specs.Printing.{Fronted, recordsRoom, PathsAs}
-use Rattle.text.proofs.Stores.{put-front}
+use Rattle.text.proofs.Fronts.{put-front}
 
 read-alike : (text b c : List ℕ) → 1024 ≤ length b → 1024 ≤ length c → readPaths text b ≡ readPaths text c
 unfolding readPaths

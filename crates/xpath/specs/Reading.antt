@@ -8,8 +8,7 @@ use lib.Seq.{sets}
 use lib.Dec.{eqb, ltb}
 use Rattle.meaning.specs.Finite.{pick}
 use Rattle.meaning.specs.Tree.{Var}
-use Rattle.meaning.specs.Paths as spec
-use Rattle.meaning.specs.Paths.{Test, Step, move, testByte}
+use Rattle.meaning.specs.Paths.{Step}
 use Rattle.meaning.specs.PathRecords.{Sheet, fileBytes, pathSheet, stepsSheet, stepSheet, endSheet, lineSheet, linesSheet}
 use Rattle.meaning.specs.Results.{PathsRead, paths-refused, paths-written}
 use Rattle.theory.specs.PathReader.{Got, nothing, got, pathAt, stepsAt, stepAt, bracketsAt, linesAt}

@@ -1,12 +1,16 @@
 // Questions set as paths: a text of 1 to 8 lines is read, its nodes are numbered and its records are gathered on a sheet; then they are written.
 ghost use mathlib.Core.Path.{_≡_};
 ghost use mathlib.Core.Bool.{true, false};
-ghost use mathlib.Core.List.{List, _++_};
-ghost use Prim.Native.Nat.{ℕ, _+_, _*_, _-_, _<_, _≤_};
-ghost use lib.ListN.{length, getD, take, drop};
+ghost use mathlib.Core.List.{_++_};
+ghost use Prim.Native.Nat.{_+_, _*_, _-_, _<_, _≤_};
+ghost use lib.ListN.{length, take, drop};
 ghost use Rattle.meaning.specs.Results.{pathsWrote};
 ghost use Rattle.theory.specs.PathReader.{goesOn, readPaths};
 ghost use Rattle.xpath.specs.Reading.{nextIn, rootIn, numberedIn, putIn, rootedIn, axisIn, moveIn, endNumber, endNumbered, Ahead, Level, PathRead, StepsRead, StepRead, BracketsRead, EndRead, LineRead, LinesRead, AnswerOf};
+use axes::Axis;
+use axes::Moved;
+use axes::byte_at;
+use axes::move_at;
 
 // A sheet: room for 48 records, more than a text of 16 variables needs; then the next number, the root's number (0 while there is none) and the
 // bytes of the records. It is lent and not passed by value, since each level of brackets would copy it. Numbers stop at 17 and records at 48, so
@@ -19,7 +23,7 @@ const LENGTH: usize = 194;
 
 const SHEET_BYTES: usize = 195;
 
-// The kinds of record that are written beside those of axes.
+// The kinds of record that are written, but for those of axes; same is that of a line that is `/` alone.
 const SAME: u8 = 4;
 
 const ROOTED: u8 = 6;
@@ -76,7 +80,7 @@ fn rooted(sheet: &mut [u8; SHEET_BYTES]) -> u8
 }
 
 // The axis record of a step from x to y.
-fn put_axis(axis: axes::Axis, x: u8, y: u8, sheet: &mut [u8; SHEET_BYTES])
+fn put_axis(axis: Axis, x: u8, y: u8, sheet: &mut [u8; SHEET_BYTES])
     ensures { λ _. ⌜ now (sheet .exit) ≡ axisIn axis x y (now (sheet .entry)) ⌝ }
 {
     if axis.1 {
@@ -87,7 +91,7 @@ fn put_axis(axis: axes::Axis, x: u8, y: u8, sheet: &mut [u8; SHEET_BYTES])
 }
 
 // The axis record of a step from x to y, then any label.
-fn put_move(axis: axes::Axis, test: u8, x: u8, y: u8, sheet: &mut [u8; SHEET_BYTES])
+fn put_move(axis: Axis, test: u8, x: u8, y: u8, sheet: &mut [u8; SHEET_BYTES])
     ensures { λ _. ⌜ now (sheet .exit) ≡ moveIn axis test x y (now (sheet .entry)) ⌝ }
 {
     put_axis(axis, x, y, sheet);
@@ -105,11 +109,11 @@ fn path(s: &[u8], at: usize, x: u8, sheet: &mut [u8; SHEET_BYTES]) -> usize
     ensures { λ r. ⌜ PathRead (now (s .entry)) at x (now (sheet .entry)) r (now (sheet .exit)) ⌝ }
     ensures ahead { λ r. ⌜ Ahead (now (s .entry)) at r ⌝ }
 {
-    if axes::byte_at(s, at) != b'/' {
+    if byte_at(s, at) != b'/' {
         return steps(s, at, x, sheet);
     }
     let root = rooted(sheet);
-    if labels::is_small(axes::byte_at(s, at + 1)) {
+    if labels::is_small(byte_at(s, at + 1)) {
         return steps(s, at + 1, root, sheet);
     }
     at + 1
@@ -128,7 +132,7 @@ fn steps(s: &[u8], at: usize, x: u8, sheet: &mut [u8; SHEET_BYTES]) -> usize
         if end == 0 {
             return 0;
         }
-        if axes::byte_at(s, end) != b'/' {
+        if byte_at(s, end) != b'/' {
             return end;
         }
         i = end + 1;
@@ -141,10 +145,10 @@ fn step(s: &[u8], at: usize, x: u8, y: u8, sheet: &mut [u8; SHEET_BYTES]) -> usi
     ensures { λ r. ⌜ StepRead (now (s .entry)) at x y (now (sheet .entry)) r (now (sheet .exit)) ⌝ }
     ensures ahead { λ r. ⌜ Ahead (now (s .entry)) at r ⌝ }
 {
-    let found = axes::move_at(s, at);
+    let found = move_at(s, at);
     match found {
-        axes::Moved::Not => 0,
-        axes::Moved::Is(axis, test, end) => {
+        Moved::Not => 0,
+        Moved::Is(axis, test, end) => {
             put_move(axis, test, x, y, sheet);
             brackets(s, end, y, sheet)
         }
@@ -157,12 +161,12 @@ fn brackets(s: &[u8], at: usize, y: u8, sheet: &mut [u8; SHEET_BYTES]) -> usize
     ensures level { λ r. ⌜ Level (now (s .entry)) at r ⌝ }
 {
     let mut i = at;
-    while axes::byte_at(s, i) == b'[' {
+    while byte_at(s, i) == b'[' {
         let end = path(s, i + 1, y, sheet);
         if end == 0 {
             return 0;
         }
-        if axes::byte_at(s, end) != b']' {
+        if byte_at(s, end) != b']' {
             return 0;
         }
         i = end + 1;
@@ -175,7 +179,7 @@ fn goes_on(s: &[u8], at: usize) -> bool
     requires { ⌜ at ≤ length (now s) ⌝ }
     ensures { λ r. ⌜ r ≡ goesOn 0 (drop at (now (s .entry))) ⌝ }
 {
-    let first = axes::byte_at(s, at);
+    let first = byte_at(s, at);
     if first != b'[' {
         return first == b'/';
     }
@@ -197,7 +201,7 @@ fn goes_on(s: &[u8], at: usize) -> bool
                 depth -= 1;
                 continue;
             }
-            let next = axes::byte_at(s, i);
+            let next = byte_at(s, i);
             if next != b'[' {
                 return next == b'/';
             }
@@ -228,19 +232,19 @@ fn end_steps(s: &[u8], at: usize, x: u8, sheet: &mut [u8; SHEET_BYTES]) -> usize
     let mut from = x;
     let mut i = at;
     loop {
-        let found = axes::move_at(s, i);
+        let found = move_at(s, i);
         match found {
-            axes::Moved::Not => {
+            Moved::Not => {
                 return 0;
             }
-            axes::Moved::Is(axis, test, tested) => {
+            Moved::Is(axis, test, tested) => {
                 let y = end_number(s, tested, sheet);
                 put_move(axis, test, from, y, sheet);
                 let end = brackets(s, tested, y, sheet);
                 if end == 0 {
                     return 0;
                 }
-                if axes::byte_at(s, end) != b'/' {
+                if byte_at(s, end) != b'/' {
                     return end;
                 }
                 i = end + 1;
@@ -255,12 +259,12 @@ fn line(s: &[u8], at: usize, sheet: &mut [u8; SHEET_BYTES]) -> usize
     ensures { λ r. ⌜ LineRead (now (s .entry)) at (now (sheet .entry)) r (now (sheet .exit)) ⌝ }
     ensures ahead { λ r. ⌜ Ahead (now (s .entry)) at r ⌝ }
 {
-    if axes::byte_at(s, at) != b'/' {
+    if byte_at(s, at) != b'/' {
         let x = number(sheet);
         return end_steps(s, at, x, sheet);
     }
     let root = rooted(sheet);
-    if labels::is_small(axes::byte_at(s, at + 1)) {
+    if labels::is_small(byte_at(s, at + 1)) {
         return end_steps(s, at + 1, root, sheet);
     }
     put(SAME, root, 0, 0, sheet);
@@ -282,7 +286,7 @@ fn lines(s: &[u8], at: usize, n: u8, sheet: &mut [u8; SHEET_BYTES]) -> bool
         if end == 0 {
             return false;
         }
-        if axes::byte_at(s, end) != 10 {
+        if byte_at(s, end) != 10 {
             return false;
         }
         i = end + 1;

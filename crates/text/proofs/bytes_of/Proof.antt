@@ -1,5 +1,5 @@
 -- Verdict by verdict.
-use Rattle.text.specs.Putting.{bytesOf}
+use Rattle.text.specs.Verdicts.{bytesOf}
 use borrow.Author.Needs.{needs}
 use Rattle.text.proofs.bytes_of.Statement.{statement}
 use Rattle.text.proofs.bytes_of.Tie as tie

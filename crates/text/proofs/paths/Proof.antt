@@ -6,7 +6,7 @@ use Rattle.text.proofs.paths.Statement.{statement}
 use Rattle.text.proofs.paths.Tie as tie
 use Rattle.text.proofs.paths.Reads as reads
 use Rattle.text.proofs.paths.Lts as lts
-use Rattle.text.proofs.put_line.Reads as put-line-reads
+use Rattle.putting.proofs.put_line.Reads as put-line-reads
 use Rattle.xpath.proofs.read.Reads as read-reads
 
 read-requires : tie.Need-read-requires

@@ -5,9 +5,9 @@ use lib.ListN.{length-append}
 use Rattle.meaning.specs.Ascii.{ascii}
 use Rattle.meaning.specs.Text.{decimal, numbered, solvedText}
 use Rattle.solver.specs.declared.Verdict.{Verdict}
-use Rattle.text.specs.Putting.{solverText}
-use Rattle.text.proofs.Stores.{put-same, put-then}
-use Rattle.text.proofs.Numbers.{count-digits}
+use Rattle.text.specs.Verdicts.{solverText}
+use Rattle.putting.proofs.Stores.{put-same, put-then}
+use Rattle.putting.proofs.Numbers.{count-digits}
 use borrow.Author.Needs.{needs}
 use Rattle.text.proofs.put_solved.Statement.{statement}
 use Rattle.text.proofs.put_solved.Tie as tie

@@ -3,9 +3,9 @@ use native.Mathlib.Omega.{arith}
 use Rattle.meaning.specs.Ascii.{ascii}
 use Rattle.meaning.specs.Text.{markedText}
 use Rattle.marker.specs.Verdict.{markedOf}
-use Rattle.text.proofs.Stores.{put-then}
-use Rattle.text.proofs.Numbers.{position-digits}
-use Rattle.text.proofs.Lines.{name-short}
+use Rattle.putting.proofs.Stores.{put-then}
+use Rattle.putting.proofs.Numbers.{position-digits}
+use Rattle.putting.proofs.Lines.{name-short}
 use borrow.Author.Needs.{needs}
 use Rattle.text.proofs.put_unmet.Statement.{statement}
 use Rattle.text.proofs.put_unmet.Tie as tie

@@ -7,10 +7,10 @@ use Rattle.meaning.specs.Ascii.{ascii}
 use Rattle.meaning.specs.Text.{kindName}
 use Rattle.constraints.specs.Record.{kindNumber}
 use Rattle.constraints.specs.declared.Kind.{Kind}
-use Rattle.text.proofs.Stores.{put-same}
+use Rattle.putting.proofs.Stores.{put-same}
 use borrow.Author.Needs.{needs}
-use Rattle.text.proofs.put_kind.Statement.{statement}
-use Rattle.text.proofs.put_kind.Tie as tie
+use Rattle.putting.proofs.put_kind.Statement.{statement}
+use Rattle.putting.proofs.put_kind.Tie as tie
 
 abbrev named : Kind → List ℕ
 named k = ascii (kindName (kindNumber k))

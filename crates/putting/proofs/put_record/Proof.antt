@@ -1,12 +1,12 @@
 -- The line of a node and the line of a place. Room is shown for any byte as the last number, so that a wrong one is refused by what is printed.
 use native.Mathlib.Omega.{arith}
 use Rattle.meaning.specs.Ascii.{ascii}
-use Rattle.text.proofs.Stores.{put-same, put-then}
-use Rattle.text.proofs.Numbers.{byte-digits}
-use Rattle.text.proofs.Lines.{pair-short, place-line, node-line}
+use Rattle.putting.proofs.Stores.{put-same, put-then}
+use Rattle.putting.proofs.Numbers.{byte-digits}
+use Rattle.putting.proofs.Lines.{pair-short, place-line, node-line}
 use borrow.Author.Needs.{needs}
-use Rattle.text.proofs.put_record.Statement.{statement}
-use Rattle.text.proofs.put_record.Tie as tie
+use Rattle.putting.proofs.put_record.Statement.{statement}
+use Rattle.putting.proofs.put_record.Tie as tie
 
 slice-aggregate-put-pair : tie.Need-slice-aggregate-put-pair
 slice-aggregate-put-pair c = search needs

@@ -2,11 +2,11 @@
 use mathlib.Core.Path.{ap, _∙_}
 use native.Mathlib.Omega.{arith}
 use lib.ListN.{length}
-use Rattle.text.proofs.Stores.{put-same}
-use Rattle.text.proofs.Numbers.{decimal-is}
+use Rattle.putting.proofs.Stores.{put-same}
+use Rattle.putting.proofs.Numbers.{decimal-is}
 use borrow.Author.Needs.{needs}
-use Rattle.text.proofs.put_number.Statement.{statement}
-use Rattle.text.proofs.put_number.Tie as tie
+use Rattle.putting.proofs.put_number.Statement.{statement}
+use Rattle.putting.proofs.put_number.Tie as tie
 
 decimal-requires : tie.Need-decimal-requires
 decimal-requires c κs = search needs

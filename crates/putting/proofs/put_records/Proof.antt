@@ -6,12 +6,12 @@ use native.Mathlib.Omega.{arith}
 use lib.ListN.{length, getD, drop}
 use Rattle.meaning.specs.Files.{quads}
 use Rattle.meaning.specs.Text.{recordLines}
-use Rattle.text.specs.Putting.{Put}
-use Rattle.text.proofs.Stores.{put-none, put-same, put-then}
-use Rattle.text.proofs.Lines.{record-short, lines-more, lines-all}
+use Rattle.putting.specs.Putting.{Put}
+use Rattle.putting.proofs.Stores.{put-none, put-same, put-then}
+use Rattle.putting.proofs.Lines.{record-short, lines-more, lines-all}
 use borrow.Author.Needs.{needs}
-use Rattle.text.proofs.put_records.Statement.{statement}
-use Rattle.text.proofs.put_records.Tie as tie
+use Rattle.putting.proofs.put_records.Statement.{statement}
+use Rattle.putting.proofs.put_records.Tie as tie
 
 abbrev Inv-loop : tie.InvT-loop
 Inv-loop out₀ at answer end₀ i₀ out end i =

@@ -3,11 +3,9 @@ use mathlib.Core.Path.{_≡_, refl, sym, ap, subst, _∙_}
 use mathlib.Core.List.{List, [], _∷_, _++_}
 use Prim.Native.Nat.{ℕ, suc, _+_, _≤_}
 use native.Mathlib.Omega.{arith}
-use lib.ListN.{length, getD, set, take, drop, length-append}
-use lib.Seq.{sets, length-sets, sets-eq, take-suc, length-take-le}
-use Rattle.io.specs.Counts.{Counts}
-use Rattle.text.specs.Putting.{Put}
-use Rattle.text.specs.Printing.{Fronted}
+use lib.ListN.{length, getD, set, take, length-append}
+use lib.Seq.{sets, length-sets, take-suc, length-take-le}
+use Rattle.putting.specs.Putting.{Put}
 
 sets-append : (l : List ℕ) (i : ℕ) (s t : List ℕ) → sets l i (s ++ t) ≡ sets (sets l i s) (i + length s) t
 sets-append l i [] t = let e : i + 0 ≡ i = omega arith in rw e
@@ -36,21 +34,3 @@ put-byte l at word i h =
     let e : i + 1 ≡ suc i = omega arith in
     let n : length (take i word) ≡ i = omega (arith, length-take-le i word (omega arith)) in
     rw (e, take-suc word i 0, sets-append l at (take i word) (getD word i 0 ∷ []), n)
-
--- a text at the front
-pub put-front : {l m : List ℕ} {r : ℕ} {t : List ℕ} → Put l 0 t r m → Fronted t l r m
-put-front {l} {m} {r} {t} p =
-    let w = p .within in
-    let e : 0 + length t ≡ r = (let x = p .end in omega arith) in
-    record {
-      bytes = sym e ∙ omega arith;
-      wrote = p .stored ∙ sets-eq t l 0 (omega arith) ∙ ap (λ (k : ℕ). t ++ drop k l) e;
-    }
-
--- its bytes can be lent
-pub front-counts : {t l m : List ℕ} {r : ℕ} → Fronted t l r m → Counts r m
-front-counts {t} {l} {m} {r} w =
-    let n = ap length (w .wrote) in
-    let a = length-append t (drop r l) in
-    let b = w .bytes in
-    let h : r ≤ length m = omega arith in (h, sym (length-take-le r m h))

@@ -1,11 +1,11 @@
 -- A word and two numbers with a space between them.
 use native.Mathlib.Omega.{arith}
 use Rattle.meaning.specs.Ascii.{ascii}
-use Rattle.text.proofs.Stores.{put-then}
-use Rattle.text.proofs.Numbers.{byte-digits}
+use Rattle.putting.proofs.Stores.{put-then}
+use Rattle.putting.proofs.Numbers.{byte-digits}
 use borrow.Author.Needs.{needs}
-use Rattle.text.proofs.put_pair.Statement.{statement}
-use Rattle.text.proofs.put_pair.Tie as tie
+use Rattle.putting.proofs.put_pair.Statement.{statement}
+use Rattle.putting.proofs.put_pair.Tie as tie
 
 put-requires : tie.Need-put-requires
 put-requires c κs = search needs

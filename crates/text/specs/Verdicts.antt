@@ -1,9 +1,6 @@
--- What it is to put a text into a buffer, and the text of a verdict of the code.
-use mathlib.Core.Path.{_≡_}
+-- The text of a verdict of the code.
 use mathlib.Core.List.{List}
-use Prim.Native.Nat.{ℕ, _+_, _≤_}
-use lib.ListN.{length}
-use lib.Seq.{sets}
+use Prim.Native.Nat.{ℕ}
 use Rattle.meaning.specs.Demand.{a-tree, a-none, a-spent}
 use Rattle.meaning.specs.Results.{solver-refuses, solver-answers}
 use Rattle.meaning.specs.Text.{solvedText, markedText}
@@ -11,13 +8,6 @@ use Rattle.marker.specs.Verdict.{markedOf}
 use Rattle.marker.specs.declared.Verdict.{Verdict as MarkerVerdict}
 use Rattle.solver.specs.declared.Verdict.{Verdict}
 use Rattle.solver.specs.declared.Verdict.the-variants.{Tree, None, Spent, Refused}
-
--- the text stands from `at` on, up to r; every other byte is as it was
-pub record Put (before : List ℕ) (at : ℕ) (text : List ℕ) (r : ℕ) (after : List ℕ) : Type 0 where
-  pub end : r ≡ at + length text
-  pub stored : after ≡ sets before at text
-  pub within : r ≤ length before
-  pub same-length : length after ≡ length before
 
 -- a verdict with the bytes of its answer file, if it is a tree's
 unfoldable pub solverText : Verdict → List ℕ → List ℕ

@@ -1,11 +1,11 @@
 -- A word, a number, and the end of the line.
 use native.Mathlib.Omega.{arith}
 use Rattle.meaning.specs.Ascii.{ascii}
-use Rattle.text.proofs.Stores.{put-then}
-use Rattle.text.proofs.Numbers.{count-digits}
+use Rattle.putting.proofs.Stores.{put-then}
+use Rattle.putting.proofs.Numbers.{count-digits}
 use borrow.Author.Needs.{needs}
-use Rattle.text.proofs.put_line.Statement.{statement}
-use Rattle.text.proofs.put_line.Tie as tie
+use Rattle.putting.proofs.put_line.Statement.{statement}
+use Rattle.putting.proofs.put_line.Tie as tie
 
 put-requires : tie.Need-put-requires
 put-requires c κs = search needs

@@ -16,7 +16,7 @@ use Rattle.constraints.specs.Record.{kindNumber}
 use Rattle.constraints.specs.declared.Kind.{Kind}
 use Rattle.constraints.specs.declared.Kind.the-variants.{Child, Below, StrictlyBelow, Same, Differ, Root, Leaf, Label, Before}
 use Rattle.answers.proofs.Quads.{quadAt, quad-at, no-quad}
-use Rattle.text.proofs.Numbers.{byte-digits}
+use Rattle.putting.proofs.Numbers.{byte-digits}
 
 -- two numbers with a space between them
 abbrev pub pair : ℕ → ℕ → List ℕ

@@ -6,9 +6,9 @@ use native.Mathlib.Omega.{arith}
 use lib.ListN.{length, getD, set, take, length-set}
 use lib.Seq.{sets, take-all}
 use borrow.Author.Needs.{needs}
-use Rattle.text.proofs.Stores.{put-text, put-byte}
-use Rattle.text.proofs.put.Statement.{statement}
-use Rattle.text.proofs.put.Tie as tie
+use Rattle.putting.proofs.Stores.{put-text, put-byte}
+use Rattle.putting.proofs.put.Statement.{statement}
+use Rattle.putting.proofs.put.Tie as tie
 
 -- the first i bytes of the word are stored
 abbrev Inv-loop : tie.InvT-loop
