@@ -128,7 +128,9 @@ uint64_t cudreth_mark(const uint8_t *constraints, size_t constraints_len, const 
  * that every line selects; variable 0 stands for that node. Only the verdict CUDRETH_WRITTEN writes: cudreth_written(result) bytes at
  * the front of `records`; all other bytes stay as they were. `records_len` is the length lent, at least CUDRETH_RECORDS_BYTES.
  *
- * A test is a letter in either case, whose byte as it stands in the text is the label written, or `*`; names of axes are small.
+ * A test is a letter in either case, whose byte as it stands in the text is the label written, or `*`; names of axes are small. Two texts
+ * of paths that are equal but for the case of their tests get, with buffers that are long enough, the same result, and records that are
+ * equal but for the case of their labels.
  */
 uint64_t cudreth_paths(const uint8_t *text, size_t text_len, uint8_t *records, size_t records_len);
 

@@ -209,7 +209,9 @@ pub fn mark(constraints: &[u8], answer: &[u8]) -> Marked {
 /// that every line selects; variable 0 stands for that node. Only `PathsRead::Written` writes: `written` bytes at the front of `records`;
 /// all other bytes stay as they were. `records` has at least `RECORDS_BYTES` bytes, or is refused.
 ///
-/// A test is a letter in either case, whose byte as it stands in the text is the label written, or `*`; names of axes are small.
+/// A test is a letter in either case, whose byte as it stands in the text is the label written, or `*`; names of axes are small. Two texts
+/// of paths that are equal but for the case of their tests get, with buffers that are long enough, the same answer, and records that are
+/// equal but for the case of their labels.
 pub fn paths(text: &[u8], records: &mut [u8]) -> PathsRead {
     // Safe: as in `solve`.
     PathsRead::decode(unsafe { cudreth_paths(text.as_ptr(), text.len(), records.as_mut_ptr(), records.len()) })
