@@ -30,6 +30,6 @@ read-number (paths-refused q) s e = ap pathsNumber e
 read-number (paths-written bs) s w = ap pathsNumber (w .1) ∙ ap (λ (n : ℕ). told 0 n 0) (sym (length-kept bs (w .0) (w .2)))
 
 -- what is written is equal but for case: TextsCaseAside .read
-pub told-text : {r s : ℕ} {text other buffer after lent later : List ℕ} {ps qs : List Path} → smallText text ≡ smallText other → OfForm text ps → OfForm other qs
-    → 1024 ≤ length buffer → 1024 ≤ length lent → Translates text buffer r after → Translates other lent s later → s ≡ r
+pub told-text : {r s : ℕ} {text other buffer after lent later : List ℕ} {ps qs : List Path} → smallText text ≡ smallText other
+    → OfForm text ps → OfForm other qs → 1024 ≤ length buffer → 1024 ≤ length lent → Translates text buffer r after → Translates other lent s later → s ≡ r
 told-text e f g l m u v = v .number ∙ read-number _ _ (texts-aside e .read f g l m (u .promise) (v .promise)) ∙ sym (u .number)

@@ -22,9 +22,14 @@ use Rattle.meaning.proofs.Labels.{capital-range, folded-either, folded-
 
 letter-small : (b : Label) → Yes (isLetter b) → Yes (isLetter (folded b))
 unfolding isLetter isSmall
-letter-small b l = folded-either (λ k. Yes (isLetter k)) b
-    (λ y. let r = capital-range b y in let h = r .0 in let k = r .1 in or-left (isCapital (b + 32)) (and-both (le-yes {x = 97} {y = b + 32} (omega arith)) (le-yes {x = b + 32} {y = 122} (omega arith))))
-    (λ n. l)
+letter-small b l = folded-either (λ k. Yes (isLetter k)) b (λ y. or-left (isCapital (b + 32)) (small y)) (λ n. l)
+  where
+    small : Yes (isCapital b) → Yes (isSmall (b + 32))
+    small y =
+        let r = capital-range b y in
+        let h = r .0 in
+        let k = r .1 in
+        and-both (le-yes {x = 97} {y = b + 32} (omega arith)) (le-yes {x = b + 32} {y = 122} (omega arith))
 
 abbrev smallTest : Test → Test
 smallTest (letter b l) = letter (folded b) (letter-small b l)
