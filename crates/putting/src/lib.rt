@@ -22,6 +22,7 @@ pub fn put(out: &mut [u8], at: usize, word: &[u8]) -> usize
     at + word.len()
 }
 
+// Puts the digits of a number.
 pub fn put_number(out: &mut [u8], at: usize, n: u64) -> usize
     requires { ⌜ at + length (decimal n) ≤ length (now out) ⌝ }
     ensures { λ r. ⌜ Put (now (out .entry)) at (decimal n) r (now (out .exit)) ⌝ }
@@ -52,6 +53,7 @@ fn put_pair(out: &mut [u8], at: usize, word: &[u8], a: u8, b: u8) -> usize
     put_number(out, second, b as u64)
 }
 
+// Puts the line of one record.
 fn put_record(out: &mut [u8], at: usize, kind: u8, a: u8, b: u8, c: u8) -> usize
     requires { ⌜ at + 17 ≤ length (now out) ⌝ }
     ensures { λ r. ⌜ Put (now (out .entry)) at (recordLine (quad kind a b c)) r (now (out .exit)) ⌝ }
@@ -84,6 +86,7 @@ pub fn put_records(out: &mut [u8], at: usize, answer: &[u8]) -> usize
     end
 }
 
+// Puts the name of a kind.
 pub fn put_kind(out: &mut [u8], at: usize, kind: Kind) -> usize
     requires { ⌜ at + 14 ≤ length (now out) ⌝ }
     ensures { λ r. ⌜ Put (now (out .entry)) at (ascii (kindName (kindNumber kind))) r (now (out .exit)) ⌝ }

@@ -1,8 +1,7 @@
 // Questions set as paths: a text of 1 to 8 lines is read, its nodes are numbered and its records are gathered on a sheet; then they are written.
 ghost use mathlib.Core.Path.{_≡_};
-ghost use mathlib.Core.Bool.{true, false};
 ghost use mathlib.Core.List.{_++_};
-ghost use Prim.Native.Nat.{_+_, _*_, _-_, _<_, _≤_};
+ghost use Prim.Native.Nat.{_<_, _≤_};
 ghost use lib.ListN.{length, take, drop};
 ghost use Rattle.meaning.specs.Results.{pathsWrote};
 ghost use Rattle.theory.specs.PathReader.{goesOn, readPaths};
