@@ -11,7 +11,7 @@ use lib.ListN.{length, drop, getD, length-drop}
 use lib.Seq.{drop-cons}
 use lib.Dec.{eqb}
 use borrow.Author.Tests.{eq-eqb, ne-eqb}
-use Rattle.theory.specs.PathReader.{front}
+use Rattle.theory.specs.Reader.{front}
 
 and-false : (b : Bool) → (b and false) ≡ false
 unfolding _and_

@@ -14,7 +14,8 @@ use Rattle.meaning.specs.Finite.{Yes, pick, _and_}
 use Rattle.meaning.specs.Ascii.{ascii}
 use Rattle.meaning.specs.Paths.{Axis, to-self, to-child, to-parent, to-descendant, to-ancestor, to-descendant-or-self, to-ancestor-or-self, to-following-sibling, to-preceding-sibling, isLetter, Test, letter, any, Step, move, axisText, testByte}
 use Rattle.meaning.proofs.Tests.{pick-yes, pick-no, eq-yes, is-eq, not-yes}
-use Rattle.theory.specs.PathReader.{Got, nothing, got, andThen, byte, front, afterName, axisAt, testBy, testAt, moveAt}
+use Rattle.theory.specs.PathReader.{afterName, axisAt, testBy, testAt, moveAt}
+use Rattle.theory.specs.Reader.{Got, nothing, got, andThen, byte, front}
 use Rattle.axes.specs.declared.Axis as code
 use Rattle.axes.specs.declared.Named.{Named}
 use Rattle.axes.specs.declared.Named.the-variants as named

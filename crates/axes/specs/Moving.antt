@@ -6,7 +6,7 @@ use Prim.Native.Nat.{ℕ, _≤_, _<_}
 use lib.ListN.{length, drop}
 use Rattle.meaning.specs.Paths as spec
 use Rattle.meaning.specs.Paths.{Test, Step, move, testByte}
-use Rattle.theory.specs.PathReader.{Got, nothing, got}
+use Rattle.theory.specs.Reader.{Got, nothing, got}
 use Rattle.axes.specs.declared.Axis.{Axis}
 use Rattle.axes.specs.declared.Named.{Named}
 use Rattle.axes.specs.declared.Named.the-variants as named

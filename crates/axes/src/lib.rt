@@ -3,7 +3,8 @@ ghost use mathlib.Core.Path.{_≡_};
 ghost use mathlib.Core.Bool.{true};
 ghost use Prim.Native.Nat.{_+_, _<_, _≤_};
 ghost use lib.ListN.{length, getD, drop};
-ghost use Rattle.theory.specs.PathReader.{front, axisAt, moveAt};
+ghost use Rattle.theory.specs.PathReader.{axisAt, moveAt};
+ghost use Rattle.theory.specs.Reader.{front};
 ghost use Rattle.axes.specs.Moving.{AxisRead, MoveRead};
 
 // The kinds of record that axes write.

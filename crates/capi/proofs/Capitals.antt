@@ -4,7 +4,7 @@ use mathlib.Core.List.{List}
 use Prim.Native.Nat.{ℕ, _≤_}
 use lib.ListN.{length}
 use Rattle.meaning.specs.Paths.{Path, OfForm}
-use Rattle.meaning.specs.Results.{told, PathsRead, paths-refused, paths-written, markedNumber, pathsNumber}
+use Rattle.meaning.specs.Results.{told, Fill, fill-refused, fill-written, markedNumber, fillNumber}
 use Rattle.meaning.specs.Promises.{SameRoom}
 use Rattle.meaning.specs.Capitals.{EqualButForCase, smallText, ReadAlike}
 use Rattle.meaning.proofs.RecasedFiles.{length-kept}
@@ -24,10 +24,10 @@ pub told-mark : {r s : ℕ} {file other answer drawn : List ℕ} → EqualButFor
     → Grades file answer r → Grades other drawn s → s ≡ r
 told-mark e d u v = v .number ∙ ap markedNumber (case-aside e .marked d (u .promise) (v .promise)) ∙ sym (u .number)
 
-read-number : (r s : PathsRead) → ReadAlike r s → pathsNumber s ≡ pathsNumber r
-unfolding pathsNumber
-read-number (paths-refused q) s e = ap pathsNumber e
-read-number (paths-written bs) s w = ap pathsNumber (w .1) ∙ ap (λ (n : ℕ). told 0 n 0) (sym (length-kept bs (w .0) (w .2)))
+read-number : (r s : Fill) → ReadAlike r s → fillNumber s ≡ fillNumber r
+unfolding fillNumber
+read-number (fill-refused q) s e = ap fillNumber e
+read-number (fill-written bs) s w = ap fillNumber (w .1) ∙ ap (λ (n : ℕ). told 0 n 0) (sym (length-kept bs (w .0) (w .2)))
 
 -- what is written is equal but for case: TextsCaseAside .read
 pub told-text : {r s : ℕ} {text other buffer after lent later : List ℕ} {ps qs : List Path} → smallText text ≡ smallText other

@@ -7,21 +7,22 @@ use lib.ListN.{length}
 use lib.Dec.{leb}
 use Rattle.meaning.specs.Paths.{Path}
 use Rattle.meaning.specs.PathRecords.{variablesOf}
-use Rattle.meaning.specs.Results.{told, PathsRead, paths-refused, paths-written, pathsWrote, pathsNumber}
+use Rattle.meaning.specs.Results.{told, Fill, fill-refused, fill-written, fillWrote, fillNumber}
 use Rattle.meaning.specs.Promises.{PathsPromise}
 use Rattle.meaning.proofs.Tests.{pick-has, is-le}
-use Rattle.theory.specs.PathReader.{Got, nothing, got, textPaths, pathsAnswer, answerOf, readPaths}
+use Rattle.theory.specs.PathReader.{textPaths, pathsAnswer, answerOf, readPaths}
+use Rattle.theory.specs.Reader.{Got, nothing, got}
 use Rattle.theory.proofs.PathPromise.{text-form, right-records, read-keeps}
-use Rattle.xpath.specs.declared.Answer.{Answer}
-use Rattle.xpath.specs.declared.Answer.the-variants.{Written, Refused}
-use Rattle.xpath.specs.Reading.{AnswerOf}
-use Rattle.xpath.proofs.Answered.{answer-written, answer-refused}
+use Rattle.lent.specs.declared.Answer.{Answer}
+use Rattle.lent.specs.declared.Answer.the-variants.{Written, Refused}
+use Rattle.lent.specs.Filling.{AnswerOf}
+use Rattle.lent.proofs.Answered.{answer-written, answer-refused}
 use Rattle.capi.specs.Translates.{Translates}
 
 -- few bytes are written
-abbrev Few : PathsRead → Type 0
-Few (paths-refused q) = Unit {0}
-Few (paths-written bs) = length bs ≤ 180
+abbrev Few : Fill → Type 0
+Few (fill-refused q) = Unit {0}
+Few (fill-written bs) = length bs ≤ 180
 
 answer-few : (s : List ℕ) (g : Got (List Path)) → textPaths s ≡ g → Few (answerOf g)
 unfolding answerOf pathsAnswer
@@ -37,20 +38,20 @@ module _ (s buffer : List ℕ) (r : Answer) (n : ℕ) (h : AnswerOf (readPaths s
   pub bytes-few : r ≡ Written n → n ≤ 180
   bytes-few e = let z = answer-written (readPaths s buffer) r n h e in let f : length (z .0) ≤ 180 = subst Few (z .1) (read-few s buffer) in let d = z .2 in omega arith
 
-  module _ (after : List ℕ) (w : after ≡ pathsWrote (readPaths s buffer) buffer) where
-    translates : {k : ℕ} → k ≡ pathsNumber (readPaths s buffer) → Translates s buffer k after
+  module _ (after : List ℕ) (w : after ≡ fillWrote (readPaths s buffer) buffer) where
+    translates : {k : ℕ} → k ≡ fillNumber (readPaths s buffer) → Translates s buffer k after
     translates e = record { number = e; wrote = w; promise = subst (PathsPromise s buffer (readPaths s buffer)) (sym w) (read-keeps s buffer) }
 
     pub written-told : r ≡ Written n → Translates s buffer (n * 4294967296) after
-    unfolding pathsNumber told
+    unfolding fillNumber told
     written-told e =
         let z = answer-written (readPaths s buffer) r n h e in
         let d = z .2 in
-        let number : n * 4294967296 ≡ pathsNumber (paths-written (z .0)) = omega arith in
-        translates (number ∙ ap pathsNumber (sym (z .1)))
+        let number : n * 4294967296 ≡ fillNumber (fill-written (z .0)) = omega arith in
+        translates (number ∙ ap fillNumber (sym (z .1)))
 
     pub refused-told : r ≡ Refused n → Translates s buffer (844424930131968 + n) after
-    unfolding pathsNumber told
+    unfolding fillNumber told
     refused-told e =
-        let number : 844424930131968 + n ≡ pathsNumber (paths-refused n) = omega arith in
-        translates (number ∙ ap pathsNumber (sym (answer-refused (readPaths s buffer) r n h e)))
+        let number : 844424930131968 + n ≡ fillNumber (fill-refused n) = omega arith in
+        translates (number ∙ ap fillNumber (sym (answer-refused (readPaths s buffer) r n h e)))

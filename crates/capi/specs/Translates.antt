@@ -2,11 +2,11 @@
 use mathlib.Core.Path.{_≡_}
 use mathlib.Core.List.{List}
 use Prim.Native.Nat.{ℕ}
-use Rattle.meaning.specs.Results.{pathsWrote, pathsNumber}
+use Rattle.meaning.specs.Results.{fillWrote, fillNumber}
 use Rattle.meaning.specs.Promises.{PathsPromise}
 use Rattle.theory.specs.PathReader.{readPaths}
 
 pub record Translates (text buffer : List ℕ) (r : ℕ) (after : List ℕ) : Type 0 where
-  pub number : r ≡ pathsNumber (readPaths text buffer)
-  pub wrote : after ≡ pathsWrote (readPaths text buffer) buffer
+  pub number : r ≡ fillNumber (readPaths text buffer)
+  pub wrote : after ≡ fillWrote (readPaths text buffer) buffer
   pub promise : PathsPromise text buffer (readPaths text buffer) after

@@ -41,3 +41,5 @@ pub mod OnePass
 pub mod RecasedFiles
 pub mod Capitals
 pub mod PathCapitals
+-- trees as XML: a tree is one ordered tree, and the records in document order are it
+pub mod XmlTrees

@@ -10,7 +10,7 @@ use lib.Dec.{leb, eqb}
 use Rattle.meaning.specs.Tree.{Var, Label, folded, Assignment, Tree}
 use Rattle.meaning.specs.Constraint.{Constraint, is-label, Meets, named, Fact, label, facts}
 use Rattle.meaning.specs.Marking.{kind}
-use Rattle.meaning.specs.Files.{Quad, quad, quads, smallLabels, JudgedRecord, bad, good, judgePair, judgeSingle, judgeLabel, judgeRecord, Judged, refused, accepted, withRest, judgeRecords, judge, allPlaces, nodesThenPlaces, ofKind, nodesFine, placesFine, JudgedAnswer, refused-answer, accepted-answer, nodeOf, judgeQuads, judgeAnswer}
+use Rattle.meaning.specs.Files.{Quad, quad, quads, smallLabels, JudgedRecord, bad, good, judgePair, judgeSingle, judgeLabel, judgeRecord, Judged, refused, accepted, withRest, judgeRecords, judge, allPlaces, nodesThenPlaces, ofKind, nodeFine, nodesFine, placesFine, JudgedAnswer, refused-answer, accepted-answer, nodeOf, judgeQuads, judgeAnswer}
 use Rattle.meaning.specs.ReadOff.{NodeRecord}
 use Rattle.meaning.specs.Capitals.{EqualButForCase}
 use Rattle.meaning.proofs.Tests.{yes-eq, pick-map, is-eq, eq-yes, le-yes}
@@ -124,7 +124,7 @@ kind-small k [] = refl
 kind-small k (q ∷ qs) = simp (pick-map (map smallQuad), kind-small k qs)
 
 nodes-fine-small : (i : ℕ) (qs : List Quad) → nodesFine i (map smallQuad qs) ≡ nodesFine i qs
-unfolding nodesFine
+unfolding nodesFine nodeFine
 nodes-fine-small i [] = refl
 nodes-fine-small i (q ∷ qs) = rw (nodes-fine-small (suc i) qs, blank-kept)
 

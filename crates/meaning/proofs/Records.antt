@@ -4,7 +4,7 @@ use mathlib.Core.Path.{_≡_, refl, sym, ap, _∙_, subst}
 use mathlib.Core.Logic.{⊎-elim}
 use mathlib.Core.Bool.{Bool, true, false}
 use mathlib.Core.List.{List, [], _∷_, _++_, map, List·Memᴰ, List·Memᴰ·head, List·Memᴰ·tail, List·Memᴰ·cases-cons, List·Memᴰ·not-nil}
-use Prim.Native.Nat.{ℕ, suc, max, _*_, _%_, _≤_, _<_}
+use Prim.Native.Nat.{ℕ, suc, max, _*_, _/_, _%_, _≤_, _<_}
 use native.Mathlib.Decide.{decLe}
 use native.Mathlib.Omega.{arith}
 use lib.ListN.{length, length-map}
@@ -183,6 +183,15 @@ quads-length (a ∷ []) w = absurd (omega arith)
 quads-length (a ∷ b ∷ []) w = absurd (omega arith)
 quads-length (a ∷ b ∷ c ∷ []) w = absurd (omega arith)
 quads-length (a ∷ b ∷ c ∷ d ∷ bs) w = let e = quads-length bs (omega arith) in omega arith
+
+-- as many records as fours of bytes
+pub length-quads : (bs : List ℕ) → length (quads bs) ≡ length bs / 4
+unfolding quads
+length-quads [] = refl
+length-quads (a ∷ []) = refl
+length-quads (a ∷ b ∷ []) = refl
+length-quads (a ∷ b ∷ c ∷ []) = refl
+length-quads (a ∷ b ∷ c ∷ d ∷ bs) = omega (arith, length-quads bs)
 
 pub quads-append : (bs cs : List ℕ) → Whole bs → quads (bs ++ cs) ≡ quads bs ++ quads cs
 unfolding quads

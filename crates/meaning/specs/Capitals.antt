@@ -11,7 +11,7 @@ use Rattle.meaning.specs.Files.{smallLabels}
 use Rattle.meaning.specs.Paths.{Path, OfForm}
 use Rattle.meaning.specs.Selection.{Selects}
 use Rattle.meaning.specs.PathRecords.{recordsOf, variablesOf, fileBytes}
-use Rattle.meaning.specs.Results.{Marked, PathsRead, paths-refused, paths-written}
+use Rattle.meaning.specs.Results.{Marked, Fill, fill-refused, fill-written}
 use Rattle.meaning.specs.Promises.{MarkerPromise, PathsPromise, OneAnswer}
 
 -- ---- files
@@ -40,13 +40,13 @@ pub record LinesCaseAside (ps qs : List Path) : Type 0 where
   pub selected : (t : Tree) (v : Node) → ((p : Path) → List·Memᴰ p ps → Selects t p v) ↔ ((q : Path) → List·Memᴰ q qs → Selects t q v)
 
 -- the same refusal, or records that are equal but for case
-abbrev pub ReadAlike : PathsRead → PathsRead → Type 0
-ReadAlike (paths-refused q) s = s ≡ paths-refused q
-ReadAlike (paths-written bs) s = (cs : List ℕ) × (s ≡ paths-written cs) × EqualButForCase bs cs
+abbrev pub ReadAlike : Fill → Fill → Type 0
+ReadAlike (fill-refused q) s = s ≡ fill-refused q
+ReadAlike (fill-written bs) s = (cs : List ℕ) × (s ≡ fill-written cs) × EqualButForCase bs cs
 
 -- of texts of the form of paths; names of axes in capitals are not
 pub record TextsCaseAside (text other : List ℕ) : Type 0 where
   pub lines : {ps qs : List Path} → OfForm text ps → OfForm other qs → LinesCaseAside ps qs
   -- question 7 passes both buffers
-  pub read : {ps qs : List Path} {lent left buffer after : List ℕ} {r s : PathsRead} → OfForm text ps → OfForm other qs
+  pub read : {ps qs : List Path} {lent left buffer after : List ℕ} {r s : Fill} → OfForm text ps → OfForm other qs
       → 1024 ≤ length lent → 1024 ≤ length buffer → PathsPromise text lent r left → PathsPromise other buffer s after → ReadAlike r s

@@ -11,7 +11,7 @@ use Rattle.meaning.specs.ReadOff.{NodeRecord, treeOf}
 use Rattle.meaning.specs.Demand.{Answer, a-tree, Demand3}
 use Rattle.meaning.specs.Marking.{Mark, met, Marks}
 use Rattle.meaning.specs.Files.{NoCapitals, refused, accepted, judge, refused-answer, accepted-answer, judgeAnswer, assigned}
-use Rattle.meaning.specs.Results.{Solved, solver-refuses, solver-answers, Marked, marker-refuses, marker-answers, written, PathsRead, paths-refused, paths-written, pathsWrote}
+use Rattle.meaning.specs.Results.{Solved, solver-refuses, solver-answers, Marked, marker-refuses, marker-answers, written, Fill, fill-refused, fill-written, fillWrote}
 use Rattle.meaning.specs.Paths.{Path, OfForm}
 use Rattle.meaning.specs.Selection.{Selects, SomeTreeSelects}
 use Rattle.meaning.specs.PathRecords.{recordsOf, variablesOf, fileBytes}
@@ -75,16 +75,16 @@ pub record RightRecords (ps : List Path) : Type 0 where
       → ((p : Path) → List·Memᴰ p ps → Selects t p v) ↔ ((a : Assignment) × (a 0 ≡ v) × MeetsAll (vars (recordsOf ps)) t a (recordsOf ps))
 
 -- r is the path reader's answer to a text and a lent buffer, and `after` is the buffer afterwards
-pub record PathsPromise (text buffer : List ℕ) (r : PathsRead) (after : List ℕ) : Type 0 where
+pub record PathsPromise (text buffer : List ℕ) (r : Fill) (after : List ℕ) : Type 0 where
   -- 7, asked before 13
-  pub short-buffer : length buffer < 1024 → r ≡ paths-refused 7
+  pub short-buffer : length buffer < 1024 → r ≡ fill-refused 7
   -- 13: the text is not of this form
-  pub no-form : 1024 ≤ length buffer → ((ps : List Path) → ¬ OfForm text ps) → r ≡ paths-refused 13
+  pub no-form : 1024 ≤ length buffer → ((ps : List Path) → ¬ OfForm text ps) → r ≡ fill-refused 13
   -- 14: it needs more than 16 variables
-  pub too-many : 1024 ≤ length buffer → {ps : List Path} → OfForm text ps → 16 < variablesOf ps → r ≡ paths-refused 14
+  pub too-many : 1024 ≤ length buffer → {ps : List Path} → OfForm text ps → 16 < variablesOf ps → r ≡ fill-refused 14
   -- every other text is read, as these paths and no others
-  pub writes : 1024 ≤ length buffer → {ps : List Path} → OfForm text ps → variablesOf ps ≤ 16 → (r ≡ paths-written (fileBytes (recordsOf ps))) × RightRecords ps
+  pub writes : 1024 ≤ length buffer → {ps : List Path} → OfForm text ps → variablesOf ps ≤ 16 → (r ≡ fill-written (fileBytes (recordsOf ps))) × RightRecords ps
   pub only : {ps qs : List Path} → OfForm text ps → OfForm text qs → ps ≡ qs
   -- every byte of the buffer
-  pub wrote : after ≡ pathsWrote r buffer
+  pub wrote : after ≡ fillWrote r buffer
   pub same-length : length after ≡ length buffer

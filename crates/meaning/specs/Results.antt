@@ -14,10 +14,10 @@ pub data Marked : Type 0 where
   marker-refuses : ℕ → Marked
   marker-answers : Mark → Marked
 
--- the bytes of the records, or the number of the first question that is answered no
-pub data PathsRead : Type 0 where
-  paths-refused : ℕ → PathsRead
-  paths-written : List ℕ → PathsRead
+-- a part that only fills a lent buffer: the bytes that it writes, or the number of the first question that is answered no
+pub data Fill : Type 0 where
+  fill-refused : ℕ → Fill
+  fill-written : List ℕ → Fill
 
 -- the lent buffer afterwards: only a tree writes, at the front
 unfoldable pub written : Solved → List ℕ → List ℕ
@@ -26,10 +26,10 @@ written (solver-answers (a-none c)) buffer = buffer
 written (solver-answers (a-spent c)) buffer = buffer
 written (solver-answers (a-tree c bs)) buffer = bs ++ drop (length bs) buffer
 
--- of the path reader: the records at its front, or as it was
-unfoldable pub pathsWrote : PathsRead → List ℕ → List ℕ
-pathsWrote (paths-refused q) buffer = buffer
-pathsWrote (paths-written bs) buffer = bs ++ drop (length bs) buffer
+-- of a part that only fills it: what is written stands at its front, or it is as it was
+unfoldable pub fillWrote : Fill → List ℕ → List ℕ
+fillWrote (fill-refused q) buffer = buffer
+fillWrote (fill-written bs) buffer = bs ++ drop (length bs) buffer
 
 -- verdict, middle and low of a host's number
 unfoldable pub told : ℕ → ℕ → ℕ → ℕ
@@ -49,6 +49,6 @@ markedNumber (marker-answers (unmet position kind)) = told 1 kind position
 markedNumber (marker-refuses q) = told 3 0 q
 
 -- written with how many bytes, or refused with the question's number
-unfoldable pub pathsNumber : PathsRead → ℕ
-pathsNumber (paths-written bs) = told 0 (length bs) 0
-pathsNumber (paths-refused q) = told 3 0 q
+unfoldable pub fillNumber : Fill → ℕ
+fillNumber (fill-written bs) = told 0 (length bs) 0
+fillNumber (fill-refused q) = told 3 0 q

@@ -1,5 +1,5 @@
 -- What the programs print of an answer, in ASCII (docs/FORMAT.md, "The programs"): a line with the verdict and, of a tree, a line for each record
--- of its answer file. `paths` writes the bytes of the records instead, for `solve` to read.
+-- of its answer file. `paths`, `toxml` and `fromxml` write the bytes that their answer has instead, for other programs to read.
 use mathlib.Core.List.{List, [], _∷_, _++_}
 use Prim.Native.Nat.{ℕ, zero, suc, _+_, _/_, _%_}
 use Prim.Native.String.{String}
@@ -9,7 +9,7 @@ use Rattle.meaning.specs.Ascii.{ascii}
 use Rattle.meaning.specs.Demand.{a-tree, a-none, a-spent}
 use Rattle.meaning.specs.Marking.{met, unmet}
 use Rattle.meaning.specs.Files.{Quad, quads}
-use Rattle.meaning.specs.Results.{Solved, solver-refuses, solver-answers, Marked, marker-refuses, marker-answers, PathsRead, paths-refused, paths-written}
+use Rattle.meaning.specs.Results.{Solved, solver-refuses, solver-answers, Marked, marker-refuses, marker-answers, Fill, fill-refused, fill-written}
 
 -- "Program `solve` reads up to 1,025 bytes of standard input, with allowance 1,000,000": one byte more than question 1 lets in, and than a text
 -- of paths has; `paths` reads as many
@@ -76,6 +76,6 @@ markedText (marker-answers met) = ascii "met\n"
 markedText (marker-answers (unmet position kind)) = ascii "unmet " ++ (decimal position ++ (ascii " " ++ (ascii (kindName kind) ++ ascii "\n")))
 markedText (marker-refuses question) = numbered "refused " question
 
-unfoldable pub pathsText : PathsRead → List ℕ
-pathsText (paths-written records) = records
-pathsText (paths-refused question) = numbered "refused " question
+unfoldable pub fillText : Fill → List ℕ
+fillText (fill-written records) = records
+fillText (fill-refused question) = numbered "refused " question

@@ -10,12 +10,13 @@ use lib.Dec.{leb}
 use Rattle.meaning.specs.Finite.{pick}
 use Rattle.meaning.specs.Paths.{Path}
 use Rattle.meaning.specs.Files.{Judged, refused, judge}
-use Rattle.meaning.specs.Results.{paths-refused}
+use Rattle.meaning.specs.Results.{fill-refused}
 use Rattle.meaning.specs.Text.{bytesRead}
 use Rattle.meaning.proofs.Tests.{pick-no, is-le}
 use Rattle.meaning.proofs.Records.{long-refused}
 use Rattle.theory.specs.Programs.{solvedBy, solver, markedBy, marker}
-use Rattle.theory.specs.PathReader.{Got, nothing, textPaths, answerOf, readPaths}
+use Rattle.theory.specs.PathReader.{textPaths, answerOf, readPaths}
+use Rattle.theory.specs.Reader.{Got, nothing}
 
 -- what refuses every longer file needs no more
 read-enough : {A : Type 0} (f : List ℕ → A) (none : A) → ((file : List ℕ) → 1024 < length file → f file ≡ none) → (file : List ℕ) → f (take bytesRead file) ≡ f file
@@ -42,4 +43,4 @@ no-text text l = pick-no _ _ (λ y. let m : length text ≤ 1024 = is-le y in om
 
 pub paths-read : (text buffer : List ℕ) → readPaths (take bytesRead text) buffer ≡ readPaths text buffer
 unfolding readPaths
-paths-read text buffer = ap (λ (g : Got (List Path)). pick (leb 1024 (length buffer)) (answerOf g) (paths-refused 7)) (read-enough textPaths nothing no-text text)
+paths-read text buffer = ap (λ (g : Got (List Path)). pick (leb 1024 (length buffer)) (answerOf g) (fill-refused 7)) (read-enough textPaths nothing no-text text)

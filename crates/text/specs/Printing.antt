@@ -3,9 +3,9 @@ use mathlib.Core.Path.{_≡_}
 use mathlib.Core.List.{List, _++_}
 use Prim.Native.Nat.{ℕ}
 use lib.ListN.{length, drop, replicate}
-use Rattle.meaning.specs.Results.{written, pathsWrote}
+use Rattle.meaning.specs.Results.{written, fillWrote}
 use Rattle.meaning.specs.Promises.{SolverPromise, MarkerPromise, PathsPromise}
-use Rattle.meaning.specs.Text.{solvedText, markedText, pathsText}
+use Rattle.meaning.specs.Text.{solvedText, markedText, fillText}
 use Rattle.theory.specs.Programs.{solver, marker}
 use Rattle.theory.specs.PathReader.{readPaths}
 
@@ -32,5 +32,5 @@ abbrev pub recordsRoom : List ℕ
 recordsRoom = replicate 1024 0
 
 pub record PathsAs (text before : List ℕ) (r : ℕ) (after : List ℕ) : Type 0 where
-  pub output : Fronted (pathsText (readPaths text recordsRoom)) before r after
-  pub promise : PathsPromise text recordsRoom (readPaths text recordsRoom) (pathsWrote (readPaths text recordsRoom) recordsRoom)
+  pub output : Fronted (fillText (readPaths text recordsRoom)) before r after
+  pub promise : PathsPromise text recordsRoom (readPaths text recordsRoom) (fillWrote (readPaths text recordsRoom) recordsRoom)

@@ -96,7 +96,7 @@ pub fn paths(text: &[u8], out: &mut [u8; RECORDS_BYTES]) -> usize
 {
     let answer = xpath::read(text, out);
     match answer {
-        xpath::Answer::Written(bytes) => bytes,
-        xpath::Answer::Refused(question) => put_line(out, 0, b"refused ", question as u32),
+        lent::Answer::Written(bytes) => bytes,
+        lent::Answer::Refused(question) => put_line(out, 0, b"refused ", question as u32),
     }
 }

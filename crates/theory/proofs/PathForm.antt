@@ -9,10 +9,12 @@ use lib.ListN.{length, drop}
 use lib.Dec.{eqb}
 use Rattle.meaning.specs.Finite.{Yes, pick}
 use Rattle.meaning.specs.Paths.{Axis, to-self, to-child, to-parent, to-descendant, to-ancestor, to-descendant-or-self, to-ancestor-or-self, to-following-sibling, to-preceding-sibling, isSmall, isLetter, Test, Path, Step, having, axisText, testByte, pathText, stepsText, stepText, linesText, OfForm}
-use Rattle.theory.specs.PathReader.{Got, nothing, got, andThen, byte, front, afterName, axisAt, testBy, testAt, moveAt, pathAt, stepsAt, stepAt, bracketsAt, fuel, linesAt}
+use Rattle.theory.specs.PathReader.{afterName, axisAt, testBy, testAt, moveAt, pathAt, stepsAt, stepAt, bracketsAt, fuel, linesAt}
+use Rattle.theory.specs.Reader.{Got, nothing, got, andThen, byte, front}
 use Rattle.meaning.proofs.PathSheets.{letter-range}
 use Rattle.theory.proofs.PathReader.{move-text, having-text, more-text, lines-read}
 use Rattle.meaning.proofs.Tests.{pick-has, is-eq, and-left, and-right}
+use Rattle.theory.proofs.Reader.{front-is, no-bytes}
 
 -- what was read, and the bytes after it, are the bytes
 abbrev pub Reads : {A : Type 0} → (A → List ℕ) → List ℕ → Got A → Type 0
@@ -28,15 +30,6 @@ then-reads ta tb bs cs (got a r) f h k = k a r h
 pub first : (bs : List ℕ) (b : ℕ) → 0 < b → byte bs ≡ b → bs ≡ b ∷ drop 1 bs
 first [] b l e = absurd (let h : 0 ≡ b = e in omega arith)
 first (a ∷ bs) b l e = ap (λ (k : ℕ). k ∷ bs) e
-
-front-is : (bs w : List ℕ) → Yes (front bs w) → bs ≡ w ++ drop (length w) bs
-unfolding front
-front-is bs [] h = refl
-front-is [] (b ∷ w) h = absurd (false≢true h)
-front-is (a ∷ bs) (b ∷ w) h =
-    let e : a ≡ b = is-eq (and-left _ h) in
-    let d = front-is bs w (and-right _ h) in
-    ap (λ (k : ℕ). k ∷ bs) e ∙ ap (λ (r : List ℕ). b ∷ r) d
 
 name-reads : (a : Axis) (bs : List ℕ) (g : Got Axis) → Reads axisText bs g → Reads axisText bs (afterName a bs g)
 unfolding afterName
@@ -118,10 +111,6 @@ mutual
 abbrev pub LinesReads : ℕ → List ℕ → Got (List Path) → Type 0
 LinesReads n bs nothing = Unit {0}
 LinesReads n bs (got ps r) = (bs ≡ linesText ps) × (length ps ≤ n) × (r ≡ [])
-
-no-bytes : (bs : List ℕ) → Yes (eqb (length bs) 0) → bs ≡ []
-no-bytes [] y = refl
-no-bytes (b ∷ bs) y = absurd (let h : suc (length bs) ≡ 0 = is-eq y in omega arith)
 
 line-reads : (n : ℕ) (bs r : List ℕ) (p : Path) (g : Got (List Path)) → bs ≡ pathText p ++ (10 ∷ r) → LinesReads n r g → LinesReads (suc n) bs (andThen g λ ps q. got (p ∷ ps) q)
 unfolding linesText

@@ -11,9 +11,11 @@ use lib.Dec.{leb}
 use Rattle.meaning.specs.Finite.{Yes, pick}
 use Rattle.meaning.specs.Paths.{Path, OfForm}
 use Rattle.meaning.specs.PathRecords.{recordsOf, variablesOf, fileBytes}
-use Rattle.meaning.specs.Results.{PathsRead, paths-refused, paths-written, pathsWrote}
+use Rattle.meaning.specs.Results.{Fill, fill-refused, fill-written, fillWrote}
 use Rattle.meaning.specs.Promises.{RightRecords, PathsPromise}
-use Rattle.theory.specs.PathReader.{Got, nothing, got, andThen, linesAt, textPaths, pathsAnswer, answerOf, readPaths}
+use Rattle.theory.specs.PathReader.{linesAt, textPaths, pathsAnswer, answerOf, readPaths}
+use Rattle.theory.specs.Reader.{Got, nothing, got, andThen}
+use Rattle.theory.proofs.Filled.{Fits, kept-length}
 use Rattle.theory.proofs.PathReader.{form-unique}
 use Rattle.theory.proofs.PathForm.{form-read, read-form}
 use Rattle.theory.proofs.PathFile.{bytes-accepted, bytes-few}
@@ -73,11 +75,6 @@ text-form text (got ps r) e = subst (FormIf text) e (paths-form text)
 fits : (text : List ℕ) (ps : List Path) → OfForm text ps → variablesOf ps ≤ 16 → length (fileBytes (recordsOf ps)) ≤ 1024
 fits text ps f h = let e = bytes-few ps (f .some-line) (f .few-lines) h in omega arith
 
--- what is written fits the buffer
-abbrev Fits : List ℕ → PathsRead → Type 0
-Fits buffer (paths-refused q) = Unit {0}
-Fits buffer (paths-written bs) = length bs ≤ length buffer
-
 answer-fits : (text buffer : List ℕ) → 1024 ≤ length buffer → (g : Got (List Path)) → textPaths text ≡ g → Fits buffer (answerOf g)
 unfolding answerOf pathsAnswer
 answer-fits text buffer l nothing e = tt
@@ -88,16 +85,11 @@ read-fits : (text buffer : List ℕ) → Fits buffer (readPaths text buffer)
 unfolding readPaths
 read-fits text buffer = pick-has (Fits buffer) (leb 1024 (length buffer)) _ _ (λ y. answer-fits text buffer (is-le y) (textPaths text) refl) tt
 
-kept-length : (buffer : List ℕ) (r : PathsRead) → Fits buffer r → length (pathsWrote r buffer) ≡ length buffer
-unfolding pathsWrote
-kept-length buffer (paths-refused q) f = refl
-kept-length buffer (paths-written bs) f = let e = length-append bs (drop (length bs) buffer) in let d = length-drop (length bs) buffer in omega arith
-
 -- what is written can be met exactly when some tree has a node that every line selects
 pub right-records : {text : List ℕ} {ps : List Path} → OfForm text ps → variablesOf ps ≤ 16 → RightRecords ps
 right-records {ps = ps} f h = record { accepts = bytes-accepted ps (f .few-lines) h; short = bytes-few ps (f .some-line) (f .few-lines) h; met-iff = met-iff-selected ps; ends-iff = ends-iff ps }
 
-pub read-keeps : (text buffer : List ℕ) → PathsPromise text buffer (readPaths text buffer) (pathsWrote (readPaths text buffer) buffer)
+pub read-keeps : (text buffer : List ℕ) → PathsPromise text buffer (readPaths text buffer) (fillWrote (readPaths text buffer) buffer)
 unfolding readPaths answerOf pathsAnswer
 read-keeps text buffer = record {
   short-buffer = λ l. pick-no _ _ (λ y. let h : 1024 ≤ length buffer = is-le y in omega arith);
@@ -110,7 +102,7 @@ read-keeps text buffer = record {
 }
 
 -- the promise leaves one answer: that of the computed reader
-module _ (text buffer : List ℕ) (r : PathsRead) (after : List ℕ) (p : PathsPromise text buffer r after) where
+module _ (text buffer : List ℕ) (r : Fill) (after : List ℕ) (p : PathsPromise text buffer r after) where
   read-at : 1024 ≤ length buffer → (g : Got (List Path)) → textPaths text ≡ g → r ≡ answerOf g
   unfolding answerOf pathsAnswer
   read-at l nothing e = p .no-form l (text-form text nothing e)
@@ -127,5 +119,5 @@ module _ (text buffer : List ℕ) (r : PathsRead) (after : List ℕ) (p : PathsP
       (λ z. let n : ¬ (1024 ≤ length buffer) = λ h. clash (le-yes h) z in p .short-buffer (omega arith) ∙ sym (pick-no _ _ (λ y. clash y z)))
       (yes-case (leb 1024 (length buffer)))
 
-  pub buffer-unique : after ≡ pathsWrote (readPaths text buffer) buffer
-  buffer-unique = p .wrote ∙ ap (λ (k : PathsRead). pathsWrote k buffer) answer-unique
+  pub buffer-unique : after ≡ fillWrote (readPaths text buffer) buffer
+  buffer-unique = p .wrote ∙ ap (λ (k : Fill). fillWrote k buffer) answer-unique

@@ -13,7 +13,8 @@ use Rattle.meaning.specs.Tree.{isCapital}
 use Rattle.meaning.specs.Finite.{Yes, pick, _and_, _or_}
 use Rattle.meaning.specs.Ascii.{ascii}
 use Rattle.meaning.specs.Paths.{Axis, to-self, to-child, to-parent, to-descendant, to-ancestor, to-descendant-or-self, to-ancestor-or-self, to-following-sibling, to-preceding-sibling, isSmall, isLetter, Test, letter, any, Path, alone, from-root, from-here, Steps, one, more, Step, move, having, axisText, testByte, pathText, stepsText, stepText, linesText, OfForm}
-use Rattle.theory.specs.PathReader.{Got, nothing, got, andThen, byte, front, afterName, axisAt, testBy, testAt, moveAt, pathAt, stepsAt, stepAt, bracketsAt, fuel, linesAt}
+use Rattle.theory.specs.PathReader.{afterName, axisAt, testBy, testAt, moveAt, pathAt, stepsAt, stepAt, bracketsAt, fuel, linesAt}
+use Rattle.theory.specs.Reader.{Got, nothing, got, andThen, byte, front}
 use Rattle.meaning.proofs.PathSheets.{small-range}
 use Rattle.meaning.proofs.Tests.{pick-yes, pick-no, is-eq}
 

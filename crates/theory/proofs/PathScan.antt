@@ -11,7 +11,8 @@ use Rattle.meaning.specs.Tree.{isCapital}
 use Rattle.meaning.specs.Finite.{Yes, pick, _and_, _or_, neg}
 use Rattle.meaning.specs.Ascii.{ascii}
 use Rattle.meaning.specs.Paths.{Axis, to-self, to-child, to-parent, to-descendant, to-ancestor, to-descendant-or-self, to-ancestor-or-self, to-following-sibling, to-preceding-sibling, isSmall, isLetter, Test, letter, any, Path, alone, from-root, from-here, Steps, one, more, Step, move, having, axisText, testByte, pathText, stepsText, stepText}
-use Rattle.theory.specs.PathReader.{Got, nothing, got, andThen, byte, pathAt, bracketsAt, goesOn}
+use Rattle.theory.specs.PathReader.{pathAt, bracketsAt, goesOn}
+use Rattle.theory.specs.Reader.{Got, nothing, got, andThen, byte}
 use Rattle.theory.proofs.PathReader.{move-text, having-text, more-text}
 use Rattle.theory.proofs.PathForm.{Reads, first, path-reads}
 use Rattle.meaning.proofs.Tests.{clash, and-left, and-right, and-both, no-neg, pick-no, pick-either, pick-has, is-eq, eq-yes}

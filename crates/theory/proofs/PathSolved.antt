@@ -10,7 +10,7 @@ use Rattle.meaning.specs.Demand.{a-tree, a-none}
 use Rattle.meaning.specs.Paths.{Path, OfForm}
 use Rattle.meaning.specs.Selection.{SomeTreeSelects, SomeAnyTreeSelects}
 use Rattle.meaning.specs.PathRecords.{recordsOf, variablesOf, fileBytes}
-use Rattle.meaning.specs.Results.{Solved, solver-answers, paths-written}
+use Rattle.meaning.specs.Results.{Solved, solver-answers, fill-written}
 use Rattle.meaning.specs.Promises.{SolverPromise, PathsPromise}
 use Rattle.meaning.proofs.Said.{said-none, said-tree}
 use Rattle.theory.proofs.PathAnyTree.{selected-iff-any-selected}
@@ -30,7 +30,7 @@ module _ {A : ℕ} {buffer after : List ℕ} {r : Solved} {text : List ℕ} {ps 
 -- ---- from the text
 
 -- what the path reader writes for a text of these paths
-written-records : {text lent left file : List ℕ} {ps : List Path} → PathsPromise text lent (paths-written file) left → OfForm text ps
+written-records : {text lent left file : List ℕ} {ps : List Path} → PathsPromise text lent (fill-written file) left → OfForm text ps
     → (variablesOf ps ≤ 16) × (fileBytes (recordsOf ps) ≡ file)
 written-records {text} {lent} {left} {file} {ps} read form = go (decLe 1024 (length lent)) (decLe (variablesOf ps) 16)
   where
@@ -39,7 +39,7 @@ written-records {text} {lent} {left} {file} {ps} read form = go (decLe 1024 (len
     go (yes room) (no many) = absurd (let e = read .too-many room form (omega arith) in let z : _≡_ {A = ℕ} 0 1 = cc in omega arith)
     go (yes room) (yes few) = (few, let e = read .writes room form few .0 in cc)
 
-module _ {A : ℕ} {text lent left file buffer after : List ℕ} {r : Solved} {ps : List Path} (form : OfForm text ps) (read : PathsPromise text lent (paths-written file) left)
+module _ {A : ℕ} {text lent left file buffer after : List ℕ} {r : Solved} {ps : List Path} (form : OfForm text ps) (read : PathsPromise text lent (fill-written file) left)
     (solved : SolverPromise A file buffer r after) where
   solved-records : SolverPromise A (fileBytes (recordsOf ps)) buffer r after
   solved-records = subst (λ (bs : List ℕ). SolverPromise A bs buffer r after) (sym (written-records read form .1)) solved

@@ -5,7 +5,7 @@ use mathlib.Core.Logic.{⊎-elim}
 use mathlib.Core.List.{List, [], _∷_, map, List·Memᴰ, List·Memᴰ·cases-cons, List·Memᴰ·not-nil}
 use Prim.Native.Nat.{ℕ, _≤_}
 use lib.ListN.{length}
-use Rattle.meaning.specs.Results.{PathsRead, pathsWrote}
+use Rattle.meaning.specs.Results.{Fill, fillWrote}
 use Rattle.meaning.specs.Promises.{PathsPromise}
 use Rattle.meaning.proofs.Tests.{pick-yes, le-yes}
 use Rattle.theory.specs.PathReader.{textPaths, answerOf, readPaths}
@@ -17,17 +17,17 @@ read-in-room : (text buffer : List ℕ) → 1024 ≤ length buffer → readPaths
 unfolding readPaths
 read-in-room text buffer l = pick-yes _ _ (le-yes l)
 
-only-read : (text buffer : List ℕ) (r : PathsRead) → readPaths text buffer ≡ r → OnlyRead text buffer r
+only-read : (text buffer : List ℕ) (r : Fill) → readPaths text buffer ≡ r → OnlyRead text buffer r
 only-read text buffer r e = record {
-  promised = subst (λ (s : PathsRead). PathsPromise text buffer s (pathsWrote s buffer)) e (read-keeps text buffer);
-  only = λ {s} {after} p. (answer-unique text buffer s after p ∙ e, buffer-unique text buffer s after p ∙ ap (λ (k : PathsRead). pathsWrote k buffer) e);
+  promised = subst (λ (s : Fill). PathsPromise text buffer s (fillWrote s buffer)) e (read-keeps text buffer);
+  only = λ {s} {after} p. (answer-unique text buffer s after p ∙ e, buffer-unique text buffer s after p ∙ ap (λ (k : Fill). fillWrote k buffer) e);
 }
 
-abbrev first-of : PathsRead → List PathsRead → PathsRead
+abbrev first-of : Fill → List Fill → Fill
 first-of r [] = r
 first-of r (s ∷ ss) = s
 
-abbrev rest-of : List PathsRead → List PathsRead
+abbrev rest-of : List Fill → List Fill
 rest-of [] = []
 rest-of (s ∷ ss) = ss
 

@@ -4,30 +4,13 @@ use mathlib.Core.Path.{_≡_, refl}
 use mathlib.Core.Bool.{Bool, true, false}
 use mathlib.Core.List.{List, [], _∷_}
 use Prim.Native.Nat.{ℕ, zero, suc, _+_, _*_}
-use lib.ListN.{length, getD, drop}
+use lib.ListN.{length, drop}
 use lib.Dec.{eqb, leb}
 use Rattle.meaning.specs.Finite.{pick, _and_}
 use Rattle.meaning.specs.Paths.{Axis, to-self, to-child, to-parent, to-descendant, to-ancestor, to-descendant-or-self, to-ancestor-or-self, to-following-sibling, to-preceding-sibling, isSmall, isLetter, Test, letter, any, Path, alone, from-root, from-here, Steps, one, more, Step, move, having, axisText}
 use Rattle.meaning.specs.PathRecords.{recordsOf, variablesOf, fileBytes}
-use Rattle.meaning.specs.Results.{PathsRead, paths-refused, paths-written}
-
-pub data Got (A : Type 0) : Type 0 where
-  nothing : Got A
-  got : A → List ℕ → Got A
-
-abbrev pub andThen : {A B : Type 0} → Got A → (A → List ℕ → Got B) → Got B
-andThen nothing f = nothing
-andThen (got a bs) f = f a bs
-
--- the first byte, and 0 past the end
-abbrev pub byte : List ℕ → ℕ
-byte bs = getD bs 0 0
-
--- the word is the front of the bytes
-unfoldable pub front : List ℕ → List ℕ → Bool
-front bs [] = true
-front [] (b ∷ w) = false
-front (a ∷ bs) (b ∷ w) = eqb a b and front bs w
+use Rattle.meaning.specs.Results.{Fill, fill-refused, fill-written}
+use Rattle.theory.specs.Reader.{Got, nothing, got, andThen, byte, front}
 
 unfoldable pub afterName : Axis → List ℕ → Got Axis → Got Axis
 afterName a bs r = pick (front bs (axisText a)) (got a (drop (length (axisText a)) bs)) r
@@ -102,14 +85,14 @@ unfoldable pub textPaths : List ℕ → Got (List Path)
 textPaths text = pick (leb (length text) 1024) (andThen (linesAt 8 text) λ ps r. pick (leb 1 (length ps)) (got ps r) nothing) nothing
 
 -- 14, or the records
-unfoldable pub pathsAnswer : List Path → PathsRead
-pathsAnswer ps = pick (leb (variablesOf ps) 16) (paths-written (fileBytes (recordsOf ps))) (paths-refused 14)
+unfoldable pub pathsAnswer : List Path → Fill
+pathsAnswer ps = pick (leb (variablesOf ps) 16) (fill-written (fileBytes (recordsOf ps))) (fill-refused 14)
 
 -- 13, then 14
-unfoldable pub answerOf : Got (List Path) → PathsRead
-answerOf nothing = paths-refused 13
+unfoldable pub answerOf : Got (List Path) → Fill
+answerOf nothing = fill-refused 13
 answerOf (got ps r) = pathsAnswer ps
 
 -- 7 first
-unfoldable pub readPaths : List ℕ → List ℕ → PathsRead
-readPaths text buffer = pick (leb 1024 (length buffer)) (answerOf (textPaths text)) (paths-refused 7)
+unfoldable pub readPaths : List ℕ → List ℕ → Fill
+readPaths text buffer = pick (leb 1024 (length buffer)) (answerOf (textPaths text)) (fill-refused 7)

@@ -6,17 +6,17 @@ use Prim.Native.Nat.{ℕ, _≤_}
 use Prim.Native.String.{String}
 use lib.ListN.{length}
 use Rattle.meaning.specs.Ascii.{ascii}
-use Rattle.meaning.specs.Results.{PathsRead, paths-refused, paths-written, pathsWrote}
+use Rattle.meaning.specs.Results.{Fill, fill-refused, fill-written, fillWrote}
 use Rattle.meaning.specs.Promises.{PathsPromise}
 
 pub record Row : Type 0 where
   pub text : List ℕ
-  pub answer : PathsRead
+  pub answer : Fill
 
 -- the path reader's promise holds of r and the buffer as r leaves it, and of nothing else
-pub record OnlyRead (text buffer : List ℕ) (r : PathsRead) : Type 0 where
-  pub promised : PathsPromise text buffer r (pathsWrote r buffer)
-  pub only : {s : PathsRead} {after : List ℕ} → PathsPromise text buffer s after → (s ≡ r) × (after ≡ pathsWrote r buffer)
+pub record OnlyRead (text buffer : List ℕ) (r : Fill) : Type 0 where
+  pub promised : PathsPromise text buffer r (fillWrote r buffer)
+  pub only : {s : Fill} {after : List ℕ} → PathsPromise text buffer s after → (s ≡ r) × (after ≡ fillWrote r buffer)
 
 abbrev pub Holds : Row → Type 0
 Holds row = (buffer : List ℕ) → 1024 ≤ length buffer → OnlyRead (row .text) buffer (row .answer)
@@ -28,10 +28,10 @@ abbrev pub four : ℕ → ℕ → ℕ → ℕ → List ℕ
 four a b c d = a ∷ b ∷ c ∷ d ∷ []
 
 abbrev pub reads : String → List ℕ → Row
-reads text bytes = record { text = ascii text; answer = paths-written bytes }
+reads text bytes = record { text = ascii text; answer = fill-written bytes }
 
 abbrev pub refuses : String → ℕ → Row
-refuses text question = record { text = ascii text; answer = paths-refused question }
+refuses text question = record { text = ascii text; answer = fill-refused question }
 
 -- same(1,0) label(0,a): the start has the first number left
 abbrev pub P1 : Row

@@ -12,16 +12,18 @@ use lib.Dec.{leb}
 use Rattle.meaning.specs.Finite.{pick}
 use Rattle.meaning.specs.Paths.{Path, linesText, OfForm}
 use Rattle.meaning.specs.PathRecords.{Sheet, blankSheet, linesSheet, recordsOf, variablesOf, fileBytes}
-use Rattle.meaning.specs.Results.{PathsRead, paths-refused, paths-written, pathsWrote}
+use Rattle.meaning.specs.Results.{Fill, fill-refused, fill-written, fillWrote}
 use Rattle.meaning.proofs.Tests.{pick-yes, pick-no, is-le, le-yes, eq-yes}
 use Rattle.meaning.proofs.PathCounts.{records-few}
-use Rattle.theory.specs.PathReader.{Got, nothing, got, andThen, linesAt, textPaths, pathsAnswer, answerOf, readPaths}
+use Rattle.theory.specs.PathReader.{linesAt, textPaths, pathsAnswer, answerOf, readPaths}
+use Rattle.theory.specs.Reader.{Got, nothing, got, andThen}
 use Rattle.theory.proofs.PathForm.{LinesReads, lines-reads}
 use Rattle.theory.proofs.PathFile.{file-length}
 use Rattle.theory.proofs.PathPromise.{text-form}
-use Rattle.xpath.specs.declared.Answer.{Answer}
-use Rattle.xpath.specs.declared.Answer.the-variants.{Written, Refused}
-use Rattle.xpath.specs.Reading.{nextIn, bytesIn, Follows, AllRead, LinesRead, AnswerOf}
+use Rattle.lent.specs.declared.Answer.{Answer}
+use Rattle.lent.specs.declared.Answer.the-variants.{Written, Refused}
+use Rattle.xpath.specs.Reading.{nextIn, bytesIn, Follows, AllRead, LinesRead}
+use Rattle.lent.specs.Filling.{AnswerOf}
 use Rattle.xpath.proofs.LineReturns.{all-along}
 
 abbrev sheetOf : List Path → Sheet
@@ -76,16 +78,16 @@ module _ (s : List ℕ) where
 -- ---- what is answered
 
 module _ (s buffer : List ℕ) where
-  answer-is : {q : PathsRead} (r : Answer) → readPaths s buffer ≡ q → AnswerOf q r → AnswerOf (readPaths s buffer) r
-  answer-is r e h = subst (λ (k : PathsRead). AnswerOf k r) (sym e) h
+  answer-is : {q : Fill} (r : Answer) → readPaths s buffer ≡ q → AnswerOf q r → AnswerOf (readPaths s buffer) r
+  answer-is r e h = subst (λ (k : Fill). AnswerOf k r) (sym e) h
 
-  kept : {n : ℕ} → readPaths s buffer ≡ paths-refused n → buffer ≡ pathsWrote (readPaths s buffer) buffer
-  kept e = sym (ap (λ (k : PathsRead). pathsWrote k buffer) e ∙ unfold pathsWrote in refl)
+  kept : {n : ℕ} → readPaths s buffer ≡ fill-refused n → buffer ≡ fillWrote (readPaths s buffer) buffer
+  kept e = sym (ap (λ (k : Fill). fillWrote k buffer) e ∙ unfold fillWrote in refl)
 
   abbrev Answers : Answer → Type 0
-  Answers r = AnswerOf (readPaths s buffer) r × (buffer ≡ pathsWrote (readPaths s buffer) buffer)
+  Answers r = AnswerOf (readPaths s buffer) r × (buffer ≡ fillWrote (readPaths s buffer) buffer)
 
-  refusal : {n : ℕ} → readPaths s buffer ≡ paths-refused n → Answers (Refused n)
+  refusal : {n : ℕ} → readPaths s buffer ≡ fill-refused n → Answers (Refused n)
   refusal {n} e = (answer-is (Refused n) e refl, kept e)
 
   pub short-answer : length buffer < 1024 → Answers (Refused 7)
@@ -150,17 +152,17 @@ module _ (s buffer : List ℕ) where
           pub room : (bytesIn c ≤ 184) × (length c ≡ 195)
           room = let z = found in (exactly (z .0) (text-form s (got (z .0) (z .1)) (z .2)) (z .3) .2, z .3 .size)
 
-          wrote-is : (bs : List ℕ) → pathsWrote (paths-written bs) buffer ≡ bs ++ drop (length bs) buffer
-          wrote-is bs = unfold pathsWrote in refl
+          wrote-is : (bs : List ℕ) → fillWrote (fill-written bs) buffer ≡ bs ++ drop (length bs) buffer
+          wrote-is bs = unfold fillWrote in refl
 
-          pub written-answer : (after : List ℕ) → after ≡ take (bytesIn c) c ++ drop (bytesIn c) buffer → AnswerOf (readPaths s buffer) (Written (bytesIn c)) × (after ≡ pathsWrote (readPaths s buffer) buffer)
+          pub written-answer : (after : List ℕ) → after ≡ take (bytesIn c) c ++ drop (bytesIn c) buffer → AnswerOf (readPaths s buffer) (Written (bytesIn c)) × (after ≡ fillWrote (readPaths s buffer) buffer)
           written-answer after a =
               let z = found in
               let x = exactly (z .0) (text-form s (got (z .0) (z .1)) (z .2)) (z .3) in
               let v = few (z .0) (z .3) in
               let bs = fileBytes (recordsOf (z .0)) in
-              let d : readPaths s buffer ≡ paths-written bs = unfold readPaths answerOf pathsAnswer in (pick-yes _ _ (le-yes l) ∙ ap answerOf (z .2) ∙ pick-yes _ _ (le-yes v)) in (
+              let d : readPaths s buffer ≡ fill-written bs = unfold readPaths answerOf pathsAnswer in (pick-yes _ _ (le-yes l) ∙ ap answerOf (z .2) ∙ pick-yes _ _ (le-yes v)) in (
                 answer-is (Written (bytesIn c)) d (ap Written (x .0)),
                 a ∙ ap (λ (k : List ℕ). k ++ drop (bytesIn c) buffer) (x .1) ∙ ap (λ (k : ℕ). bs ++ drop k buffer) (x .0)
-                    ∙ sym (ap (λ (k : PathsRead). pathsWrote k buffer) d ∙ wrote-is bs),
+                    ∙ sym (ap (λ (k : Fill). fillWrote k buffer) d ∙ wrote-is bs),
               )

@@ -5,4 +5,3 @@ pub mod Scan
 pub mod Returns
 pub mod LineReturns
 pub mod Answering
-pub mod Answered

@@ -15,7 +15,8 @@ use Rattle.meaning.specs.Paths.{isSmall, Path, from-root, from-here, Steps, one
 use Rattle.meaning.specs.PathRecords.{Sheet, nextTaken, withRecords, rooted, stepSheet, endSheet, lineSheet, linesSheet, recordBytes}
 use Rattle.meaning.proofs.Tests.{pick-yes, pick-no, eq-yes, is-eq}
 use Rattle.meaning.proofs.PathSheets.{step-next}
-use Rattle.theory.specs.PathReader.{Got, nothing, got, andThen, byte, goesOn, moveAt, pathAt, stepsAt, stepAt, bracketsAt, fuel, linesAt}
+use Rattle.theory.specs.PathReader.{goesOn, moveAt, pathAt, stepsAt, stepAt, bracketsAt, fuel, linesAt}
+use Rattle.theory.specs.Reader.{Got, nothing, got, andThen, byte}
 use Rattle.theory.proofs.PathScan.{goes-on-brackets}
 use Rattle.axes.specs.declared.Axis as code
 use Rattle.axes.specs.declared.Moved.{Moved}

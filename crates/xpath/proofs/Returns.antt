@@ -14,7 +14,8 @@ use Rattle.meaning.specs.Paths.{Axis, isSmall, Test, testByte, Path, from-root,
 use Rattle.meaning.specs.PathRecords.{Sheet, nextTaken, rooted, pathSheet, stepsSheet, stepSheet}
 use Rattle.meaning.proofs.Tests.{pick-yes, pick-no, eq-yes, is-eq}
 use Rattle.meaning.proofs.PathSheets.{path-next, step-next}
-use Rattle.theory.specs.PathReader.{Got, nothing, got, andThen, byte, moveAt, pathAt, stepsAt, stepAt, bracketsAt}
+use Rattle.theory.specs.PathReader.{moveAt, pathAt, stepsAt, stepAt, bracketsAt}
+use Rattle.theory.specs.Reader.{Got, nothing, got, andThen, byte}
 use Rattle.axes.specs.declared.Axis as code
 use Rattle.axes.specs.declared.Moved.{Moved}
 use Rattle.axes.specs.declared.Moved.the-variants as moved

@@ -10,11 +10,9 @@ use Rattle.meaning.specs.Finite.{pick}
 use Rattle.meaning.specs.Tree.{Var}
 use Rattle.meaning.specs.Paths.{Step}
 use Rattle.meaning.specs.PathRecords.{Sheet, fileBytes, pathSheet, stepsSheet, stepSheet, endSheet, lineSheet, linesSheet}
-use Rattle.meaning.specs.Results.{PathsRead, paths-refused, paths-written}
-use Rattle.theory.specs.PathReader.{Got, nothing, got, pathAt, stepsAt, stepAt, bracketsAt, linesAt}
+use Rattle.theory.specs.PathReader.{pathAt, stepsAt, stepAt, bracketsAt, linesAt}
+use Rattle.theory.specs.Reader.{Got, nothing, got}
 use Rattle.axes.specs.declared.Axis.{Axis}
-use Rattle.xpath.specs.declared.Answer.{Answer}
-use Rattle.xpath.specs.declared.Answer.the-variants.{Written, Refused}
 
 -- ---- a sheet of bytes
 
@@ -114,8 +112,3 @@ AllRead f (got a rest) r b = (r ≡ true) × Follows (f a) b
 
 abbrev pub LinesRead : List ℕ → ℕ → ℕ → List ℕ → Bool → List ℕ → Type 0
 LinesRead s at n b r c = (v : Sheet) → Follows v b → AllRead (λ ps. linesSheet ps v) (linesAt n (drop at s)) r c
-
--- what the code answers for the answer that is meant
-abbrev pub AnswerOf : PathsRead → Answer → Type 0
-AnswerOf (paths-refused q) r = r ≡ Refused q
-AnswerOf (paths-written bs) r = r ≡ Written (length bs)

@@ -3,13 +3,15 @@ ghost use mathlib.Core.Path.{_≡_};
 ghost use mathlib.Core.List.{_++_};
 ghost use Prim.Native.Nat.{_<_, _≤_};
 ghost use lib.ListN.{length, take, drop};
-ghost use Rattle.meaning.specs.Results.{pathsWrote};
+ghost use Rattle.meaning.specs.Results.{fillWrote};
 ghost use Rattle.theory.specs.PathReader.{goesOn, readPaths};
-ghost use Rattle.xpath.specs.Reading.{nextIn, rootIn, numberedIn, putIn, rootedIn, axisIn, moveIn, endNumber, endNumbered, Ahead, Level, PathRead, StepsRead, StepRead, BracketsRead, EndRead, LineRead, LinesRead, AnswerOf};
+ghost use Rattle.xpath.specs.Reading.{nextIn, rootIn, numberedIn, putIn, rootedIn, axisIn, moveIn, endNumber, endNumbered, Ahead, Level, PathRead, StepsRead, StepRead, BracketsRead, EndRead, LineRead, LinesRead};
+ghost use Rattle.lent.specs.Filling.{AnswerOf};
 use axes::Axis;
 use axes::Moved;
 use axes::byte_at;
 use axes::move_at;
+use lent::Answer;
 
 // A sheet: room for 48 records, more than a text of 16 variables needs; then the next number, the root's number (0 while there is none) and the
 // bytes of the records. It is lent and not passed by value, since each level of brackets would copy it. Numbers stop at 17 and records at 48, so
@@ -28,13 +30,6 @@ const SAME: u8 = 4;
 const ROOTED: u8 = 6;
 
 const LABELLED: u8 = 8;
-
-pub enum Answer {
-    // So many bytes at the front of the buffer.
-    Written(usize),
-    // The number of the first question that is answered no.
-    Refused(u8),
-}
 
 // Gives the next number away.
 fn number(sheet: &mut [u8; SHEET_BYTES]) -> u8
@@ -309,7 +304,7 @@ fn copy(sheet: &[u8; SHEET_BYTES], bytes: usize, records: &mut [u8])
 // Reads a text of 1 to 8 lines and writes its records to the front of the buffer.
 pub fn read(text: &[u8], records: &mut [u8]) -> Answer
     ensures { λ r. ⌜ AnswerOf (readPaths (now (text .entry)) (now (records .entry))) r ⌝ }
-    ensures wrote { λ _. ⌜ now (records .exit) ≡ pathsWrote (readPaths (now (text .entry)) (now (records .entry))) (now (records .entry)) ⌝ }
+    ensures wrote { λ _. ⌜ now (records .exit) ≡ fillWrote (readPaths (now (text .entry)) (now (records .entry))) (now (records .entry)) ⌝ }
 {
     if records.len() < 1024 {
         return Answer::Refused(7);

@@ -1,7 +1,7 @@
 -- `answers::node_fine` meets its contract: by whether the node is 0, and else whether it is 1.
 use borrow.Author.Tests.{eq-eqb, ne-eqb, lt-ltb, le-ltb}
 use Rattle.meaning.specs.Finite.{pick, _and_, _or_}
-use Rattle.answers.specs.Judgement.{nodeFine}
+use Rattle.meaning.specs.Files.{nodeFine}
 use Rattle.answers.proofs.node_fine.Statement.{statement}
 use Rattle.answers.proofs.node_fine.Tie as tie
 

@@ -4,7 +4,7 @@ use Prim.Native.Nat.{_+_, _≤_, _-_}
 use native.Mathlib.Nat.{add-zero, add-assoc}
 use native.Mathlib.Omega.{arith}
 use lib.ListN.{length, drop, length-drop}
-use Rattle.theory.specs.PathReader.{front}
+use Rattle.theory.specs.Reader.{front}
 use Rattle.axes.proofs.Front.{front-short, front-more, front-miss, front-end}
 use borrow.Author.Needs.{needs}
 use Rattle.axes.proofs.starts.Statement.{statement}
