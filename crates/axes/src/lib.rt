@@ -2,10 +2,11 @@
 ghost use mathlib.Core.Path.{_≡_};
 ghost use mathlib.Core.Bool.{true};
 ghost use Prim.Native.Nat.{_+_, _<_, _≤_};
-ghost use lib.ListN.{length, getD, drop};
+ghost use lib.ListN.{length, drop};
 ghost use Rattle.theory.specs.PathReader.{axisAt, moveAt};
 ghost use Rattle.theory.specs.Reader.{front};
 ghost use Rattle.axes.specs.Moving.{AxisRead, MoveRead};
+use lent::byte_at;
 
 // The kinds of record that axes write.
 const CHILD: u8 = 1;
@@ -31,13 +32,6 @@ pub enum Named {
 pub enum Moved {
     Is(Axis, u8, usize),
     Not,
-}
-
-// The byte at a place, and 0 past the end.
-pub fn byte_at(s: &[u8], at: usize) -> u8
-    ensures { λ r. ⌜ r ≡ getD (now (s .entry)) at 0 ⌝ }
-{
-    if at < s.len() { s[at] } else { 0 }
 }
 
 // Whether the word stands at a place.

@@ -6,7 +6,7 @@ ghost use Rattle.meaning.specs.Files.{quad, quads};
 ghost use Rattle.meaning.specs.Ascii.{ascii};
 ghost use Rattle.meaning.specs.Text.{decimal, kindName, recordLine, recordLines};
 ghost use Rattle.constraints.specs.Record.{kindNumber};
-ghost use Rattle.putting.specs.Putting.{Put};
+ghost use Rattle.lent.specs.Putting.{Put};
 use constraints::Kind;
 
 // Puts a word from `at` on, and says where the next one goes.

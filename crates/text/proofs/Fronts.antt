@@ -6,7 +6,7 @@ use native.Mathlib.Omega.{arith}
 use lib.ListN.{length, drop, length-append}
 use lib.Seq.{sets-eq, length-take-le}
 use Rattle.io.specs.Counts.{Counts}
-use Rattle.putting.specs.Putting.{Put}
+use Rattle.lent.specs.Putting.{Put}
 use Rattle.text.specs.Printing.{Fronted}
 
 pub put-front : {l m : List ℕ} {r : ℕ} {t : List ℕ} → Put l 0 t r m → Fronted t l r m

@@ -16,7 +16,7 @@ use Rattle.lent.specs.declared.Answer.{Answer}
 use Rattle.lent.specs.declared.Answer.the-variants.{Written, Refused}
 use Rattle.lent.specs.Filling.{AnswerOf}
 use Rattle.lent.proofs.Answered.{answer-written, answer-refused}
-use Rattle.putting.specs.Putting.{Put}
+use Rattle.lent.specs.Putting.{Put}
 use Rattle.text.specs.Printing.{Fronted, recordsRoom, PathsAs}
 use Rattle.text.proofs.Fronts.{put-front}
 

@@ -4,7 +4,7 @@ ghost use Prim.Native.Nat.{_≤_};
 ghost use lib.ListN.{length};
 ghost use Rattle.meaning.specs.Text.{solveAllowance};
 ghost use Rattle.marker.specs.declared.Verdict.the-variants.{Unmet};
-ghost use Rattle.putting.specs.Putting.{Put};
+ghost use Rattle.lent.specs.Putting.{Put};
 ghost use Rattle.text.specs.Verdicts.{bytesOf, solverText, markerText};
 ghost use Rattle.text.specs.Printing.{SolvedAs, MarkedAs, PathsAs};
 use constraints::Kind;

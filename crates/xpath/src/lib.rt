@@ -9,9 +9,9 @@ ghost use Rattle.xpath.specs.Reading.{nextIn, rootIn, numberedIn, putIn,
 ghost use Rattle.lent.specs.Filling.{AnswerOf};
 use axes::Axis;
 use axes::Moved;
-use axes::byte_at;
 use axes::move_at;
 use lent::Answer;
+use lent::byte_at;
 
 // A sheet: room for 48 records, more than a text of 16 variables needs; then the next number, the root's number (0 while there is none) and the
 // bytes of the records. It is lent and not passed by value, since each level of brackets would copy it. Numbers stop at 17 and records at 48, so

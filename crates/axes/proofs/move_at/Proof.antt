@@ -11,7 +11,7 @@ use Rattle.axes.proofs.move_at.Tie as tie
 use Rattle.axes.proofs.move_at.Reads as reads
 use Rattle.axes.proofs.move_at.Lts as lts
 use Rattle.axes.proofs.axis_at.Reads as axis-at-reads
-use Rattle.axes.proofs.byte_at.Reads as byte-at-reads
+use Rattle.lent.proofs.byte_at.Reads as byte-at-reads
 use Rattle.labels.proofs.is_letter.Reads as is-letter-reads
 use Rattle.axes.proofs.starts.Reads as starts-reads
 

@@ -6,7 +6,7 @@ use native.Mathlib.Omega.{arith}
 use lib.ListN.{length, getD, set, take, length-set}
 use lib.Seq.{sets, take-all}
 use borrow.Author.Needs.{needs}
-use Rattle.putting.proofs.Stores.{put-text, put-byte}
+use Rattle.lent.proofs.Stores.{put-text, put-byte}
 use Rattle.putting.proofs.put.Statement.{statement}
 use Rattle.putting.proofs.put.Tie as tie
 

@@ -7,7 +7,7 @@ use Rattle.meaning.specs.Ascii.{ascii}
 use Rattle.meaning.specs.Text.{kindName}
 use Rattle.constraints.specs.Record.{kindNumber}
 use Rattle.constraints.specs.declared.Kind.{Kind}
-use Rattle.putting.proofs.Stores.{put-same}
+use Rattle.lent.proofs.Stores.{put-same}
 use borrow.Author.Needs.{needs}
 use Rattle.putting.proofs.put_kind.Statement.{statement}
 use Rattle.putting.proofs.put_kind.Tie as tie

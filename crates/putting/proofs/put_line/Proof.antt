@@ -1,7 +1,7 @@
 -- A word, a number, and the end of the line.
 use native.Mathlib.Omega.{arith}
 use Rattle.meaning.specs.Ascii.{ascii}
-use Rattle.putting.proofs.Stores.{put-then}
+use Rattle.lent.proofs.Stores.{put-then}
 use Rattle.putting.proofs.Numbers.{count-digits}
 use borrow.Author.Needs.{needs}
 use Rattle.putting.proofs.put_line.Statement.{statement}

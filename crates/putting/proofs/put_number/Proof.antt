@@ -2,7 +2,7 @@
 use mathlib.Core.Path.{ap, _∙_}
 use native.Mathlib.Omega.{arith}
 use lib.ListN.{length}
-use Rattle.putting.proofs.Stores.{put-same}
+use Rattle.lent.proofs.Stores.{put-same}
 use Rattle.putting.proofs.Numbers.{decimal-is}
 use borrow.Author.Needs.{needs}
 use Rattle.putting.proofs.put_number.Statement.{statement}

@@ -1,7 +1,7 @@
 -- A word and two numbers with a space between them.
 use native.Mathlib.Omega.{arith}
 use Rattle.meaning.specs.Ascii.{ascii}
-use Rattle.putting.proofs.Stores.{put-then}
+use Rattle.lent.proofs.Stores.{put-then}
 use Rattle.putting.proofs.Numbers.{byte-digits}
 use borrow.Author.Needs.{needs}
 use Rattle.putting.proofs.put_pair.Statement.{statement}

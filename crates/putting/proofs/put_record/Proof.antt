@@ -1,7 +1,7 @@
 -- The line of a node and the line of a place. Room is shown for any byte as the last number, so that a wrong one is refused by what is printed.
 use native.Mathlib.Omega.{arith}
 use Rattle.meaning.specs.Ascii.{ascii}
-use Rattle.putting.proofs.Stores.{put-same, put-then}
+use Rattle.lent.proofs.Stores.{put-same, put-then}
 use Rattle.putting.proofs.Numbers.{byte-digits}
 use Rattle.putting.proofs.Lines.{pair-short, place-line, node-line}
 use borrow.Author.Needs.{needs}

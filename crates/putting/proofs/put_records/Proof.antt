@@ -6,8 +6,8 @@ use native.Mathlib.Omega.{arith}
 use lib.ListN.{length, getD, drop}
 use Rattle.meaning.specs.Files.{quads}
 use Rattle.meaning.specs.Text.{recordLines}
-use Rattle.putting.specs.Putting.{Put}
-use Rattle.putting.proofs.Stores.{put-none, put-same, put-then}
+use Rattle.lent.specs.Putting.{Put}
+use Rattle.lent.proofs.Stores.{put-none, put-same, put-then}
 use Rattle.putting.proofs.Lines.{record-short, lines-more, lines-all}
 use borrow.Author.Needs.{needs}
 use Rattle.putting.proofs.put_records.Statement.{statement}

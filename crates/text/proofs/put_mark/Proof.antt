@@ -4,7 +4,7 @@ use Rattle.meaning.specs.Ascii.{ascii}
 use Rattle.meaning.specs.Text.{numbered, markedText}
 use Rattle.marker.specs.Verdict.{markedOf}
 use Rattle.text.specs.Verdicts.{markerText}
-use Rattle.putting.proofs.Stores.{put-same}
+use Rattle.lent.proofs.Stores.{put-same}
 use borrow.Author.Needs.{needs}
 use Rattle.text.proofs.put_mark.Statement.{statement}
 use Rattle.text.proofs.put_mark.Tie as tie

@@ -6,7 +6,7 @@ use Rattle.meaning.specs.Ascii.{ascii}
 use Rattle.meaning.specs.Text.{decimal, numbered, solvedText}
 use Rattle.solver.specs.declared.Verdict.{Verdict}
 use Rattle.text.specs.Verdicts.{solverText}
-use Rattle.putting.proofs.Stores.{put-same, put-then}
+use Rattle.lent.proofs.Stores.{put-same, put-then}
 use Rattle.putting.proofs.Numbers.{count-digits}
 use borrow.Author.Needs.{needs}
 use Rattle.text.proofs.put_solved.Statement.{statement}

@@ -3,7 +3,7 @@ use native.Mathlib.Omega.{arith}
 use Rattle.meaning.specs.Ascii.{ascii}
 use Rattle.meaning.specs.Text.{markedText}
 use Rattle.marker.specs.Verdict.{markedOf}
-use Rattle.putting.proofs.Stores.{put-then}
+use Rattle.lent.proofs.Stores.{put-then}
 use Rattle.putting.proofs.Numbers.{position-digits}
 use Rattle.putting.proofs.Lines.{name-short}
 use borrow.Author.Needs.{needs}

@@ -3,7 +3,7 @@ use mathlib.Core.Path.{sym}
 use native.Mathlib.Omega.{arith}
 use lib.ListN.{length-take}
 use lib.Seq.{length-take-le}
-use Rattle.putting.proofs.Stores.{put-same}
+use Rattle.lent.proofs.Stores.{put-same}
 use Rattle.text.proofs.Fronts.{put-front}
 use Rattle.text.proofs.Answers.{solver-text, bytes-most, bytes-within, promised}
 use borrow.Author.Needs.{needs}

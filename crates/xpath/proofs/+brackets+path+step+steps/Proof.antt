@@ -25,7 +25,7 @@ use Rattle.xpath.proofs.+brackets+path+step+steps.Lts-step as step-lts
 use Rattle.xpath.proofs.steps.Reads as steps
 use Rattle.xpath.proofs.steps.Kinds as steps-kinds
 use Rattle.xpath.proofs.+brackets+path+step+steps.Lts-steps as steps-lts
-use Rattle.axes.proofs.byte_at.Reads as byte-at-reads
+use Rattle.lent.proofs.byte_at.Reads as byte-at-reads
 use Rattle.labels.proofs.is_small.Reads as is-small-reads
 use Rattle.axes.proofs.move_at.Reads as move-at-reads
 use Rattle.xpath.proofs.number.Reads as number-reads

@@ -16,7 +16,7 @@ use Rattle.xpath.proofs.end_steps.Tie as tie
 use Rattle.xpath.proofs.end_steps.Reads as reads
 use Rattle.xpath.proofs.end_steps.Lts as lts
 use Rattle.xpath.proofs.brackets.Reads as brackets-reads
-use Rattle.axes.proofs.byte_at.Reads as byte-at-reads
+use Rattle.lent.proofs.byte_at.Reads as byte-at-reads
 use Rattle.xpath.proofs.end_number.Reads as end-number-reads
 use Rattle.axes.proofs.move_at.Reads as move-at-reads
 use Rattle.xpath.proofs.put_move.Reads as put-move-reads

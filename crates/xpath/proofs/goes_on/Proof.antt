@@ -11,7 +11,7 @@ use Rattle.xpath.proofs.goes_on.Statement.{statement}
 use Rattle.xpath.proofs.goes_on.Tie as tie
 use Rattle.xpath.proofs.goes_on.Reads as reads
 use Rattle.xpath.proofs.goes_on.Lts as lts
-use Rattle.axes.proofs.byte_at.Reads as byte-at-reads
+use Rattle.lent.proofs.byte_at.Reads as byte-at-reads
 
 abbrev Inv-loop : tie.InvT-loop
 Inv-loop s at first depth₀ i₀ depth i = (i ≤ length s) × (0 < depth) × (depth ≤ i) × (goesOn depth (drop i s) ≡ goesOn 0 (drop at s))

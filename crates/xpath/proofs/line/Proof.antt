@@ -9,7 +9,7 @@ use Rattle.xpath.proofs.line.Statement.{statement}
 use Rattle.xpath.proofs.line.Tie as tie
 use Rattle.xpath.proofs.line.Reads as reads
 use Rattle.xpath.proofs.line.Lts as lts
-use Rattle.axes.proofs.byte_at.Reads as byte-at-reads
+use Rattle.lent.proofs.byte_at.Reads as byte-at-reads
 use Rattle.xpath.proofs.end_steps.Reads as end-steps-reads
 use Rattle.labels.proofs.is_small.Reads as is-small-reads
 use Rattle.xpath.proofs.number.Reads as number-reads

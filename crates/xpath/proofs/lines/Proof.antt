@@ -14,7 +14,7 @@ use Rattle.xpath.proofs.lines.Statement.{statement}
 use Rattle.xpath.proofs.lines.Tie as tie
 use Rattle.xpath.proofs.lines.Reads as reads
 use Rattle.xpath.proofs.lines.Lts as lts
-use Rattle.axes.proofs.byte_at.Reads as byte-at-reads
+use Rattle.lent.proofs.byte_at.Reads as byte-at-reads
 use Rattle.xpath.proofs.line.Reads as line-reads
 
 abbrev Inv-loop : tie.InvT-loop
