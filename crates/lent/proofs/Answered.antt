@@ -1,12 +1,15 @@
 -- What an answer of the code says of the answer that is meant.
-use mathlib.Core.Path.{_≡_, refl, sym, ap, subst}
-use mathlib.Core.List.{List}
-use Prim.Native.Nat.{ℕ}
-use lib.ListN.{length}
-use Rattle.meaning.specs.Results.{Fill, fill-refused, fill-written}
+use mathlib.Core.Path.{_≡_, refl, sym, ap, subst, _∙_}
+use mathlib.Core.List.{List, _++_}
+use Prim.Native.Nat.{ℕ, _+_, _≤_}
+use native.Mathlib.Omega.{arith}
+use lib.ListN.{length, drop}
+use lib.Seq.{sets-eq}
+use Rattle.meaning.specs.Results.{Fill, fill-refused, fill-written, fillWrote}
 use Rattle.lent.specs.declared.Answer.{Answer}
 use Rattle.lent.specs.declared.Answer.the-variants.{Written, Refused}
 use Rattle.lent.specs.Filling.{AnswerOf}
+use Rattle.lent.specs.Putting.{Put}
 
 abbrev IsWritten : Answer → Type 0
 IsWritten (Written n) = Unit {0}
@@ -29,3 +32,12 @@ answer-written q r n h e = written-of q n (subst (AnswerOf q) e h)
 
 pub answer-refused : (q : Fill) (r : Answer) (n : ℕ) → AnswerOf q r → r ≡ Refused n → q ≡ fill-refused n
 answer-refused q r n h e = refused-of q n (subst (AnswerOf q) e h)
+
+-- a text that was put at the front fills the buffer
+pub put-filled : {buffer after text : List ℕ} {r : ℕ} → Put buffer 0 text r after → AnswerOf (fill-written text) (Written r) × (after ≡ fillWrote (fill-written text) buffer)
+unfolding fillWrote
+put-filled {buffer} {text = text} p =
+    let n : length text ≡ 0 + length text = omega arith in
+    let w = p .within in
+    let e = p .end in
+    (ap Written (p .end ∙ sym n), p .stored ∙ sets-eq text buffer 0 (omega arith) ∙ ap (λ (k : ℕ). text ++ drop k buffer) (sym n))

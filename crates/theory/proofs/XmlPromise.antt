@@ -58,6 +58,15 @@ write-fits nodes buffer (accepted-nodes vs) e =
     (λ y. let s = form-short (written-form vs (nodes-accepted nodes vs e) y) in let b : 512 ≤ length buffer = is-le l in omega arith) tt)
     tt
 
+-- 17, then 15, then the text
+pub write-short : (vs : List NodeRecord) (buffer : List ℕ) → length buffer < 512 → writtenOf (accepted-nodes vs) buffer ≡ fill-refused 17
+unfolding writtenOf
+write-short vs buffer l = pick-no _ _ (λ y. let b : 512 ≤ length buffer = is-le y in omega arith)
+
+pub write-no-name : (vs : List NodeRecord) (buffer : List ℕ) → 512 ≤ length buffer → ¬ Yes (recordsNameable vs) → writtenOf (accepted-nodes vs) buffer ≡ fill-refused 15
+unfolding writtenOf
+write-no-name vs buffer l n = pick-yes _ _ (le-yes l) ∙ pick-no _ _ n
+
 pub write-wide : (vs : List NodeRecord) (buffer : List ℕ) → 512 ≤ length buffer → Yes (recordsNameable vs)
     → writtenOf (accepted-nodes vs) buffer ≡ fill-written (elementText (elementOf (treeOf vs)))
 unfolding writtenOf
@@ -67,8 +76,8 @@ pub write-keeps : (nodes buffer : List ℕ) → WriterPromise nodes buffer (writ
 unfolding writeXml
 write-keeps nodes buffer = record {
   refuses = λ e. ap (λ (j : JudgedNodes). writtenOf j buffer) e ∙ (unfold writtenOf in refl);
-  short-buffer = λ {vs} e l. ap (λ (j : JudgedNodes). writtenOf j buffer) e ∙ (unfold writtenOf in pick-no _ _ (λ y. let b : 512 ≤ length buffer = is-le y in omega arith));
-  no-name = λ {vs} e l n. ap (λ (j : JudgedNodes). writtenOf j buffer) e ∙ (unfold writtenOf in pick-yes _ _ (le-yes l) ∙ pick-no _ _ n);
+  short-buffer = λ {vs} e l. ap (λ (j : JudgedNodes). writtenOf j buffer) e ∙ write-short vs buffer l;
+  no-name = λ {vs} e l n. ap (λ (j : JudgedNodes). writtenOf j buffer) e ∙ write-no-name vs buffer l n;
   writes = λ {vs} e l y. (
     elementOf (treeOf vs),
     accepted-ordered vs (nodes-accepted nodes vs e) .ordered,

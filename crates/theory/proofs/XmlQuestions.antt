@@ -37,35 +37,49 @@ unfolding pick
 passed r true j e = (refl, e)
 passed r false j e = let z : _≡_ {A = ℕ} 0 1 = cc in absurd (omega arith)
 
-pub nodes-accepted : (bs : List ℕ) (vs : List NodeRecord) → judgeNodes bs ≡ accepted-nodes vs → Accepted vs
+-- they are whole records, and the nodes are theirs
+record Passed (bs : List ℕ) (vs : List NodeRecord) : Type 0 where
+  whole : length bs % 4 ≡ 0
+  two : 2 ≤ length (quads bs)
+  few : length (quads bs) ≤ 64
+  fine : Yes (nodesFine 0 (quads bs))
+  are : map nodeOf (quads bs) ≡ vs
+
+all-passed : (bs : List ℕ) (vs : List NodeRecord) → judgeNodes bs ≡ accepted-nodes vs → Passed bs vs
 unfolding judgeNodes
-nodes-accepted bs vs e =
+all-passed bs vs e =
     let q8 = passed 8 _ _ e in
     let q9 = passed 9 _ _ (q8 .1) in
     let q10 = passed 10 _ _ (q9 .1) in
     let q11 = passed 11 _ _ (q10 .1) in
-    let d : map nodeOf (quads bs) ≡ vs = is-nodes (q11 .1) in
+    record { whole = is-eq (q8 .0); two = is-le (and-left _ (q10 .0)); few = is-le (and-right _ (q10 .0)); fine = q11 .0; are = is-nodes (q11 .1) }
+
+pub judged-whole : (bs : List ℕ) (vs : List NodeRecord) → judgeNodes bs ≡ accepted-nodes vs → length bs % 4 ≡ 0
+judged-whole bs vs e = all-passed bs vs e .whole
+
+pub judged-records : (bs : List ℕ) (vs : List NodeRecord) → judgeNodes bs ≡ accepted-nodes vs → map nodeOf (quads bs) ≡ vs
+judged-records bs vs e = all-passed bs vs e .are
+
+pub nodes-accepted : (bs : List ℕ) (vs : List NodeRecord) → judgeNodes bs ≡ accepted-nodes vs → Accepted vs
+nodes-accepted bs vs e =
+    let p = all-passed bs vs e in
+    let d = p .are in
     let n : length vs ≡ length (quads bs) = ap length (sym d) ∙ length-map (quads bs) nodeOf in
-    let a : 2 ≤ length (quads bs) = is-le (and-left _ (q10 .0)) in
-    let b : length (quads bs) ≤ 64 = is-le (and-right _ (q10 .0)) in
+    let a = p .two in
+    let b = p .few in
     record {
       two-nodes = omega arith;
       few = omega arith;
       numbered = λ k l. subst (λ (ws : List NodeRecord). WellNumbered k (getD ws k blankRecord)) d
-          (subst (λ (j : ℕ). WellNumbered j (getD (map nodeOf (quads bs)) k blankRecord)) (zero-add k) (nodes-numbered 0 (quads bs) (q11 .0) k (omega arith)));
+          (subst (λ (j : ℕ). WellNumbered j (getD (map nodeOf (quads bs)) k blankRecord)) (zero-add k) (nodes-numbered 0 (quads bs) (p .fine) k (omega arith)));
     }
 
 -- as many records as nodes
 pub judged-length : (bs : List ℕ) (vs : List NodeRecord) → judgeNodes bs ≡ accepted-nodes vs → length bs ≡ 4 * length vs
-unfolding judgeNodes
 judged-length bs vs e =
-    let q8 = passed 8 _ _ e in
-    let q9 = passed 9 _ _ (q8 .1) in
-    let q10 = passed 10 _ _ (q9 .1) in
-    let q11 = passed 11 _ _ (q10 .1) in
-    let d : map nodeOf (quads bs) ≡ vs = is-nodes (q11 .1) in
-    let n : length vs ≡ length (quads bs) = ap length (sym d) ∙ length-map (quads bs) nodeOf in
-    let m : length bs % 4 ≡ 0 = is-eq (q8 .0) in
+    let p = all-passed bs vs e in
+    let n : length vs ≡ length (quads bs) = ap length (sym (p .are)) ∙ length-map (quads bs) nodeOf in
+    let m = p .whole in
     let l = length-quads bs in
     omega arith
 

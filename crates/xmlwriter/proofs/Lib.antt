@@ -1,0 +1,4 @@
+pub mod Linking
+pub mod Elements
+pub mod Labels
+pub mod Writing
