@@ -1,5 +1,5 @@
-// The proved solver, marker, gate and reader of paths (target/staticlib/libcapi.a) beside plain Rust, in one run: first that both give the
-// same results, then the times: medians of 31 rounds, taken in turn by both. bench/run builds and runs it.
+// The proved solver, marker, gate, reader of paths and writer and reader of XML (target/staticlib/libcapi.a) beside plain Rust, in one run:
+// first that both give the same results, then the times: medians of 31 rounds, taken in turn by both. bench/run builds and runs it.
 use std::hint::black_box;
 
 #[path = "../include/cudreth.rs"]
@@ -13,6 +13,8 @@ mod sets;
 #[path = "marker/cases.rs"]
 mod sheets;
 mod solver;
+mod trees;
+mod xml;
 
 use cudreth::{cudreth_mark, cudreth_solve};
 
@@ -379,6 +381,7 @@ fn main() {
     let days = days();
     agree(&inputs, &days, 200_000);
     readers::agree(100_000);
+    trees::agree(100_000);
     time_files(&inputs);
     for (mark, day) in ["(b)", "", "", ""].iter().zip(&days) {
         time_day(mark, day);
@@ -387,4 +390,5 @@ fn main() {
     time_gate(&inputs, &days);
     time_growth();
     readers::time();
+    trees::time();
 }

@@ -1,8 +1,8 @@
 /*
  * A host program: solves the question of document 01's listing (M10), prints the tree and marks four candidates; solves and marks a question
  * in another order and with other numbers, one of siblings in order, one of the document node, and one with capitals; reads one set as paths
- * and solves it; and lists what a refusal can say. What it prints is held to examples/host.stdout. It is C99 and C++; host.rs is the same in
- * Rust.
+ * and solves it; writes a tree as XML and reads it back; and lists what a refusal can say. What it prints is held to examples/host.stdout. It
+ * is C99 and C++; host.rs is the same in Rust.
  */
 #include <inttypes.h>
 #include <stdbool.h>
@@ -72,6 +72,22 @@ static void print_read(uint64_t result, const uint8_t *records)
 {
     if (cudreth_verdict(result) == CUDRETH_WRITTEN)
         print_records(records, cudreth_written(result));
+    else
+        print_refused(cudreth_question(result));
+}
+
+static void print_xml(uint64_t result, const uint8_t *text)
+{
+    if (cudreth_verdict(result) == CUDRETH_WRITTEN)
+        printf("%.*s\n", (int)cudreth_written(result), (const char *)text);
+    else
+        print_refused(cudreth_question(result));
+}
+
+static void print_nodes(uint64_t result, const uint8_t *nodes)
+{
+    if (cudreth_verdict(result) == CUDRETH_WRITTEN)
+        print_answer(nodes, cudreth_written(result));
     else
         print_refused(cudreth_question(result));
 }
@@ -257,6 +273,65 @@ static void read_and_solve(uint8_t *records, uint8_t *answer)
     print_read(cudreth_paths(text, length - 1, records, CUDRETH_RECORDS_BYTES), records);
 }
 
+/* The length of an answer without its places, which XML has not. */
+static size_t node_bytes(const uint8_t *answer, size_t length)
+{
+    size_t at = 0;
+    while (at < length && answer[at] == CUDRETH_NODE)
+        at += CUDRETH_RECORD_BYTES;
+    return at;
+}
+
+/* What is refused: an answer with its places, a buffer of 511 bytes for a text, a text with a newline, a buffer of 255 bytes for nodes. */
+static void refuse_xml(const uint8_t *answer, size_t length, uint8_t *text, size_t text_length, uint8_t *nodes)
+{
+    printf("places left on: ");
+    print_xml(cudreth_xml_write(answer, length, text, CUDRETH_XML_BYTES), text);
+    printf("buffer 511: ");
+    print_xml(cudreth_xml_write(answer, node_bytes(answer, length), text, CUDRETH_XML_BYTES - 1), text);
+    text[text_length] = '\n';
+    printf("a newline at the end: ");
+    print_nodes(cudreth_xml_read(text, text_length + 1, nodes, CUDRETH_NODES_BYTES), nodes);
+    printf("buffer 255: ");
+    print_nodes(cudreth_xml_read(text, text_length, nodes, CUDRETH_NODES_BYTES - 1), nodes);
+}
+
+/* A tree as XML and back. What is read is numbered in document order, the solver's tree by depth; written again it is the same text. */
+static void write_and_read(uint8_t *answer, uint8_t *text, uint8_t *nodes)
+{
+    const uint8_t question[] = {
+        CUDRETH_CHILD, 0, 1, 0,
+        CUDRETH_CHILD, 0, 2, 0,
+        CUDRETH_CHILD, 1, 3, 0,
+        CUDRETH_LABEL, 0, 0, 'a',
+        CUDRETH_LABEL, 2, 0, 'b',
+        CUDRETH_LABEL, 3, 0, 'c',
+    };
+    uint64_t solved = cudreth_solve(question, sizeof question, answer, CUDRETH_ANSWER_BYTES, UINT32_MAX);
+    print_solved(solved, answer);
+    size_t length = cudreth_written(solved);
+    uint64_t wrote = cudreth_xml_write(answer, node_bytes(answer, length), text, CUDRETH_XML_BYTES);
+    print_xml(wrote, text);
+    print_written(text, CUDRETH_XML_BYTES, cudreth_written(wrote));
+    uint64_t read = cudreth_xml_read(text, cudreth_written(wrote), nodes, CUDRETH_NODES_BYTES);
+    print_nodes(read, nodes);
+    print_written(nodes, CUDRETH_NODES_BYTES, cudreth_written(read));
+
+    refuse_xml(answer, length, text, cudreth_written(wrote), nodes);
+    uint8_t drawn[] = {
+        CUDRETH_NODE, 0, 0, 0,
+        CUDRETH_NODE, 1, 0, 'A',
+        CUDRETH_NODE, 2, 1, 'a',
+    };
+    printf("a capital drawn: ");
+    print_xml(cudreth_xml_write(drawn, sizeof drawn, text, CUDRETH_XML_BYTES), text);
+    drawn[sizeof drawn - 1] = '_';
+    printf("_ drawn as a label: ");
+    print_xml(cudreth_xml_write(drawn, sizeof drawn, text, CUDRETH_XML_BYTES), text);
+    printf("what was read: ");
+    print_xml(cudreth_xml_write(nodes, cudreth_written(read), text, CUDRETH_XML_BYTES), text);
+}
+
 int main(void)
 {
     printf("version %d\n", CUDRETH_VERSION);
@@ -264,10 +339,14 @@ int main(void)
     uint8_t *answer = (uint8_t *)malloc(CUDRETH_ANSWER_BYTES);
     uint8_t *other = (uint8_t *)malloc(CUDRETH_ANSWER_BYTES);
     uint8_t *records = (uint8_t *)malloc(CUDRETH_RECORDS_BYTES);
-    if (!answer || !other || !records)
+    uint8_t *text = (uint8_t *)malloc(CUDRETH_XML_BYTES);
+    uint8_t *nodes = (uint8_t *)malloc(CUDRETH_NODES_BYTES);
+    if (!answer || !other || !records || !text || !nodes)
         return 1;
     memset(answer, 0xee, CUDRETH_ANSWER_BYTES);
     memset(records, 0xee, CUDRETH_RECORDS_BYTES);
+    memset(text, 0xee, CUDRETH_XML_BYTES);
+    memset(nodes, 0xee, CUDRETH_NODES_BYTES);
 
     solve_and_mark(answer);
     solve_shuffled(answer, other);
@@ -275,8 +354,11 @@ int main(void)
     solve_document(answer);
     solve_capitals(answer);
     read_and_solve(records, answer);
-    for (uint32_t number = CUDRETH_Q_CONSTRAINTS_LONG; number <= CUDRETH_Q_TEXT_VARIABLES; number++)
+    write_and_read(answer, text, nodes);
+    for (uint32_t number = CUDRETH_Q_CONSTRAINTS_LONG; number <= CUDRETH_Q_XML_BUFFER; number++)
         print_refused(number);
+    free(nodes);
+    free(text);
     free(records);
     free(other);
     free(answer);

@@ -4,8 +4,8 @@
 mod cudreth;
 
 use cudreth::{
-    Marked, PathsRead, Solved, ANSWER_BYTES, BEFORE, BELOW, CHILD, DIFFER, LABEL, NODE, PLACE, RECORDS_BYTES,
-    RECORD_BYTES, ROOT,
+    Marked, PathsRead, Solved, Xml, ANSWER_BYTES, BEFORE, BELOW, CHILD, DIFFER, LABEL, NODE, NODES_BYTES, PLACE,
+    RECORDS_BYTES, RECORD_BYTES, ROOT, XML_BYTES,
 };
 
 fn print_answer(answer: &[u8]) {
@@ -52,6 +52,20 @@ fn print_read(read: PathsRead, records: &[u8]) {
     match read {
         PathsRead::Written { written } => print_records(&records[..written]),
         PathsRead::Refused { question } => print_refused(question),
+    }
+}
+
+fn print_xml(wrote: Xml, text: &[u8]) {
+    match wrote {
+        Xml::Written { written } => println!("{}", String::from_utf8_lossy(&text[..written])),
+        Xml::Refused { question } => print_refused(question),
+    }
+}
+
+fn print_nodes(read: Xml, nodes: &[u8]) {
+    match read {
+        Xml::Written { written } => print_answer(&nodes[..written]),
+        Xml::Refused { question } => print_refused(question),
     }
 }
 
@@ -184,6 +198,23 @@ const BRACE: [u8; 12] = [
 
 const LINES: &str = "/child::a/descendant::c\nchild::b/child::c\n";
 
+#[rustfmt::skip]
+const NUMBERED_BY_DEPTH: [u8; 24] = [
+    CHILD, 0, 1, 0,
+    CHILD, 0, 2, 0,
+    CHILD, 1, 3, 0,
+    LABEL, 0, 0, b'a',
+    LABEL, 2, 0, b'b',
+    LABEL, 3, 0, b'c',
+];
+
+#[rustfmt::skip]
+const DRAWN: [u8; 12] = [
+    NODE, 0, 0, 0,
+    NODE, 1, 0, b'A',
+    NODE, 2, 1, b'a',
+];
+
 /// M10: solved, and four answers to it marked.
 fn solve_and_mark(answer: &mut [u8]) {
     print!("allowance 1: ");
@@ -260,11 +291,63 @@ fn read_and_solve(records: &mut [u8], answer: &mut [u8]) {
     print_read(cudreth::paths(&text[..text.len() - 1], records), records);
 }
 
+/// The records of an answer without its places, which XML has not.
+fn without_places(answer: &[u8]) -> &[u8] {
+    let nodes = answer.chunks(RECORD_BYTES).take_while(|record| record[0] == NODE).count();
+    &answer[..nodes * RECORD_BYTES]
+}
+
+fn written(end: Xml) -> usize {
+    if let Xml::Written { written } = end {
+        written
+    } else {
+        0
+    }
+}
+
+/// What is refused: an answer with its places, a buffer of 511 bytes for a text, a text with a newline, a buffer of 255 bytes for nodes.
+fn refuse_xml(answer: &[u8], text: &mut [u8], length: usize, nodes: &mut [u8]) {
+    print!("places left on: ");
+    print_xml(cudreth::xml_write(answer, text), text);
+    print!("buffer 511: ");
+    print_xml(cudreth::xml_write(without_places(answer), &mut text[..XML_BYTES - 1]), text);
+    text[length] = b'\n';
+    print!("a newline at the end: ");
+    print_nodes(cudreth::xml_read(&text[..=length], nodes), nodes);
+    print!("buffer 255: ");
+    print_nodes(cudreth::xml_read(&text[..length], &mut nodes[..NODES_BYTES - 1]), nodes);
+}
+
+/// A tree as XML and back. What is read is numbered in document order, the solver's tree by depth; written again it is the same text.
+fn write_and_read(answer: &mut [u8], text: &mut [u8], nodes: &mut [u8]) {
+    let solved = cudreth::solve(&NUMBERED_BY_DEPTH, answer, u32::MAX);
+    print_solved(solved, answer);
+    let answer = if let Solved::Tree { written, .. } = solved { &answer[..written] } else { &[] };
+    let wrote = cudreth::xml_write(without_places(answer), text);
+    print_xml(wrote, text);
+    print_written(text, written(wrote));
+    let read = cudreth::xml_read(&text[..written(wrote)], nodes);
+    print_nodes(read, nodes);
+    print_written(nodes, written(read));
+
+    refuse_xml(answer, text, written(wrote), nodes);
+    print!("a capital drawn: ");
+    print_xml(cudreth::xml_write(&DRAWN, text), text);
+    let mut drawn = DRAWN;
+    drawn[11] = b'_';
+    print!("_ drawn as a label: ");
+    print_xml(cudreth::xml_write(&drawn, text), text);
+    print!("what was read: ");
+    print_xml(cudreth::xml_write(&nodes[..written(read)], text), text);
+}
+
 fn main() {
     println!("version {}", cudreth::VERSION);
     // Lent from the heap, at their exact lengths, so that a memory checker sees every byte too far.
     let mut answer = vec![0xee; ANSWER_BYTES];
     let mut records = vec![0xee; RECORDS_BYTES];
+    let mut text = vec![0xee; XML_BYTES];
+    let mut nodes = vec![0xee; NODES_BYTES];
 
     solve_and_mark(&mut answer);
     solve_shuffled(&mut answer);
@@ -272,7 +355,8 @@ fn main() {
     solve_document(&mut answer);
     solve_capitals(&mut answer);
     read_and_solve(&mut records, &mut answer);
-    for question in cudreth::Q_CONSTRAINTS_LONG..=cudreth::Q_TEXT_VARIABLES {
+    write_and_read(&mut answer, &mut text, &mut nodes);
+    for question in cudreth::Q_CONSTRAINTS_LONG..=cudreth::Q_XML_BUFFER {
         print_refused(question);
     }
 }

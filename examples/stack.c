@@ -4,6 +4,8 @@
  * once with 79, of chain joins and at last a document join. From each of the three it tells what the most that can be open,
  * n * (n - 1) = 240, would need, and fails if CUDRETH_STACK is not enough.
  * cudreth_paths: on the texts of 1,024 bytes that nest deepest or go on longest, and fails if one needs more than CUDRETH_PATHS_STACK.
+ * cudreth_xml_write and cudreth_xml_read: on the trees of 64 nodes that are deepest or widest and on their texts, and the reader on texts
+ * that nest deeper than a tree may, up to 1 MiB of them; fails if one needs more than CUDRETH_XML_STACK.
  */
 #define _POSIX_C_SOURCE 200809L
 #include <inttypes.h>
@@ -14,8 +16,10 @@
 #include "cudreth.h"
 
 #define MOST_OPEN (CUDRETH_VARIABLES * (CUDRETH_VARIABLES - 1))
-/* Lent to a thread that reads paths, so that what is used beyond CUDRETH_PATHS_STACK is measured too. */
+/* Lent to a thread that reads or writes texts, so that what is used beyond CUDRETH_PATHS_STACK or CUDRETH_XML_STACK is measured too. */
 #define STACK (1024 * 1024)
+/* A text for cudreth_xml_read that no stack has room for, if each <a> takes some. */
+#define LONG_TEXT (1024 * 1024)
 
 static uint8_t stack[STACK] __attribute__((aligned(4096)));
 static uint64_t result;
@@ -23,8 +27,10 @@ static uint64_t result;
 static uint8_t question[4 * 16];
 static size_t question_length;
 
-static uint8_t text[CUDRETH_TEXT_BYTES];
+static uint8_t text[LONG_TEXT];
 static size_t text_length;
+
+static uint8_t nodes[CUDRETH_NODES_BYTES];
 
 static void *solve(void *unused)
 {
@@ -37,6 +43,20 @@ static void *paths(void *unused)
 {
     static uint8_t records[CUDRETH_RECORDS_BYTES];
     result = cudreth_paths(text, text_length, records, sizeof records);
+    return unused;
+}
+
+static void *xml_write(void *unused)
+{
+    static uint8_t lent[CUDRETH_XML_BYTES];
+    result = cudreth_xml_write(nodes, sizeof nodes, lent, sizeof lent);
+    return unused;
+}
+
+static void *xml_read(void *unused)
+{
+    static uint8_t lent[CUDRETH_NODES_BYTES];
+    result = cudreth_xml_read(text, text_length, lent, sizeof lent);
     return unused;
 }
 
@@ -102,21 +122,19 @@ static int solving(void)
     return most <= CUDRETH_STACK;
 }
 
-/* Head, `open` as often as CUDRETH_TEXT_BYTES bytes allow, middle, `close` as often, newline. */
-static const struct shape {
-    const char *name, *head, *open, *middle, *close;
+static int within(const char *function, size_t most, size_t limit)
+{
+    printf("\n");
+    if (most > limit)
+        printf("stack of %s: %zu bytes are more than %zu\n", function, most, limit);
+    return most <= limit;
+}
+
+/* Head, `open` as often as `bytes` allow, middle, `close` as often, tail. */
+struct shape {
+    const char *name, *head, *open, *middle, *close, *tail;
     uint64_t expected;
-} shapes[] = {
-#define MANY ((uint64_t)CUDRETH_REFUSED << 48 | CUDRETH_Q_TEXT_VARIABLES)
-#define NO_FORM ((uint64_t)CUDRETH_REFUSED << 48 | CUDRETH_Q_TEXT_FORM)
-    {"nested brackets", "", "self::*[", "/", "]", MANY},
-    {"brackets that are never closed", "", "self::*[", "", "", NO_FORM},
-    {"nested from the root", "", "/self::*[", "/", "]", MANY},
-    {"nested at second brackets", "", "self::*[/][", "/", "]", MANY},
-    {"nested at second steps", "", "self::*/self::*[", "/", "]", MANY},
-    {"nested in the eighth line", "/\n/\n/\n/\n/\n/\n/\n", "self::*[", "/", "]", MANY},
-    {"[/] again and again", "self::*", "[/]", "", "", CUDRETH_WRITTEN},
-    {"steps", "", "self::*/", "self::*", "", MANY},
+    size_t bytes;
 };
 
 static void add(const char *piece)
@@ -125,38 +143,111 @@ static void add(const char *piece)
     text_length += strlen(piece);
 }
 
-static int reading(void)
+static size_t fill(const struct shape *s)
+{
+    size_t fixed = strlen(s->head) + strlen(s->middle) + strlen(s->tail);
+    size_t times = (s->bytes - fixed) / (strlen(s->open) + strlen(s->close));
+
+    text_length = 0;
+    add(s->head);
+    for (size_t i = 0; i < times; i++)
+        add(s->open);
+    add(s->middle);
+    for (size_t i = 0; i < times; i++)
+        add(s->close);
+    add(s->tail);
+    return times;
+}
+
+/* The most that `run` uses on the texts of these shapes. */
+static size_t most_used(void *(*run)(void *), const struct shape *shapes, size_t number)
 {
     size_t most = 0;
 
-    text_length = 0;
-    add("/\n");
-    printf("stack of cudreth_paths: %zu bytes with the thread's own on / alone", used(paths, STACK, CUDRETH_WRITTEN));
-    for (size_t i = 0; i < sizeof shapes / sizeof *shapes; i++) {
-        const struct shape *s = &shapes[i];
-        size_t times = (CUDRETH_TEXT_BYTES - strlen(s->head) - strlen(s->middle) - 1) / (strlen(s->open) + strlen(s->close));
-        size_t bytes;
-
-        text_length = 0;
-        add(s->head);
-        for (size_t j = 0; j < times; j++)
-            add(s->open);
-        add(s->middle);
-        for (size_t j = 0; j < times; j++)
-            add(s->close);
-        add("\n");
-        bytes = used(paths, STACK, s->expected);
-        printf(", %zu on %zu %s", bytes, times, s->name);
+    for (size_t i = 0; i < number; i++) {
+        size_t times = fill(&shapes[i]), bytes = used(run, STACK, shapes[i].expected);
+        printf("%s %zu on %zu %s", i ? "," : "", bytes, times, shapes[i].name);
         most = bytes > most ? bytes : most;
     }
-    printf("\n");
-    if (most > CUDRETH_PATHS_STACK)
-        printf("stack of cudreth_paths: %zu bytes are more than %d\n", most, CUDRETH_PATHS_STACK);
-    return most <= CUDRETH_PATHS_STACK;
+    return most;
+}
+
+#define REFUSED_BY(question) ((uint64_t)CUDRETH_REFUSED << 48 | (question))
+#define MANY REFUSED_BY(CUDRETH_Q_TEXT_VARIABLES)
+#define NO_FORM REFUSED_BY(CUDRETH_Q_TEXT_FORM)
+#define NO_TREE REFUSED_BY(CUDRETH_Q_XML_FORM)
+
+static const struct shape paths_shapes[] = {
+    {"line of / alone", "", "/", "", "", "\n", CUDRETH_WRITTEN, 2},
+    {"nested brackets", "", "self::*[", "/", "]", "\n", MANY, CUDRETH_TEXT_BYTES},
+    {"brackets that are never closed", "", "self::*[", "", "", "\n", NO_FORM, CUDRETH_TEXT_BYTES},
+    {"nested from the root", "", "/self::*[", "/", "]", "\n", MANY, CUDRETH_TEXT_BYTES},
+    {"nested at second brackets", "", "self::*[/][", "/", "]", "\n", MANY, CUDRETH_TEXT_BYTES},
+    {"nested at second steps", "", "self::*/self::*[", "/", "]", "\n", MANY, CUDRETH_TEXT_BYTES},
+    {"nested in the eighth line", "/\n/\n/\n/\n/\n/\n/\n", "self::*[", "/", "]", "\n", MANY, CUDRETH_TEXT_BYTES},
+    {"[/] again and again", "self::*", "[/]", "", "", "\n", CUDRETH_WRITTEN, CUDRETH_TEXT_BYTES},
+    {"steps", "", "self::*/", "self::*", "", "\n", MANY, CUDRETH_TEXT_BYTES},
+};
+
+/* 62 times <a> to </a> around a leaf is the deepest tree, in 438 bytes; 62 leaves in one element are the widest, in 255. */
+static const struct shape xml_shapes[] = {
+    {"element", "", "<a/>", "", "", "", CUDRETH_WRITTEN, 4},
+    {"elements around a leaf", "", "<a>", "<b/>", "</a>", "", CUDRETH_WRITTEN, 438},
+    {"leaves in one element", "<a>", "<b/>", "</a>", "", "", CUDRETH_WRITTEN, 255},
+    {"elements with a leaf each", "", "<a><b/>", "", "</a>", "", CUDRETH_WRITTEN, 31 * 11},
+    {"elements around a leaf, one too many", "", "<a>", "<b/>", "</a>", "", NO_TREE, 438 + 7},
+    {"elements that are never closed", "", "<a>", "", "", "", NO_TREE, 62 * 3},
+    {"that are never closed", "", "<a>", "", "", "", NO_TREE, LONG_TEXT},
+    {"around a leaf", "", "<a>", "<b/>", "</a>", "", NO_TREE, LONG_TEXT},
+    {"with a leaf each", "", "<a><b/>", "", "</a>", "", NO_TREE, LONG_TEXT},
+    {"leaves in one element", "<a>", "<b/>", "</a>", "", "", NO_TREE, LONG_TEXT},
+};
+
+static int reading_paths(void)
+{
+    printf("stack of cudreth_paths, bytes with the thread's own:");
+    return within("cudreth_paths", most_used(paths, paths_shapes, sizeof paths_shapes / sizeof *paths_shapes), CUDRETH_PATHS_STACK);
+}
+
+static int reading_xml(void)
+{
+    printf("stack of cudreth_xml_read, bytes with the thread's own:");
+    return within("cudreth_xml_read", most_used(xml_read, xml_shapes, sizeof xml_shapes / sizeof *xml_shapes), CUDRETH_XML_STACK);
+}
+
+/* The parent of node v from 2 on. */
+static int inside(int v) { return v - 1; }
+static int beside(int v) { return (void)v, 1; }
+static int with_a_leaf(int v) { return v % 2 ? v - 2 : v - 1; }
+
+static const struct tree {
+    const char *name;
+    int (*parent)(int v);
+} trees[] = {
+    {"63 elements inside one another", inside},
+    {"62 leaves in one element", beside},
+    {"31 elements with a leaf each inside one another", with_a_leaf},
+};
+
+static int writing_xml(void)
+{
+    size_t most = 0;
+
+    printf("stack of cudreth_xml_write, bytes with the thread's own:");
+    for (size_t i = 0; i < sizeof trees / sizeof *trees; i++) {
+        for (int v = 0; v < CUDRETH_NODES; v++) {
+            const uint8_t node[] = {CUDRETH_NODE, (uint8_t)v, (uint8_t)(v < 2 ? 0 : trees[i].parent(v)), v ? 'a' : 0};
+            memcpy(nodes + CUDRETH_RECORD_BYTES * v, node, sizeof node);
+        }
+        size_t bytes = used(xml_write, STACK, CUDRETH_WRITTEN);
+        printf("%s %zu on %s", i ? "," : "", bytes, trees[i].name);
+        most = bytes > most ? bytes : most;
+    }
+    return within("cudreth_xml_write", most, CUDRETH_XML_STACK);
 }
 
 int main(void)
 {
-    int solved = solving(), read = reading();
-    return solved && read ? 0 : 1;
+    int solved = solving(), paths_read = reading_paths(), xml_written = writing_xml(), xml_was_read = reading_xml();
+    return solved && paths_read && xml_written && xml_was_read ? 0 : 1;
 }

@@ -1,20 +1,22 @@
 /*
- * Cudreth: solves and marks constraints on trees as XPath sees them, and writes the constraints of a question set as paths.
+ * Cudreth: solves and marks constraints on trees as XPath sees them, writes the constraints of a question set as paths, and writes trees
+ * as XML and reads them back.
  *
  * Link with libcapi.a (x86-64 Linux), which `rt staticlib capi` writes to target/staticlib/. docs/FORMAT.md says what the bytes mean,
  * examples/host.c is a host program, and cudreth.rs is this file for Rust.
  *
- * All three functions take any bytes of any length and always return: damaged files, texts that are no paths and buffers that are too
- * short are refused by a number. They have no globals, allocate nothing, print nothing and set no errno, so any number of threads may
- * call them at once. Threads may share what they only read, constraint files, answer files and texts; a buffer lent to cudreth_solve or
- * cudreth_paths belongs to that one call until it returns.
+ * All five functions take any bytes of any length and always return: damaged files, texts that are no paths or no tree and buffers that
+ * are too short are refused by a number. They have no globals, allocate nothing, print nothing and set no errno, so any number of threads
+ * may call them at once. Threads may share what they only read, constraint files, answer files, node records and texts; a lent buffer
+ * belongs to the one call that it is lent to until that returns.
  *
  * cudreth_mark uses about 2 KiB of stack. cudreth_solve recurses once for each alternative that is open, at most 240 deep; give its
  * thread CUDRETH_STACK bytes. cudreth_paths recurses once for each bracket that is open, at most 127 deep; give its thread
- * CUDRETH_PATHS_STACK bytes. examples/stack.c measures what both use.
+ * CUDRETH_PATHS_STACK bytes. For cudreth_xml_write and cudreth_xml_read CUDRETH_XML_STACK bytes are enough, however many elements stand
+ * inside one another. examples/stack.c measures what these four use.
  *
- * Each pointer must be valid for its length and not NULL, also where the length is 0. The answer lent to cudreth_solve may not overlap
- * the constraints, nor the records lent to cudreth_paths the text. No byte of what is only read is changed.
+ * Each pointer must be valid for its length and not NULL, also where the length is 0. A lent buffer may not overlap what its call
+ * reads. No byte of what is only read is changed.
  */
 #ifndef CUDRETH_H
 #define CUDRETH_H
@@ -27,7 +29,7 @@ extern "C" {
 #endif
 
 /* Rises with each landing that a host can notice. The archive does not know it: take header and archive from one commit. */
-#define CUDRETH_VERSION 5
+#define CUDRETH_VERSION 6
 
 /* Every record has 4 bytes; a file has no header. */
 #define CUDRETH_RECORD_BYTES 4
@@ -44,10 +46,16 @@ extern "C" {
 #define CUDRETH_LINES 8
 /* The shortest buffer that may be lent to cudreth_paths. What is written has at most 180 bytes, 45 records. */
 #define CUDRETH_RECORDS_BYTES 1024
+/* The shortest buffer that may be lent to cudreth_xml_write. What is written has at most 438 bytes, 63 elements inside one another. */
+#define CUDRETH_XML_BYTES 512
+/* The shortest buffer that may be lent to cudreth_xml_read, and the most it writes: 64 node records. */
+#define CUDRETH_NODES_BYTES 256
 /* Stack enough for cudreth_solve. */
 #define CUDRETH_STACK (256 * 1024)
 /* Stack enough for cudreth_paths. */
 #define CUDRETH_PATHS_STACK (64 * 1024)
+/* Stack enough for cudreth_xml_write and for cudreth_xml_read. */
+#define CUDRETH_XML_STACK (64 * 1024)
 
 /* The first byte of a constraint record: kind, x, y, label. Bytes that a kind does not use are 0. */
 enum cudreth_kind {
@@ -75,12 +83,15 @@ enum cudreth_answer_record {
 /* Verdicts of cudreth_mark. */
 #define CUDRETH_MET 0u   /* every record is met */
 #define CUDRETH_UNMET 1u /* some record is not */
-/* Verdict of cudreth_paths. */
-#define CUDRETH_WRITTEN 0u /* the records were written to the front of the buffer */
-/* Of all three: a question was answered with no. */
+/* Verdict of cudreth_paths, cudreth_xml_write and cudreth_xml_read. */
+#define CUDRETH_WRITTEN 0u /* the records or the text were written to the front of the buffer */
+/* Of all five: a question was answered with no. */
 #define CUDRETH_REFUSED 3u
 
-/* The questions by number; each function asks its own in this order. cudreth_question_words says what a refusal by each means. */
+/*
+ * The questions by number; each function asks its own in this order, but 17 before 15 and 16. cudreth_question_words says what a refusal by
+ * each means.
+ */
 enum cudreth_question_number {
     /* of the whole constraint file, by cudreth_solve and cudreth_mark */
     CUDRETH_Q_CONSTRAINTS_LONG = 1,
@@ -92,15 +103,22 @@ enum cudreth_question_number {
     CUDRETH_Q_UNUSED = 6,
     /* of the lent buffer, by cudreth_solve (CUDRETH_ANSWER_BYTES) and cudreth_paths (CUDRETH_RECORDS_BYTES) */
     CUDRETH_Q_BUFFER = 7,
-    /* of the answer file, by cudreth_mark alone, each of the whole file before the next question */
+    /* of the answer file, by cudreth_mark, and of node records alone, by cudreth_xml_write, each of all records before the next question */
     CUDRETH_Q_ANSWER_CUT = 8,
-    CUDRETH_Q_ANSWER_KIND = 9,
+    CUDRETH_Q_ANSWER_KIND = 9, /* cudreth_xml_write refuses a place record too */
     CUDRETH_Q_NODE_COUNT = 10,
     CUDRETH_Q_NODES = 11,
+    /* of the answer file, by cudreth_mark alone */
     CUDRETH_Q_PLACES = 12,
     /* of the text, by cudreth_paths alone */
     CUDRETH_Q_TEXT_FORM = 13,
-    CUDRETH_Q_TEXT_VARIABLES = 14
+    CUDRETH_Q_TEXT_VARIABLES = 14,
+    /* of the nodes' labels, by cudreth_xml_write alone */
+    CUDRETH_Q_XML_LABEL = 15,
+    /* of the text, by cudreth_xml_read alone */
+    CUDRETH_Q_XML_FORM = 16,
+    /* of the lent buffer, by cudreth_xml_write (CUDRETH_XML_BYTES), before 15, and cudreth_xml_read (CUDRETH_NODES_BYTES), before 16 */
+    CUDRETH_Q_XML_BUFFER = 17
 };
 
 /*
@@ -134,10 +152,31 @@ uint64_t cudreth_mark(const uint8_t *constraints, size_t constraints_len, const 
  */
 uint64_t cudreth_paths(const uint8_t *text, size_t text_len, uint8_t *records, size_t records_len);
 
+/*
+ * Writes a tree as XML: an element is <a> to </a> around its children, in the order of their numbers, or <a/> if it is a leaf. Its name is
+ * its label, a letter in the case that it has, or _ if it is blank. There is no space and no newline, and no byte 0 behind the text; the
+ * document node is not written. `nodes` has node records alone, as they stand at the front of an answer file: a place record is refused
+ * with 9. Only the verdict CUDRETH_WRITTEN writes: cudreth_written(result) bytes at the front of `text`; all other bytes stay as they were.
+ * `text_len` is the length lent, at least CUDRETH_XML_BYTES.
+ *
+ * Two trees give the same text only if they are the same ordered tree with the same labels, however their nodes are numbered.
+ */
+uint64_t cudreth_xml_write(const uint8_t *nodes, size_t nodes_len, uint8_t *text, size_t text_len);
+
+/*
+ * Reads a text that cudreth_xml_write writes, and writes the node records of its tree, numbered in document order: a node before its
+ * children, and all that is below it before its next sibling. Only the verdict CUDRETH_WRITTEN writes: cudreth_written(result) bytes at the
+ * front of `nodes`; all other bytes stay as they were. `nodes_len` is the length lent, at least CUDRETH_NODES_BYTES.
+ *
+ * The tree read is the one that was written, and written again it is the same text. Every other text is refused with 16, also XML that
+ * says the same in other bytes: <a></a> for <a/>, or a newline at the end.
+ */
+uint64_t cudreth_xml_read(const uint8_t *text, size_t text_len, uint8_t *nodes, size_t nodes_len);
+
 /* A result is verdict * 2^48 + middle * 2^32 + low; these take it apart. */
 static inline unsigned cudreth_verdict(uint64_t result) { return (unsigned)(result >> 48); }
 
-/* solve, CUDRETH_TREE, and paths, CUDRETH_WRITTEN: bytes written. */
+/* solve, CUDRETH_TREE, and paths, xml_write and xml_read, CUDRETH_WRITTEN: bytes written. */
 static inline size_t cudreth_written(uint64_t result) { return (size_t)(result >> 32 & 0xffff); }
 
 /* solve, not refused: alternatives entered. */
@@ -150,7 +189,7 @@ static inline uint32_t cudreth_unmet_position(uint64_t result) { return (uint32_
 /* CUDRETH_REFUSED: the number of the question, an enum cudreth_question_number. */
 static inline uint32_t cudreth_question(uint64_t result) { return (uint32_t)result; }
 
-/* Why a file, a buffer or a text was refused, by the number of the question. */
+/* Why a file, records, a buffer or a text were refused, by the number of the question. */
 static inline const char *cudreth_question_words(uint32_t question)
 {
     switch (question) {
@@ -161,13 +200,16 @@ static inline const char *cudreth_question_words(uint32_t question)
     case CUDRETH_Q_LABEL: return "a label record has the label 0";
     case CUDRETH_Q_UNUSED: return "a byte that the record's kind does not use is not 0";
     case CUDRETH_Q_BUFFER: return "the lent buffer has less than 136 bytes for an answer, or less than 1,024 for records";
-    case CUDRETH_Q_ANSWER_CUT: return "the length of the answer file is not a multiple of 4";
-    case CUDRETH_Q_ANSWER_KIND: return "an answer record is neither node nor place, or a node comes after a place";
+    case CUDRETH_Q_ANSWER_CUT: return "the length of the answer file, or of the node records, is not a multiple of 4";
+    case CUDRETH_Q_ANSWER_KIND: return "an answer record is neither node nor place, or a node comes after a place, or a record to be written as XML is no node";
     case CUDRETH_Q_NODE_COUNT: return "there are not 2 to 64 node records";
     case CUDRETH_Q_NODES: return "a node's number is not its position or its parent is not smaller, or node 0 is not blank with parent 0 and one child";
     case CUDRETH_Q_PLACES: return "the places are not variables 0 to n-1 in order, each on a node of the tree, fourth byte 0";
     case CUDRETH_Q_TEXT_FORM: return "the text is not 1 to 8 lines of paths, each ended by byte 10, in at most 1,024 bytes";
     case CUDRETH_Q_TEXT_VARIABLES: return "the paths need more than 16 variables";
+    case CUDRETH_Q_XML_LABEL: return "a label to be written as XML is neither 0 nor a letter";
+    case CUDRETH_Q_XML_FORM: return "the text is not one that a tree of at most 64 nodes, the document node counted, is written as";
+    case CUDRETH_Q_XML_BUFFER: return "the lent buffer has less than 512 bytes for XML, or less than 256 for node records";
     default: return "a question that this version does not know";
     }
 }

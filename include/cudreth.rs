@@ -1,4 +1,4 @@
-//! Cudreth for a host program in Rust: the three functions of libcapi.a over slices. cudreth.h says more of what they take and answer,
+//! Cudreth for a host program in Rust: the five functions of libcapi.a over slices. cudreth.h says more of what they take and answer,
 //! docs/FORMAT.md what the bytes mean, and examples/host.rs is a host program.
 //!
 //! It is a module of the host, which is linked with the archive:
@@ -11,13 +11,14 @@
 //! ```
 //!
 //! Editions 2018, 2021 and 2024, with rustc 1.82 or newer. Any number of threads may call at once; one that calls `solve` wants `STACK`
-//! bytes of stack, one that calls `paths` wants `PATHS_STACK`, and a Rust thread has more than both unless told otherwise.
+//! bytes of stack, one that calls `paths` wants `PATHS_STACK`, one that calls `xml_write` or `xml_read` wants `XML_STACK`, and a Rust thread
+//! has more than these unless told otherwise.
 
 // A host need not use all of it.
 #![allow(dead_code)]
 
 /// Rises with each landing that a host can notice. The archive does not know it: take this file and the archive from one commit.
-pub const VERSION: u32 = 5;
+pub const VERSION: u32 = 6;
 
 /// Every record has 4 bytes; a file has no header.
 pub const RECORD_BYTES: usize = 4;
@@ -35,10 +36,16 @@ pub const TEXT_BYTES: usize = 1024;
 pub const LINES: usize = 8;
 /// The shortest buffer that may be lent to `paths`. What is written has at most 180 bytes, 45 records.
 pub const RECORDS_BYTES: usize = 1024;
+/// The shortest buffer that may be lent to `xml_write`. What is written has at most 438 bytes, 63 elements inside one another.
+pub const XML_BYTES: usize = 512;
+/// The shortest buffer that may be lent to `xml_read`, and the most it writes: 64 node records.
+pub const NODES_BYTES: usize = 256;
 /// Stack enough for `solve`.
 pub const STACK: usize = 256 * 1024;
 /// Stack enough for `paths`.
 pub const PATHS_STACK: usize = 64 * 1024;
+/// Stack enough for `xml_write` and for `xml_read`.
+pub const XML_STACK: usize = 64 * 1024;
 
 // The first byte of a constraint record: kind, x, y, label. Bytes that a kind does not use are 0.
 /// The node of x is the parent of the node of y.
@@ -73,12 +80,13 @@ pub const SPENT: u64 = 2;
 // Verdicts of `cudreth_mark`.
 pub const MET: u64 = 0;
 pub const UNMET: u64 = 1;
-// Verdict of `cudreth_paths`.
+// Verdict of `cudreth_paths`, `cudreth_xml_write` and `cudreth_xml_read`.
 pub const WRITTEN: u64 = 0;
-// Of all three.
+// Of all five.
 pub const REFUSED: u64 = 3;
 
-// The questions by number; each function asks its own in this order. `question_words` says what a refusal by each means.
+// The questions by number; each function asks its own in this order, but 17 before 15 and 16. `question_words` says what a refusal by each
+// means.
 // Of the whole constraint file, by `solve` and `mark`:
 pub const Q_CONSTRAINTS_LONG: u32 = 1;
 pub const Q_CONSTRAINTS_CUT: u32 = 2;
@@ -89,15 +97,23 @@ pub const Q_LABEL: u32 = 5;
 pub const Q_UNUSED: u32 = 6;
 // of the lent buffer, by `solve` (`ANSWER_BYTES`) and `paths` (`RECORDS_BYTES`):
 pub const Q_BUFFER: u32 = 7;
-// of the answer file, by `mark` alone, each of the whole file before the next question:
+// of the answer file, by `mark`, and of node records alone, by `xml_write`, each of all records before the next question (by 9 `xml_write`
+// refuses a place record too):
 pub const Q_ANSWER_CUT: u32 = 8;
 pub const Q_ANSWER_KIND: u32 = 9;
 pub const Q_NODE_COUNT: u32 = 10;
 pub const Q_NODES: u32 = 11;
+// of the answer file, by `mark` alone:
 pub const Q_PLACES: u32 = 12;
 // of the text, by `paths` alone:
 pub const Q_TEXT_FORM: u32 = 13;
 pub const Q_TEXT_VARIABLES: u32 = 14;
+// of the nodes' labels, by `xml_write` alone:
+pub const Q_XML_LABEL: u32 = 15;
+// of the text, by `xml_read` alone:
+pub const Q_XML_FORM: u32 = 16;
+// of the lent buffer, by `xml_write` (`XML_BYTES`), before 15, and `xml_read` (`NODES_BYTES`), before 16:
+pub const Q_XML_BUFFER: u32 = 17;
 
 unsafe extern "C" {
     pub fn cudreth_solve(
@@ -109,6 +125,8 @@ unsafe extern "C" {
     ) -> u64;
     pub fn cudreth_mark(constraints: *const u8, constraints_len: usize, answer: *const u8, answer_len: usize) -> u64;
     pub fn cudreth_paths(text: *const u8, text_len: usize, records: *mut u8, records_len: usize) -> u64;
+    pub fn cudreth_xml_write(nodes: *const u8, nodes_len: usize, text: *mut u8, text_len: usize) -> u64;
+    pub fn cudreth_xml_read(text: *const u8, text_len: usize, nodes: *mut u8, nodes_len: usize) -> u64;
 }
 
 /// What `solve` answers. `count` is the number of alternatives entered.
@@ -139,6 +157,15 @@ pub enum Marked {
 #[derive(Clone, Copy, Debug, PartialEq, Eq)]
 pub enum PathsRead {
     /// The records were written to the front of the buffer, in so many bytes.
+    Written { written: usize },
+    /// The question of that number was answered with no.
+    Refused { question: u32 },
+}
+
+/// What `xml_write` and `xml_read` answer.
+#[derive(Clone, Copy, Debug, PartialEq, Eq)]
+pub enum Xml {
+    /// The text or the node records were written to the front of the buffer, in so many bytes.
     Written { written: usize },
     /// The question of that number was answered with no.
     Refused { question: u32 },
@@ -182,6 +209,16 @@ impl PathsRead {
     }
 }
 
+impl Xml {
+    /// The meaning of a result of `cudreth_xml_write` or of `cudreth_xml_read`.
+    pub fn decode(result: u64) -> Xml {
+        match parts(result) {
+            (WRITTEN, written, _) => Xml::Written { written: usize::from(written) },
+            (_, _, question) => Xml::Refused { question },
+        }
+    }
+}
+
 /// Solves the constraint file, entering at most `allowance` alternatives. Only `Solved::Tree` writes: `written` bytes at the front of
 /// `answer`; all other bytes stay as they were. `answer` has at least `ANSWER_BYTES` bytes, or is refused.
 ///
@@ -217,7 +254,30 @@ pub fn paths(text: &[u8], records: &mut [u8]) -> PathsRead {
     PathsRead::decode(unsafe { cudreth_paths(text.as_ptr(), text.len(), records.as_mut_ptr(), records.len()) })
 }
 
-/// Why a file, a buffer or a text was refused, by the number of the question.
+/// Writes a tree as XML: an element is `<a>` to `</a>` around its children, in the order of their numbers, or `<a/>` if it is a leaf. Its
+/// name is its label, a letter in the case that it has, or `_` if it is blank. There is no space and no newline; the document node is not
+/// written. `nodes` has node records alone, as they stand at the front of an answer file: a place record is refused with 9. Only
+/// `Xml::Written` writes: `written` bytes at the front of `text`, all of them ASCII; all other bytes stay as they were. `text` has at least
+/// `XML_BYTES` bytes, or is refused.
+///
+/// Two trees give the same text only if they are the same ordered tree with the same labels, however their nodes are numbered.
+pub fn xml_write(nodes: &[u8], text: &mut [u8]) -> Xml {
+    // Safe: as in `solve`.
+    Xml::decode(unsafe { cudreth_xml_write(nodes.as_ptr(), nodes.len(), text.as_mut_ptr(), text.len()) })
+}
+
+/// Reads a text that `xml_write` writes, and writes the node records of its tree, numbered in document order: a node before its children,
+/// and all that is below it before its next sibling. Only `Xml::Written` writes: `written` bytes at the front of `nodes`; all other bytes
+/// stay as they were. `nodes` has at least `NODES_BYTES` bytes, or is refused.
+///
+/// The tree read is the one that was written, and written again it is the same text. Every other text is refused with 16, also XML that
+/// says the same in other bytes: `<a></a>` for `<a/>`, or a newline at the end.
+pub fn xml_read(text: &[u8], nodes: &mut [u8]) -> Xml {
+    // Safe: as in `solve`.
+    Xml::decode(unsafe { cudreth_xml_read(text.as_ptr(), text.len(), nodes.as_mut_ptr(), nodes.len()) })
+}
+
+/// Why a file, records, a buffer or a text were refused, by the number of the question.
 pub fn question_words(question: u32) -> &'static str {
     match question {
         Q_CONSTRAINTS_LONG => "the constraint file has more than 1,024 bytes",
@@ -227,13 +287,16 @@ pub fn question_words(question: u32) -> &'static str {
         Q_LABEL => "a label record has the label 0",
         Q_UNUSED => "a byte that the record's kind does not use is not 0",
         Q_BUFFER => "the lent buffer has less than 136 bytes for an answer, or less than 1,024 for records",
-        Q_ANSWER_CUT => "the length of the answer file is not a multiple of 4",
-        Q_ANSWER_KIND => "an answer record is neither node nor place, or a node comes after a place",
+        Q_ANSWER_CUT => "the length of the answer file, or of the node records, is not a multiple of 4",
+        Q_ANSWER_KIND => "an answer record is neither node nor place, or a node comes after a place, or a record to be written as XML is no node",
         Q_NODE_COUNT => "there are not 2 to 64 node records",
         Q_NODES => "a node's number is not its position or its parent is not smaller, or node 0 is not blank with parent 0 and one child",
         Q_PLACES => "the places are not variables 0 to n-1 in order, each on a node of the tree, fourth byte 0",
         Q_TEXT_FORM => "the text is not 1 to 8 lines of paths, each ended by byte 10, in at most 1,024 bytes",
         Q_TEXT_VARIABLES => "the paths need more than 16 variables",
+        Q_XML_LABEL => "a label to be written as XML is neither 0 nor a letter",
+        Q_XML_FORM => "the text is not one that a tree of at most 64 nodes, the document node counted, is written as",
+        Q_XML_BUFFER => "the lent buffer has less than 512 bytes for XML, or less than 256 for node records",
         _ => "a question that this version does not know",
     }
 }
