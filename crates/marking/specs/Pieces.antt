@@ -8,6 +8,6 @@ use Rattle.reading.specs.declared.Filled.{Filled}
 use Rattle.reading.specs.declared.Filled.the-variants.{Bytes, Failed}
 
 -- the bytes are what is kept of the pieces that were read, and get the verdict of the whole
-abbrev pub FillsInPieces : Filled → List ℕ → Type 0
-FillsInPieces (Bytes n) buffer = Counts n buffer × StandsForPieces (take n buffer)
-FillsInPieces Failed buffer = Unit {0}
+abbrev pub FillsWithAnswer : Filled → List ℕ → Type 0
+FillsWithAnswer (Bytes n) buffer = Counts n buffer × StandsForPieces (take n buffer)
+FillsWithAnswer Failed buffer = Unit {0}

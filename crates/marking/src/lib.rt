@@ -1,7 +1,8 @@
 // Reads the two files that are marked and prints the verdict: `met`, `unmet POSITION KIND` or `refused NUMBER`. A verdict is given of
 // whole files only: where one cannot be opened or read to its end, standard error says so and nothing is printed.
 ghost use Rattle.reading.specs.Filling.{Fills};
-ghost use Rattle.marking.specs.Pieces.{FillsInPieces};
+ghost use Rattle.marking.specs.Pieces.{FillsWithAnswer};
+use pieces::read_pieces;
 use reading::CONSTRAINTS_READ;
 use reading::Filled;
 use reading::fill;
@@ -13,29 +14,6 @@ fn open(path: &[u8]) -> i32 {
         os::fail(path);
     }
     fd
-}
-
-// Reads an answer to its end. Whenever the buffer is full, what is in it is shortened, which leaves the verdict on the whole answer as it
-// is. A proved loop has to end, and nothing says that a file does: the loop counts its turns down from a number that no run uses up.
-fn read_pieces(fd: i32, path: &[u8], buffer: &mut [u8]) -> Filled
-    ensures { λ r. ⌜ FillsInPieces r (now (buffer .exit)) ⌝ }
-{
-    let mut kept: usize = 0;
-    let mut turns = u64::MAX;
-    while turns > 0 {
-        let room = buffer.len() - kept;
-        let filled = fill(fd, path, &mut buffer[kept..]);
-        let Filled::Bytes(more) = filled else {
-            return Filled::Failed;
-        };
-        let end = kept + more;
-        kept = answers::shorten(&mut buffer[..end]);
-        if more < room {
-            return Filled::Bytes(kept);
-        }
-        turns -= 1;
-    }
-    Filled::Failed
 }
 
 fn read_constraints(path: &[u8], buffer: &mut [u8]) -> Filled
@@ -51,7 +29,7 @@ fn read_constraints(path: &[u8], buffer: &mut [u8]) -> Filled
 }
 
 fn read_answer(path: &[u8], buffer: &mut [u8]) -> Filled
-    ensures { λ r. ⌜ FillsInPieces r (now (buffer .exit)) ⌝ }
+    ensures { λ r. ⌜ FillsWithAnswer r (now (buffer .exit)) ⌝ }
 {
     let fd = open(path);
     if fd < 0 {

@@ -7,7 +7,9 @@ ghost use Rattle.meaning.specs.Ascii.{ascii};
 ghost use Rattle.meaning.specs.Text.{decimal, kindName, recordLine, recordLines};
 ghost use Rattle.constraints.specs.Record.{kindNumber};
 ghost use Rattle.lent.specs.Putting.{Put};
+ghost use Rattle.putting.specs.Fronts.{Shown};
 use constraints::Kind;
+use lent::Answer;
 
 // Puts a word from `at` on, and says where the next one goes.
 pub fn put(out: &mut [u8], at: usize, word: &[u8]) -> usize
@@ -101,5 +103,16 @@ pub fn put_kind(out: &mut [u8], at: usize, kind: Kind) -> usize
         Kind::Leaf => put(out, at, b"leaf"),
         Kind::Label => put(out, at, b"label"),
         Kind::Before => put(out, at, b"before"),
+    }
+}
+
+// Where a buffer was filled it is left as it is; else the line of the refusal is put at its front. Answers how many bytes are to be printed.
+pub fn put_answer(out: &mut [u8], answer: Answer) -> usize
+    requires { ⌜ 19 ≤ length (now out) ⌝ }
+    ensures { λ r. ⌜ Shown answer (now (out .entry)) r (now (out .exit)) ⌝ }
+{
+    match answer {
+        Answer::Written(bytes) => bytes,
+        Answer::Refused(question) => put_line(out, 0, b"refused ", question as u32),
     }
 }

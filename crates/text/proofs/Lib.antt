@@ -1,4 +1,3 @@
-pub mod Fronts
 pub mod Answers
 pub mod Read
 pub mod Records

@@ -11,7 +11,8 @@ use Rattle.meaning.specs.Shuffled.{AnotherOrder}
 use Rattle.meaning.specs.Capitals.{EqualButForCase}
 use Rattle.meaning.proofs.Shuffled.{same-solved}
 use Rattle.meaning.proofs.Capitals.{case-aside}
-use Rattle.text.specs.Printing.{Fronted, SolvedAs, MarkedAs}
+use Rattle.putting.specs.Fronts.{Fronted}
+use Rattle.text.specs.Printing.{SolvedAs, MarkedAs}
 
 one-text : {text other before after later : List ℕ} {r s : ℕ} → other ≡ text → Fronted text before r after → Fronted other before s later → (s ≡ r) × (later ≡ after)
 one-text {text} {before = before} {s = s} e u v =

@@ -7,16 +7,12 @@ use Rattle.meaning.specs.Results.{written, fillWrote}
 use Rattle.meaning.specs.Promises.{SolverPromise, MarkerPromise, PathsPromise}
 use Rattle.meaning.specs.Text.{solvedText, markedText, fillText}
 use Rattle.theory.specs.Programs.{solver, marker}
+use Rattle.putting.specs.Fronts.{Fronted}
 use Rattle.theory.specs.PathReader.{readPaths}
 
 -- a buffer for the answer file, as short as question 7 lets in
 abbrev pub room : List ℕ
 room = replicate 136 0
-
--- the text at the front, how long it is, and every other byte as it was
-pub record Fronted (text before : List ℕ) (r : ℕ) (after : List ℕ) : Type 0 where
-  pub bytes : r ≡ length text
-  pub wrote : after ≡ text ++ drop r before
 
 -- under the allowance A
 pub record SolvedAs (A : ℕ) (file before : List ℕ) (r : ℕ) (after : List ℕ) : Type 0 where

@@ -9,6 +9,7 @@ ghost use Rattle.text.specs.Verdicts.{bytesOf, solverText, markerText};
 ghost use Rattle.text.specs.Printing.{SolvedAs, MarkedAs, PathsAs};
 use constraints::Kind;
 use putting::put;
+use putting::put_answer;
 use putting::put_kind;
 use putting::put_line;
 use putting::put_number;
@@ -95,8 +96,5 @@ pub fn paths(text: &[u8], out: &mut [u8; RECORDS_BYTES]) -> usize
     ensures { λ r. ⌜ PathsAs (now (text .entry)) (now (out .entry)) r (now (out .exit)) ⌝ }
 {
     let answer = xpath::read(text, out);
-    match answer {
-        lent::Answer::Written(bytes) => bytes,
-        lent::Answer::Refused(question) => put_line(out, 0, b"refused ", question as u32),
-    }
+    put_answer(out, answer)
 }

@@ -17,9 +17,9 @@ use Rattle.meaning.proofs.XmlTrees.{document-size, document-ordered, document-o
 use Rattle.theory.specs.Reader.{Got, nothing, got}
 use Rattle.theory.specs.Xml.{elementOf, writtenOf, writeXml, textElement, readOf, readXml}
 use Rattle.theory.proofs.AnswerFile.{length-nodeBytes}
-use Rattle.theory.proofs.XmlReader.{text-unique, form-of}
+use Rattle.theory.proofs.XmlReader.{text-unique, form-of, form-short}
 use Rattle.theory.proofs.XmlQuestions.{nodes-accepted, document-judged, judged-length}
-use Rattle.theory.proofs.XmlPromise.{accepted-ordered, document-element, written-form, write-wide, write-keeps, write-unique, read-unique}
+use Rattle.theory.proofs.XmlPromise.{accepted-ordered, document-element, document-length, written-form, write-wide, write-keeps, write-unique, read-unique}
 
 -- ---- what was written
 
@@ -50,6 +50,9 @@ write-is nodes buffer text d = go (judgeNodes nodes) refl d
         (λ z. none (sym (pick-no _ _ (λ y. clash y z)) ∙ h))
         (yes-case (leb 512 (length buffer)))
 
+pub write-few : (nodes buffer text : List ℕ) → writeXml nodes buffer ≡ fill-written text → length text ≤ 438
+write-few nodes buffer text d = form-short (write-is nodes buffer text d .form)
+
 promised-wrote : {nodes text buffer after : List ℕ} → WriterPromise nodes buffer (fill-written text) after → Wrote nodes text
 promised-wrote {nodes} {text} {buffer} {after} p = write-is nodes buffer text (sym (write-unique nodes buffer (fill-written text) after p))
 
@@ -72,6 +75,13 @@ read-is text buffer bs d =
     go : (g : Got Element) → textElement text ≡ g → readOf g ≡ fill-written bs → (e : Element) × XmlForm text e × (bs ≡ nodeBytes 0 (documentRecords e))
     go nothing e h = none h
     go (got t q) e h = (t, form-of e, cc)
+
+pub read-few : (text buffer bs : List ℕ) → readXml text buffer ≡ fill-written bs → length bs ≤ 256
+read-few text buffer bs d =
+    let w = read-is text buffer bs d in
+    let a = document-length (w .0) (w .1 .few) in
+    let b = ap length (w .2) in
+    omega arith
 
 document-writes : (text : List ℕ) (e : Element) (buffer : List ℕ) → XmlForm text e → 512 ≤ length buffer → writeXml (nodeBytes 0 (documentRecords e)) buffer ≡ fill-written text
 unfolding writeXml

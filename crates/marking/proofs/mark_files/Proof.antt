@@ -3,7 +3,7 @@ use mathlib.Core.Path.{subst}
 use Rattle.io.specs.Counts.{Counts}
 use Rattle.reading.specs.Filling.{Fills}
 use Rattle.reading.specs.declared.Filled.{Filled}
-use Rattle.text.proofs.Fronts.{front-counts}
+use Rattle.putting.proofs.Fronts.{front-counts}
 use Rattle.marking.specs.Pieces.{FillsInPieces}
 use borrow.Author.Needs.{needs}
 use Rattle.marking.proofs.mark_files.Statement.{statement}

@@ -3,7 +3,7 @@ use mathlib.Core.Path.{subst}
 use Rattle.io.specs.Counts.{Counts}
 use Rattle.reading.specs.Filling.{Fills}
 use Rattle.reading.specs.declared.Filled.{Filled}
-use Rattle.text.proofs.Fronts.{front-counts}
+use Rattle.putting.proofs.Fronts.{front-counts}
 use borrow.Author.Needs.{needs}
 use Rattle.solve.proofs.main.Statement.{statement}
 use Rattle.solve.proofs.main.Tie as tie

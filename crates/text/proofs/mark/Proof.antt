@@ -3,7 +3,7 @@ use mathlib.Core.Path.{ap, subst}
 use Rattle.meaning.specs.Promises.{MarkerPromise}
 use Rattle.meaning.specs.Text.{markedText}
 use Rattle.lent.proofs.Stores.{put-same}
-use Rattle.text.proofs.Fronts.{put-front}
+use Rattle.putting.proofs.Fronts.{put-front}
 use borrow.Author.Needs.{needs}
 use Rattle.text.proofs.mark.Statement.{statement}
 use Rattle.text.proofs.mark.Tie as tie

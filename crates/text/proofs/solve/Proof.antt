@@ -4,7 +4,7 @@ use native.Mathlib.Omega.{arith}
 use lib.ListN.{length-take}
 use lib.Seq.{length-take-le}
 use Rattle.lent.proofs.Stores.{put-same}
-use Rattle.text.proofs.Fronts.{put-front}
+use Rattle.putting.proofs.Fronts.{put-front}
 use Rattle.text.proofs.Answers.{solver-text, bytes-most, bytes-within, promised}
 use borrow.Author.Needs.{needs}
 use Rattle.text.proofs.solve.Statement.{statement}

@@ -1,4 +1,4 @@
--- `marking::read_pieces` meets its contract: what is kept stands for the pieces read so far, and so it does with one piece more.
+-- `pieces::read_pieces` meets its contract: what is kept stands for the pieces read so far, and so it does with one piece more.
 use mathlib.Core.Path.{_≡_, sym, subst}
 use mathlib.Core.List.{List, _++_}
 use Prim.Native.Nat.{ℕ, _-_, _≤_}
@@ -7,16 +7,16 @@ use lib.ListN.{length, take, drop, length-append}
 use lib.Seq.{length-take-le}
 use borrow.Author.Needs.{needs}
 use Rattle.io.proofs.Counting.{counts}
-use Rattle.marker.specs.Pieces.{StandsForPieces}
-use Rattle.marker.proofs.Pieces.{no-piece}
+use Rattle.answers.specs.Pieces.{KeptPieces}
+use Rattle.answers.proofs.Pieces.{no-piece}
 use Rattle.reading.specs.Filling.{Fills}
 use Rattle.reading.specs.declared.Filled.{Filled}
-use Rattle.marking.proofs.Turn.{one-turn}
-use Rattle.marking.proofs.read_pieces.Statement.{statement}
-use Rattle.marking.proofs.read_pieces.Tie as tie
+use Rattle.pieces.proofs.Turn.{one-turn}
+use Rattle.pieces.proofs.read_pieces.Statement.{statement}
+use Rattle.pieces.proofs.read_pieces.Tie as tie
 
 abbrev Inv-loop : tie.InvT-loop
-Inv-loop fd path buffer₀ kept₀ turns₀ buffer kept turns = (kept ≤ length buffer) × (length buffer ≡ length buffer₀) × StandsForPieces (take kept buffer)
+Inv-loop fd path buffer₀ kept₀ turns₀ buffer kept turns = (kept ≤ length buffer) × (length buffer ≡ length buffer₀) × KeptPieces (take kept buffer)
 
 abbrev μ-loop : tie.MeasureT-loop
 μ-loop fd path buffer₀ kept₀ turns₀ buffer kept turns = turns
@@ -26,7 +26,7 @@ more-fits : (c : tie.After-filled Inv-loop μ-loop) → c .filled .given .0 .0 �
 more-fits c = subst (λ (f : Filled). Fills f (c .before .before .before .before .fill .last .1 .1 .0)) (c .filled .given .1) (c .before .before .before .before .fill .ensures) .0
 
 -- what is kept after a turn stands for one piece more
-stands : (c : tie.After-shorten Inv-loop μ-loop) (after : List ℕ) → StandsForPieces (take (c .shorten .result) (c .shorten .last .0 ++ after))
+stands : (c : tie.After-shorten Inv-loop μ-loop) (after : List ℕ) → KeptPieces (take (c .shorten .result) (c .shorten .last .0 ++ after))
 stands c after =
     let l = c .before .before .before .before .before .before .before .before .before .before .loop in
     one-turn (l .buffer) (c .before .before .before .before .before .before .before .fill .last .1 .1 .0) (drop (length (l .buffer) - l .kept) (drop (l .kept) (l .buffer))) _ after (l .kept) _ _ (l .inv .0) (more-fits (c .before .before .before)) (c .shorten .ensures .0) (c .shorten .ensures .1) (l .inv .2)
