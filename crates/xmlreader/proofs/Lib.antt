@@ -1,0 +1,4 @@
+pub mod Bytes
+pub mod Forests
+pub mod Found
+pub mod Single
