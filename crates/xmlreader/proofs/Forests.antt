@@ -56,6 +56,11 @@ pub one-whole : (l m : Label) (d s : Forest) (q : List ℕ)
     → forestText (one l (element m d s)) ++ q ≡ 60 ∷ nameOf l ∷ 62 ∷ (forestText (element m d s) ++ (60 ∷ 47 ∷ nameOf l ∷ 62 ∷ q))
 one-whole l m d s q = whole-text l m d s no-element q ∙ (unfold forestText in refl)
 
+-- the text around others
+pub one-around : (l : Label) (c : Forest) (q : List ℕ) → 1 ≤ count c → forestText (one l c) ++ q ≡ 60 ∷ nameOf l ∷ 62 ∷ (forestText c ++ (60 ∷ 47 ∷ nameOf l ∷ 62 ∷ q))
+one-around l no-element q h = absurd (let z = count-none in omega arith)
+one-around l (element m d s) q h = one-whole l m d s q
+
 pub first-text : (l : Label) (c r : Forest) (q : List ℕ) → forestText (element l c r) ++ q ≡ forestText (one l c) ++ (forestText r ++ q)
 first-text l no-element r q = leaf-text l r q ∙ sym (one-leaf l (forestText r ++ q))
 first-text l (element m d s) r q = whole-text l m d s r q ∙ sym (one-whole l m d s (forestText r ++ q))

@@ -2,3 +2,4 @@ pub mod Bytes
 pub mod Forests
 pub mod Found
 pub mod Single
+pub mod Following

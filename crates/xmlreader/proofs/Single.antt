@@ -14,10 +14,11 @@ use Rattle.meaning.specs.Xml.{Forest, no-element, element, count, isNameable, a
 use Rattle.meaning.proofs.Tests.{not-yes}
 use Rattle.theory.specs.Xml.{labelNamed, opens}
 use Rattle.theory.proofs.XmlReader.{label-name, label-nameable, closing}
+use Rattle.lent.specs.Putting.{Put}
 use Rattle.lent.proofs.Stores.{put-same, put-then}
 use Rattle.xmlreader.specs.Reading.{opensAt, emptyAt, closesAt, Single, Ended, Readable, Found, Missed}
 use Rattle.xmlreader.proofs.Bytes.{Started, name-some, opens-left, word-there, word-no, byte-there, byte-no, empty-front, closes-front}
-use Rattle.xmlreader.proofs.Forests.{one, one-nameable, nameable-one, count-none, count-first, one-leaf, one-whole, one-opens, forest-split, clash-bytes, one-records}
+use Rattle.xmlreader.proofs.Forests.{one, one-nameable, nameable-one, count-none, count-first, one-leaf, one-whole, one-around, one-opens, forest-split, clash-bytes, one-records}
 use Rattle.xmlreader.proofs.Found.{missed-one, put-one, put-count}
 
 module _ (text : List ℕ) (at nodes : ℕ) where
@@ -102,11 +103,21 @@ module _ (text : List ℕ) (at name label : ℕ) (start : Started text at name l
 
   -- ---- found
 
+  named : nameOf label ≡ name
+  named = ap nameOf (start .labelled) ∙ label-name name (start .named)
+
+  nameable : Yes (isNameable label)
+  nameable = subst (λ (l : Label). Yes (isNameable l)) (sym (start .labelled)) (label-nameable name (start .named))
+
   module _ (up nodes : ℕ) (ups labels : List ℕ) (readable : Readable text at nodes ups labels) (few : nodes < 64) where
+    put-up : Put ups nodes (up ∷ []) (nodes + 1) (set ups nodes up)
+    put-up = let l = readable .long-ups in put-one ups nodes up (omega arith)
+
+    put-label : Put labels nodes (label ∷ []) (nodes + 1) (set labels nodes label)
+    put-label = let l = readable .long-labels in put-one labels nodes label (omega arith)
+
     pub found-leaf : emptyAt text (at + 2) ≡ true → Found Single text at up nodes ups labels (at + 4) (nodes + 1) (set ups nodes up) (set labels nodes label)
     found-leaf y =
-        let lu = readable .long-ups in
-        let ll = readable .long-labels in
         let n : at + 2 + 2 ≡ at + 4 = omega arith in
         let w = word-there text (at + 2) 47 (62 ∷ []) (sym (empty-front text (at + 2)) ∙ y) in
         let i = w .1 in
@@ -119,12 +130,29 @@ module _ (text : List ℕ) (at name label : ℕ) (start : Started text at name l
           forward = omega arith;
           within = omega arith;
           few = omega arith;
-          put-ups = unfold forestRecords in put-one ups nodes up (omega arith);
-          put-labels = unfold forestRecords in put-one labels nodes label (omega arith);
+          put-ups = unfold forestRecords in put-up;
+          put-labels = unfold forestRecords in put-label;
         }
-      where
-        named : nameOf label ≡ name
-        named = ap nameOf (start .labelled) ∙ label-name name (start .named)
 
-        nameable : Yes (isNameable label)
-        nameable = subst (λ (l : Label). Yes (isNameable l)) (sym (start .labelled)) (label-nameable name (start .named))
+    -- the element around what was found, its end behind it
+    pub found-around : getD text (at + 2) 0 ≡ 62 → (end total : ℕ) (us ls : List ℕ)
+        → Found Ended text (at + 3) nodes (nodes + 1) (set ups nodes up) (set labels nodes label) end total us ls
+        → (total ≡ nodes + 1 → ⊥) → closesAt text end name ≡ true → Found Single text at up nodes ups labels (end + 4) total us ls
+    found-around b end total us ls f t y =
+        let w = f .forest in
+        let q = drop (end + 4) text in
+        let n = put-count (λ (v : NodeRecord). v .up) nodes (nodes + 1) w (f .put-ups) in
+        let h = f .forward in
+        let c = word-there text end 60 (47 ∷ name ∷ 62 ∷ []) (sym (closes-front text end name (name-some name (start .named))) ∙ y) in
+        let e = start .is ∙ ap (λ (x : List ℕ). 60 ∷ name ∷ x) (behind nodes b) ∙ ap (λ (x : List ℕ). 60 ∷ name ∷ 62 ∷ x) (f .is ∙ ap (λ (x : List ℕ). forestText w ++ x) (c .0)) in
+        record {
+          forest = one label w;
+          sort = tt;
+          is = e ∙ ap (λ (x : ℕ). 60 ∷ x ∷ 62 ∷ (forestText w ++ (60 ∷ 47 ∷ x ∷ 62 ∷ q))) (sym named) ∙ sym (one-around label w q (omega arith));
+          nameable = nameable-one label w nameable (f .nameable);
+          forward = omega arith;
+          within = c .1;
+          few = f .few;
+          put-ups = put-same (one-records (λ (v : NodeRecord). v .up) up nodes label w) (put-then put-up (f .put-ups));
+          put-labels = put-same (one-records (λ (v : NodeRecord). v .label) up nodes label w) (put-then put-label (f .put-labels));
+        }
