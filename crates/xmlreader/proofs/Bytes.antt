@@ -83,6 +83,12 @@ module _ (bs : List ℕ) where
       (front-byte (k + 1) (k + 2) 47 _ (omega arith) (omega arith) ∙ ap (λ (b : Bool). eqb (getD bs (k + 1) 0) 47 and b)
       (front-byte (k + 2) (k + 3) n _ (omega arith) h ∙ ap (λ (b : Bool). eqb (getD bs (k + 2) 0) n and b) (front-last (k + 3) 62 (omega arith)))))
 
+  pub empty-within : (k : ℕ) → emptyAt bs k ≡ true → k + 2 ≤ length bs
+  empty-within k y = word-there k 47 (62 ∷ []) (sym (empty-front k) ∙ y) .1
+
+  pub closes-within : (k n : ℕ) → 0 < n → closesAt bs k n ≡ true → k + 4 ≤ length bs
+  closes-within k n h y = word-there k 60 (47 ∷ n ∷ 62 ∷ []) (sym (closes-front k n h) ∙ y) .1
+
 -- ---- an element starts
 
 zero-no-name : ¬ Yes (isName 0)

@@ -21,9 +21,9 @@ use Rattle.xmlreader.proofs.Bytes.{opens-left}
 use Rattle.xmlreader.proofs.Forests.{one, nameable-first, nameable-both, count-none, count-first, first-text, one-some, one-split, first-records}
 use Rattle.xmlreader.proofs.Found.{single-is, put-count}
 
-pub found-none : (text : List ℕ) (at up nodes : ℕ) (ups labels : List ℕ) → Readable text at nodes ups labels → opensAt text at ≡ false
+pub found-none : {text : List ℕ} {at nodes : ℕ} {ups labels : List ℕ} (up : ℕ) → Readable text at nodes ups labels → opensAt text at ≡ false
     → Found Ended text at up nodes ups labels at nodes ups labels
-found-none text at up nodes ups labels readable f =
+found-none {text} {at} {nodes} {ups} {labels} up readable f =
     let n = readable .few in
     let u = readable .long-ups in
     let l = readable .long-labels in
@@ -57,8 +57,8 @@ miss-first text at nodes o m =
     let n = count-none in
     omega arith
 
-module _ (text : List ℕ) (at up nodes : ℕ) (ups labels : List ℕ) (readable : Readable text at nodes ups labels)
-    (end total : ℕ) (us ls : List ℕ) (f : Found Single text at up nodes ups labels end total us ls) where
+module _ {text : List ℕ} {at up nodes : ℕ} {ups labels : List ℕ} (readable : Readable text at nodes ups labels)
+    {end total : ℕ} {us ls : List ℕ} (f : Found Single text at up nodes ups labels end total us ls) where
   abbrev label : Label
   label = single-is (f .forest) (drop end text) (f .sort) .0
 

@@ -31,7 +31,7 @@ module _ (text : List ℕ) (at nodes : ℕ) where
   pub miss-many : 64 ≤ nodes → Missed Single text at nodes
   miss-many f = missed-one text at nodes λ l c q e y. let n = count-first l c no-element in omega arith
 
-module _ (text : List ℕ) (at name label : ℕ) (start : Started text at name label) where
+module _ {text : List ℕ} {at name label : ℕ} (start : Started text at name label) where
   -- behind the name stand >, the elements c and the end of the element
   record Around (c : Forest) (q : List ℕ) : Type 0 where
     some : 1 ≤ count c
@@ -52,6 +52,10 @@ module _ (text : List ℕ) (at name label : ℕ) (start : Started text at name l
       let n = count-first m d s in
       inr (record { some = omega arith; named = one-nameable l c y .1; is = b ∙ ap (λ (x : ℕ). 62 ∷ (forestText c ++ (60 ∷ 47 ∷ x ∷ 62 ∷ q))) (sym a) })
 
+  -- behind >
+  behind : getD text (at + 2) 0 ≡ 62 → drop (at + 2) text ≡ 62 ∷ drop (at + 3) text
+  behind b = let n : at + 2 + 1 ≡ at + 3 = omega arith in byte-there text (at + 2) 62 b (omega arith) .0 ∙ ap (λ (i : ℕ). 62 ∷ drop i text) n
+
   module _ (nodes : ℕ) where
     -- neither /> nor >
     pub miss-neither : emptyAt text (at + 2) ≡ false → (getD text (at + 2) 0 ≡ 62 → ⊥) → Missed Single text at nodes
@@ -62,14 +66,12 @@ module _ (text : List ℕ) (at name label : ℕ) (start : Started text at name l
 
     -- > and then what is inside
     module _ (bracket : getD text (at + 2) 0 ≡ 62) where
-      pub behind : drop (at + 2) text ≡ 62 ∷ drop (at + 3) text
-      behind = let n : at + 2 + 1 ≡ at + 3 = omega arith in byte-there text (at + 2) 62 bracket (omega arith) .0 ∙ ap (λ (i : ℕ). 62 ∷ drop i text) n
-
       inside : (l : Label) (c : Forest) (q : List ℕ) → drop at text ≡ forestText (one l c) ++ q → Yes (allNameable (one l c))
           → (1 ≤ count c) × Yes (allNameable c) × (drop (at + 3) text ≡ forestText c ++ (60 ∷ 47 ∷ name ∷ 62 ∷ q))
       inside l c q e y =
-          ⊎-elim (λ h. clash-bytes (sym h ∙ behind))
-          (λ h. let k : 62 ∷ drop (at + 3) text ≡ 62 ∷ (forestText c ++ (60 ∷ 47 ∷ name ∷ 62 ∷ q)) = sym behind ∙ h .is in (h .some, h .named, cc)) (shape l c q e y)
+          let b = behind bracket in
+          ⊎-elim (λ h. clash-bytes (sym h ∙ b))
+          (λ h. let k : 62 ∷ drop (at + 3) text ≡ 62 ∷ (forestText c ++ (60 ∷ 47 ∷ name ∷ 62 ∷ q)) = sym b ∙ h .is in (h .some, h .named, cc)) (shape l c q e y)
 
       pub miss-inside : Missed Ended text (at + 3) (nodes + 1) → Missed Single text at nodes
       miss-inside m =
@@ -80,7 +82,7 @@ module _ (text : List ℕ) (at name label : ℕ) (start : Started text at name l
           let z = count-none in
           omega arith
 
-      module _ (us ls : List ℕ) (end total : ℕ) (us′ ls′ : List ℕ) (f : Found Ended text (at + 3) nodes (nodes + 1) us ls end total us′ ls′) where
+      module _ {us ls : List ℕ} {end total : ℕ} {us′ ls′ : List ℕ} (f : Found Ended text (at + 3) nodes (nodes + 1) us ls end total us′ ls′) where
         -- what was found is what is inside
         found-inside : (l : Label) (c : Forest) (q : List ℕ) → drop at text ≡ forestText (one l c) ++ q → Yes (allNameable (one l c))
             → (f .forest ≡ c) × (drop end text ≡ 60 ∷ 47 ∷ name ∷ 62 ∷ q)
@@ -88,13 +90,13 @@ module _ (text : List ℕ) (at name label : ℕ) (start : Started text at name l
             let h = inside l c q e y in
             forest-split (f .forest) c (drop end text) (60 ∷ 47 ∷ name ∷ 62 ∷ q) (f .nameable) (h .1) (f .sort) (closing _) (sym (f .is) ∙ h .2)
 
-        counted : total ≡ nodes + 1 + count (f .forest)
-        counted = put-count (λ (v : NodeRecord). v .up) nodes (nodes + 1) (f .forest) (f .put-ups)
-
         pub miss-empty : total ≡ nodes + 1 → Missed Single text at nodes
         miss-empty t =
             missed-one text at nodes λ l c q e y.
-            let a = ap count (found-inside l c q e y .0) in let b = counted in let h = inside l c q e y .0 in absurd (omega arith)
+            let a = ap count (found-inside l c q e y .0) in
+            let b = put-count (λ (v : NodeRecord). v .up) nodes (nodes + 1) (f .forest) (f .put-ups) in
+            let h = inside l c q e y .0 in
+            absurd (omega arith)
 
         pub miss-close : closesAt text end name ≡ false → Missed Single text at nodes
         miss-close t =
@@ -109,7 +111,7 @@ module _ (text : List ℕ) (at name label : ℕ) (start : Started text at name l
   nameable : Yes (isNameable label)
   nameable = subst (λ (l : Label). Yes (isNameable l)) (sym (start .labelled)) (label-nameable name (start .named))
 
-  module _ (up nodes : ℕ) (ups labels : List ℕ) (readable : Readable text at nodes ups labels) (few : nodes < 64) where
+  module _ (up : ℕ) {nodes : ℕ} {ups labels : List ℕ} (readable : Readable text at nodes ups labels) (few : nodes < 64) where
     put-up : Put ups nodes (up ∷ []) (nodes + 1) (set ups nodes up)
     put-up = let l = readable .long-ups in put-one ups nodes up (omega arith)
 
@@ -135,16 +137,16 @@ module _ (text : List ℕ) (at name label : ℕ) (start : Started text at name l
         }
 
     -- the element around what was found, its end behind it
-    pub found-around : getD text (at + 2) 0 ≡ 62 → (end total : ℕ) (us ls : List ℕ)
+    pub found-around : {end total : ℕ} {us ls : List ℕ} → getD text (at + 2) 0 ≡ 62
         → Found Ended text (at + 3) nodes (nodes + 1) (set ups nodes up) (set labels nodes label) end total us ls
         → (total ≡ nodes + 1 → ⊥) → closesAt text end name ≡ true → Found Single text at up nodes ups labels (end + 4) total us ls
-    found-around b end total us ls f t y =
+    found-around {end} b f t y =
         let w = f .forest in
         let q = drop (end + 4) text in
         let n = put-count (λ (v : NodeRecord). v .up) nodes (nodes + 1) w (f .put-ups) in
         let h = f .forward in
         let c = word-there text end 60 (47 ∷ name ∷ 62 ∷ []) (sym (closes-front text end name (name-some name (start .named))) ∙ y) in
-        let e = start .is ∙ ap (λ (x : List ℕ). 60 ∷ name ∷ x) (behind nodes b) ∙ ap (λ (x : List ℕ). 60 ∷ name ∷ 62 ∷ x) (f .is ∙ ap (λ (x : List ℕ). forestText w ++ x) (c .0)) in
+        let e = start .is ∙ ap (λ (x : List ℕ). 60 ∷ name ∷ x) (behind b) ∙ ap (λ (x : List ℕ). 60 ∷ name ∷ 62 ∷ x) (f .is ∙ ap (λ (x : List ℕ). forestText w ++ x) (c .0)) in
         record {
           forest = one label w;
           sort = tt;
