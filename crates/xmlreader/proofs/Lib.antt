@@ -3,3 +3,4 @@ pub mod Forests
 pub mod Found
 pub mod Single
 pub mod Following
+pub mod Records
