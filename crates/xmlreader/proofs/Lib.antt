@@ -4,3 +4,4 @@ pub mod Found
 pub mod Single
 pub mod Following
 pub mod Records
+pub mod Answers
