@@ -7,7 +7,7 @@ use Prim.Native.Nat.{ℕ, _+_, _*_, _≤_, _<_}
 use native.Mathlib.Omega.{arith}
 use lib.ListN.{length, getD, drop, replicate, length-map, length-drop, List·getD-append, List·getD-map}
 use lib.Seq.{sets-eq, drop-length}
-use Rattle.meaning.specs.Finite.{Yes, pick}
+use Rattle.meaning.specs.Finite.{Yes}
 use Rattle.meaning.specs.ReadOff.{NodeRecord, blankRecord, nodeBytes}
 use Rattle.meaning.specs.Results.{Fill, fill-refused, fill-written, fillWrote}
 use Rattle.meaning.specs.Xml.{Forest, Element, alone, count, allNameable, forestText, forestRecords, documentRecords, XmlForm}

@@ -14,7 +14,7 @@ use borrow.Author.Tests.{eq-eqb, ne-eqb}
 use Rattle.meaning.specs.Finite.{Yes, _and_, _or_}
 use Rattle.meaning.specs.Tree.{isCapital}
 use Rattle.meaning.specs.Paths.{isSmall, isLetter}
-use Rattle.meaning.proofs.Tests.{is-eq, eq-yes, self-eq, and-left, and-right, and-both, not-yes, yes-eq}
+use Rattle.meaning.proofs.Tests.{eq-yes, self-eq, and-left, and-right, and-both, not-yes, yes-eq}
 use Rattle.theory.specs.Reader.{front}
 use Rattle.theory.specs.Xml.{nameAt, isName, labelNamed, opens}
 use Rattle.theory.proofs.Reader.{front-is, front-self}

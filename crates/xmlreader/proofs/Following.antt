@@ -3,7 +3,7 @@
 use mathlib.Core.Path.{_≡_, refl, sym, ap, _∙_, subst}
 use mathlib.Core.Bool.{true, false}
 use mathlib.Core.List.{List, _++_, map}
-use Prim.Native.Nat.{ℕ, _+_, _≤_, _<_}
+use Prim.Native.Nat.{ℕ, _+_, _<_}
 use native.Mathlib.Nat.{le-refl}
 use native.Mathlib.Omega.{arith}
 use lib.ListN.{length, drop, length-append, length-drop}
@@ -42,7 +42,7 @@ found-none {text} {at} {nodes} {ups} {labels} up readable f =
 -- to miss those that follow, where an element starts, is to miss them by the first
 missed-more : (text : List ℕ) (at nodes : ℕ) → opensAt text at ≡ true
     → ((l : Label) (c r : Forest) (q : List ℕ) → Ended r q → drop at text ≡ forestText (one l c) ++ (forestText r ++ q) → Yes (allNameable (one l c)) → Yes (allNameable r)
-      → 64 < nodes + count (element l c r))
+    → 64 < nodes + count (element l c r))
     → Missed Ended text at nodes
 unfolding forestText
 missed-more text at nodes o m no-element q k e y = absurd (k (subst (λ (x : List ℕ). Yes (opens x)) e (sym (opens-left text at) ∙ o)))

@@ -8,7 +8,7 @@ use native.Mathlib.Numerals.{add-one}
 use native.Mathlib.Omega.{arith}
 use lib.ListN.{length}
 use Rattle.meaning.specs.Tree.{Label}
-use Rattle.meaning.specs.Finite.{Yes, _and_}
+use Rattle.meaning.specs.Finite.{Yes}
 use Rattle.meaning.specs.ReadOff.{NodeRecord}
 use Rattle.meaning.specs.Xml.{Forest, no-element, element, count, isNameable, allNameable, nameOf, forestText, forestRecords}
 use Rattle.meaning.proofs.Tests.{and-left, and-right, and-both}

@@ -4,15 +4,15 @@ use mathlib.Core.Path.{_≡_, refl, sym, ap, _∙_, subst}
 use mathlib.Core.Logic.{_⊎_, inl, inr, ⊎-elim}
 use mathlib.Core.Bool.{true, false}
 use mathlib.Core.List.{List, [], _∷_, _++_}
-use Prim.Native.Nat.{ℕ, suc, _+_, _≤_, _<_}
+use Prim.Native.Nat.{ℕ, _+_, _≤_, _<_}
 use native.Mathlib.Omega.{arith}
-use lib.ListN.{length, getD, drop, set, length-set}
+use lib.ListN.{getD, drop, set}
 use Rattle.meaning.specs.Tree.{Label}
 use Rattle.meaning.specs.Finite.{Yes}
 use Rattle.meaning.specs.ReadOff.{NodeRecord}
 use Rattle.meaning.specs.Xml.{Forest, no-element, element, count, isNameable, allNameable, nameOf, forestText, forestRecords}
 use Rattle.meaning.proofs.Tests.{not-yes}
-use Rattle.theory.specs.Xml.{labelNamed, opens}
+use Rattle.theory.specs.Xml.{opens}
 use Rattle.theory.proofs.XmlReader.{label-name, label-nameable, closing}
 use Rattle.lent.specs.Putting.{Put}
 use Rattle.lent.proofs.Stores.{put-same, put-then}

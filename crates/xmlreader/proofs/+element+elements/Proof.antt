@@ -1,7 +1,7 @@
 -- `element` and `elements` find what stands at a place, or miss it. Both go forward in the text: `elements` asks `element` at the same place and itself
 -- behind an element, and `element` asks `elements` three bytes on. The places of the code are named first, with what is known there.
 use mathlib.Core.Path.{_≡_, refl, sym, _∙_}
-use mathlib.Core.Bool.{true, false}
+use mathlib.Core.Bool.{true}
 use mathlib.Core.List.{List}
 use Prim.Native.Nat.{ℕ, _+_, _-_, _*_, _≤_, _<_}
 use native.Mathlib.Omega.{arith}
@@ -11,7 +11,7 @@ use borrow.Author.Needs.{needs}
 use borrow.Fn.Kinds.{In}
 use borrow.Fn.PlainCycle.{Measures, is, falls, and}
 use Rattle.xmlreader.specs.declared.Step.the-variants.{To, Not}
-use Rattle.xmlreader.specs.Reading.{opensAt, emptyAt, closesAt, Single, Ended, Readable, Found, Missed}
+use Rattle.xmlreader.specs.Reading.{opensAt, closesAt, Single, Ended, Readable, Found, Missed, ForestRead}
 use Rattle.xmlreader.proofs.Bytes.{Started, started, byte-there, name-some, empty-within, closes-within}
 use Rattle.xmlreader.proofs.Found.{to-found, to-missed}
 use Rattle.xmlreader.proofs.Single.{miss-start, miss-many, miss-neither, miss-inside, miss-empty, miss-close, found-leaf, found-around}
@@ -102,7 +102,9 @@ module _ (t : ℕ) (n : element-lts.After-label-named (element-claims t) (elemen
   few = n .before .before .if2 .left
 
   begun : Started text at name label
-  begun = started text at name label (sym (n .before .before .before .before .opens .ensures) ∙ not-false _ (n .before .before .before .if1 .left)) (n .before .byte-at .ensures) (n .label-named .ensures)
+  begun =
+      let o = n .before .before .before in
+      started text at name label (sym (o .before .opens .ensures) ∙ not-false _ (o .if1 .left)) (n .before .byte-at .ensures) (n .label-named .ensures)
 
 -- > behind the name
 
@@ -143,6 +145,36 @@ module _ (t : ℕ) (e : element-lts.After-elements (element-claims t) (element-a
 
   inside-missed : e .elements .result ≡ Not → Missed Ended (text t place) (at t place + 3) (nodes t place + 1)
   inside-missed d = to-missed Ended (text t place) (at t place + 3) (nodes t place) (nodes t place + 1) us₀ ls₀ (e .elements .result) us ls (e .elements .ensures) d
+
+-- it ended at a place, with so many nodes
+
+module _ (t : ℕ) (i : element-lts.After-inside (element-claims t) (element-at t) element.Post) where
+  abbrev answer : element-lts.After-elements (element-claims t) (element-at t) element.Post
+  answer = i .before .before
+
+  abbrev outer : element-lts.After-label-named (element-claims t) (element-at t) element.Post
+  outer = place t answer
+
+  abbrev end : ℕ
+  end = i .inside .given .0 .0
+
+  abbrev total : ℕ
+  total = i .inside .given .0 .1 .0
+
+  inside : Found Ended (text t outer) (at t outer + 3) (nodes t outer) (nodes t outer + 1) (us₀ t answer) (ls₀ t answer) end total (us t answer) (ls t answer)
+  inside = inside-found t answer end total (i .inside .given .1)
+
+-- there were some, and the end of the element is asked for
+
+module _ (t : ℕ) (a : element-lts.After-closes (element-claims t) (element-at t) element.Post) where
+  abbrev ended : element-lts.After-inside (element-claims t) (element-at t) element.Post
+  ended = a .before .before .before
+
+  some-inside : total t ended ≡ nodes t (outer t ended) + 1 → ⊥
+  some-inside = a .before .if5 .left
+
+  closes-seen : a .closes .result ≡ closesAt (text t (outer t ended)) (end t ended) (name t (outer t ended))
+  closes-seen = a .closes .ensures
 
 element-opens-requires : (t : ℕ) → element-lts.Need-opens-requires (element-claims t) (element-at t) element.Post
 element-opens-requires t c κs = search needs
@@ -243,25 +275,24 @@ element-add-if5 t c = let l = few t (place t (c .before .before .before)) in ome
 
 element-returns-5 : (t : ℕ) → element-lts.Need-returns-5 (element-claims t) (element-at t) element.Post
 element-returns-5 t c =
-    let e = c .before .before .before .before in
-    let g = c .before .before .inside .given in
-    miss-empty (begun t (place t e)) (nodes t (place t e)) (bracket t (behind t e)) (inside-found t e _ _ (g .1)) (c .if5 .taken)
+    let i = c .before .before in
+    let n = outer t i in
+    miss-empty (begun t n) (nodes t n) (bracket t (behind t (answer t i))) (inside t i) (c .if5 .taken)
 
 element-closes-requires : (t : ℕ) → element-lts.Need-closes-requires (element-claims t) (element-at t) element.Post
 element-closes-requires t c κs = search needs
 
 element-returns-6 : (t : ℕ) → element-lts.Need-returns-6 (element-claims t) (element-at t) element.Post
 element-returns-6 t c =
-    let i = c .before .before .before .before in
-    let e = i .before .before in
-    let g = i .inside .given in
-    miss-close (begun t (place t e)) (nodes t (place t e)) (bracket t (behind t e)) (inside-found t e _ _ (g .1)) (sym (c .before .closes .ensures) ∙ not-true _ (c .if6 .taken))
+    let i = ended t (c .before) in
+    let n = outer t i in
+    miss-close (begun t n) (nodes t n) (bracket t (behind t (answer t i))) (inside t i) (sym (closes-seen t (c .before)) ∙ not-true _ (c .if6 .taken))
 
 element-add-t27 : (t : ℕ) → element-lts.Need-add-t27 (element-claims t) (element-at t) element.Post
 element-add-t27 t c =
-    let i = c .before .before .before .before in
-    let n = place t (i .before .before) in
-    let l = closes-within (text t n) _ (name t n) (name-some _ (begun t n .named)) (sym (c .before .closes .ensures) ∙ not-false _ (c .if6 .left)) in
+    let i = ended t (c .before) in
+    let n = outer t i in
+    let l = closes-within (text t n) (end t i) (name t n) (name-some _ (begun t n .named)) (sym (closes-seen t (c .before)) ∙ not-false _ (c .if6 .left)) in
     omega (arith, l)
 
 element-returns-7 : (t : ℕ) → element-lts.Need-returns-7 (element-claims t) (element-at t) element.Post
@@ -271,12 +302,11 @@ element-returns-7 t c =
 
 element-returns-8 : (t : ℕ) → element-lts.Need-returns-8 (element-claims t) (element-at t) element.Post
 element-returns-8 t c =
-    let i = c .before .before .before .before in
-    let e = i .before .before in
-    let n = place t e in
-    let g = i .inside .given in
-    found-around (begun t n) (start t n .args .up) (readable t n) (few t n) (bracket t (behind t e)) (inside-found t e _ _ (g .1)) (c .before .before .if5 .left)
-    (sym (c .before .closes .ensures) ∙ not-false _ (c .if6 .left))
+    let a = c .before in
+    let i = ended t a in
+    let n = outer t i in
+    found-around (begun t n) (start t n .args .up) (readable t n) (few t n) (bracket t (behind t (answer t i))) (inside t i) (some-inside t a)
+    (sym (closes-seen t a) ∙ not-false _ (c .if6 .left))
 
 -- ---- places of `elements`: an element starts
 
@@ -309,6 +339,35 @@ module _ (t : ℕ) (e : elements-lts.After-element (elements-claims t) (elements
   first-missed : e .element .result ≡ Not → Missed Single (args .text .now) (args .at) (args .nodes)
   first-missed d = to-missed Single (args .text .now) (args .at) (args .up) (args .nodes) (args .ups .now) (args .labels .now) (e .element .result) us₁ ls₁ (e .element .ensures) d
 
+-- it ended at a place, with so many nodes
+
+module _ (t : ℕ) (i : elements-lts.After-first (elements-claims t) (elements-at t) elements.Post) where
+  abbrev answer₁ : elements-lts.After-element (elements-claims t) (elements-at t) elements.Post
+  answer₁ = i .before .before
+
+  abbrev end₁ : ℕ
+  end₁ = i .first .given .0 .0
+
+  abbrev total₁ : ℕ
+  total₁ = i .first .given .0 .1 .0
+
+  first : Found Single (args t answer₁ .text .now) (args t answer₁ .at) (args t answer₁ .up) (args t answer₁ .nodes) (args t answer₁ .ups .now) (args t answer₁ .labels .now) end₁ total₁
+      (us₁ t answer₁) (ls₁ t answer₁)
+  first = first-found t answer₁ end₁ total₁ (i .first .given .1)
+
+-- and those after it are read
+
+module _ (t : ℕ) (r : elements-lts.After-elements (elements-claims t) (elements-at t) elements.Post) where
+  abbrev before : elements-lts.After-first (elements-claims t) (elements-at t) elements.Post
+  before = r .before .before .before .before
+
+  abbrev given : elements-lts.Args (elements-claims t) (elements-at t) elements.Post (all t (there t (answer₁ t before)) .κs)
+  given = args t (answer₁ t before)
+
+  others-seen : ForestRead Ended (given .text .now) (end₁ t before) (given .up) (total₁ t before) (us₁ t (answer₁ t before)) (ls₁ t (answer₁ t before)) (r .elements .result)
+      (r .elements .last .1 .1 .1 .1 .0) (r .elements .last .1 .1 .1 .1 .1 .0)
+  others-seen = r .elements .ensures
+
 elements-opens-requires : (t : ℕ) → elements-lts.Need-opens-requires (elements-claims t) (elements-at t) elements.Post
 elements-opens-requires t c κs = search needs
 
@@ -331,14 +390,12 @@ elements-enum-known-first t c = search needs
 
 elements-elements-requires : (t : ℕ) → elements-lts.Need-elements-requires (elements-claims t) (elements-at t) elements.Post
 elements-elements-requires t c κs =
-    let k = c .before .before .before in
-    let e = k .before .before in
-    let s = all t (there t e) in
-    let f = first-found t e _ _ (k .first .given .1) in
+    let i = c .before .before .before in
+    let s = all t (there t (answer₁ t i)) in
     let m = s .pre .0 in
-    let w = forward (s .pre .1) f in
-    let l = f .within in
-    (omega (arith, m, w, l), readable-after (s .pre .1) f)
+    let w = forward (s .pre .1) (first t i) in
+    let l = first t i .within in
+    (omega (arith, m, w, l), readable-after (s .pre .1) (first t i))
 
 elements-returns-2 : (t : ℕ) → elements-lts.Need-returns-2 (elements-claims t) (elements-at t) elements.Post
 elements-returns-2 t c =
@@ -349,10 +406,9 @@ elements-returns-2 t c =
 
 elements-returns-3 : (t : ℕ) → elements-lts.Need-returns-3 (elements-claims t) (elements-at t) elements.Post
 elements-returns-3 t c =
-    let k = c .before .before .before .before in
-    let e = k .before .before in
-    let o = there t e in
-    then-more (all t o .pre .1) (first-found t e _ _ (k .first .given .1)) (opened t o) (c .elements .result) _ _ (c .elements .ensures)
+    let i = before t c in
+    let o = there t (answer₁ t i) in
+    then-more (all t o .pre .1) (first t i) (opened t o) (c .elements .result) _ _ (others-seen t c)
 
 pub +element+elements-spec : {M : Type 1} → statement M
 +element+elements-spec = close μ-element μ-elements (λ t. element-lts.spec (element-claims t)

@@ -41,6 +41,26 @@ module _ (e : tie.After-element) where
   missed : e .element .result ≡ Not → Missed Single text 0 1
   missed d = to-missed Single text 0 0 1 blank blank (e .element .result) us ls (e .element .ensures) d
 
+-- where it has found one
+
+module _ (o : tie.After-outermost) where
+  abbrev answer : tie.After-element
+  answer = o .before .before
+
+  abbrev end : ℕ
+  end = o .outermost .given .0 .0
+
+  abbrev total : ℕ
+  total = o .outermost .given .0 .1 .0
+
+  outermost : Found Single (text answer) 0 0 1 (blank answer) (blank answer) end total (us answer) (ls answer)
+  outermost = found answer end total (o .outermost .given .1)
+
+-- and no byte is left
+
+all-read : (l : tie.Else2) → end (l .before .before) ≡ length (text (answer (l .before .before)))
+all-read l = l .if2 .left
+
 returns : tie.Need-returns
 returns c = short _ _ (c .if1 .taken)
 
@@ -56,19 +76,18 @@ enum-known-outermost c = search needs
 returns-2 : tie.Need-returns-2
 returns-2 c =
     let o = c .before .before in
-    let e = o .before .before in
-    bytes-left (text e) (buffer e) (wide e) (found e _ _ (o .outermost .given .1)) (c .if2 .taken)
+    let e = answer o in
+    bytes-left (text e) (buffer e) (wide e) (outermost o) (c .if2 .taken)
 
 put-nodes-requires : tie.Need-put-nodes-requires
 put-nodes-requires c κs =
     let o = c .before .before .before .before .before in
-    let e = o .before .before in
-    room (text e) (buffer e) (wide e) (found e _ _ (o .outermost .given .1))
+    let e = answer o in
+    room (text e) (buffer e) (wide e) (outermost o)
 
 mul-t13 : tie.Need-mul-t13
 mul-t13 c =
-    let o = c .before .before .before .before .before .before .before .before in
-    let l = found (o .before .before) _ _ (o .outermost .given .1) .few in
+    let l = outermost (c .before .before .before .before .before .before .before .before) .few in
     omega (arith, l)
 
 returns-3 : tie.Need-returns-3
@@ -84,8 +103,8 @@ returns-4 c =
     let put = c .before .before in
     let l = put .before .before .before .before in
     let o = l .before .before in
-    let e = o .before .before in
-    written (text e) (buffer e) (wide e) (found e _ _ (o .outermost .given .1)) (l .if2 .left) (put .put-nodes .ensures)
+    let e = answer o in
+    written (text e) (buffer e) (wide e) (outermost o) (all-read l) (put .put-nodes .ensures)
 
 pub read-spec : {M : Type 1} → statement M
 read-spec =
