@@ -1,4 +1,5 @@
--- What a finding says: the nodes are counted by what was put, one element is an element alone, and what was put first goes on with what is put after it.
+-- What the reader's answers say: one element is an element alone, an answer is a finding or a miss by its case, and the nodes are counted by what was put,
+-- since each element puts one parent and one label.
 use mathlib.Core.Path.{_≡_, refl, ap, _∙_, subst}
 use mathlib.Core.List.{List, [], _∷_, _++_, map}
 use Prim.Native.Nat.{ℕ, _+_, _<_}

@@ -334,7 +334,8 @@ module _ (t : ℕ) (e : elements-lts.After-element (elements-claims t) (elements
 
   first-found : (end total : ℕ) → e .element .result ≡ To end total
       → Found Single (args .text .now) (args .at) (args .up) (args .nodes) (args .ups .now) (args .labels .now) end total us₁ ls₁
-  first-found end total d = to-found Single (args .text .now) (args .at) (args .up) (args .nodes) (args .ups .now) (args .labels .now) (e .element .result) us₁ ls₁ end total (e .element .ensures) d
+  first-found end total d =
+      to-found Single (args .text .now) (args .at) (args .up) (args .nodes) (args .ups .now) (args .labels .now) (e .element .result) us₁ ls₁ end total (e .element .ensures) d
 
   first-missed : e .element .result ≡ Not → Missed Single (args .text .now) (args .at) (args .nodes)
   first-missed d = to-missed Single (args .text .now) (args .at) (args .up) (args .nodes) (args .ups .now) (args .labels .now) (e .element .result) us₁ ls₁ (e .element .ensures) d

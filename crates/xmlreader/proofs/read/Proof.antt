@@ -12,7 +12,11 @@ use Rattle.xmlreader.proofs.Answers.{start-readable, short, missed-all,
 use Rattle.xmlreader.proofs.read.Statement.{statement}
 use Rattle.xmlreader.proofs.read.Tie as tie
 
+abbrev blank : List ℕ
+blank = replicate 64 0
+
 -- where `element` has answered
+
 module _ (e : tie.After-element) where
   abbrev start : tie.Start
   start = e .before .before .before .before .before .before
@@ -22,9 +26,6 @@ module _ (e : tie.After-element) where
 
   abbrev buffer : List ℕ
   buffer = start .args .nodes .now
-
-  abbrev blank : List ℕ
-  blank = replicate 64 0
 
   abbrev us : List ℕ
   us = e .element .last .1 .1 .1 .1 .0
@@ -53,7 +54,7 @@ module _ (o : tie.After-outermost) where
   abbrev total : ℕ
   total = o .outermost .given .0 .1 .0
 
-  outermost : Found Single (text answer) 0 0 1 (blank answer) (blank answer) end total (us answer) (ls answer)
+  outermost : Found Single (text answer) 0 0 1 blank blank end total (us answer) (ls answer)
   outermost = found answer end total (o .outermost .given .1)
 
 -- and no byte is left
