@@ -1,0 +1,457 @@
+-- `element` and `elements` find what stands at a place, or miss it. Both go forward in the text: `elements` asks `element` at the same place and itself
+-- behind an element, and `element` asks `elements` three bytes on. The places of the code are named first, with what is known there.
+use mathlib.Core.Path.{_≡_, refl, sym, _∙_}
+use mathlib.Core.Bool.{true}
+use mathlib.Core.List.{List}
+use Prim.Native.Nat.{ℕ, _+_, _-_, _*_, _≤_, _<_}
+use native.Mathlib.Omega.{arith}
+use lib.ListN.{length, getD, set, length-set}
+use borrow.Author.Tests.{not-true, not-false}
+use borrow.Author.Needs.{needs}
+use borrow.Fn.Kinds.{In}
+use borrow.Fn.PlainCycle.{Measures, is, falls, and}
+use Rattle.xmlreader.specs.declared.Step.the-variants.{To, Not}
+use Rattle.xmlreader.specs.Reading.{opensAt, closesAt, Single, Ended, Readable, Found, Missed, ForestRead}
+use Rattle.xmlreader.proofs.Bytes.{Started, started, byte-there, name-some, empty-within, closes-within}
+use Rattle.xmlreader.proofs.Found.{to-found, to-missed}
+use Rattle.xmlreader.proofs.Single.{miss-start, miss-many, miss-neither, miss-inside, miss-empty, miss-close, found-leaf, found-around}
+use Rattle.xmlreader.proofs.Following.{found-none, miss-first, forward, readable-after, then-more}
+use Rattle.xmlreader.proofs.element.Reads as element
+use Rattle.xmlreader.proofs.element.Kinds as element-kinds
+use Rattle.xmlreader.proofs.+element+elements.Lts-element as element-lts
+use Rattle.xmlreader.proofs.elements.Reads as elements
+use Rattle.xmlreader.proofs.elements.Kinds as elements-kinds
+use Rattle.xmlreader.proofs.+element+elements.Lts-elements as elements-lts
+use Rattle.lent.proofs.byte_at.Reads as byte-at-reads
+use Rattle.xmlreader.proofs.closes.Reads as closes-reads
+use Rattle.xmlreader.proofs.is_empty.Reads as is-empty-reads
+use Rattle.xmlreader.proofs.label_named.Reads as label-named-reads
+use Rattle.xmlreader.proofs.opens.Reads as opens-reads
+use Rattle.xmlreader.proofs.+element+elements.{statement}
+use Rattle.xmlreader.proofs.+element+elements.Tie.{close}
+
+abbrev μ-element : Measures 3 element-kinds.ps ℕ
+μ-element κs a = 2 * (length (a .0 .now) - a .1 .0)
+
+abbrev μ-elements : Measures 3 elements-kinds.ps ℕ
+μ-elements κs a = 2 * (length (a .0 .now) - a .1 .0) + 1
+
+abbrev element-at : ℕ → In 3 element-kinds.ps
+element-at t = and 3 element-kinds.ps (is 3 element-kinds.ps μ-element t) element.Pre
+
+abbrev element-below : ℕ → In 3 element-kinds.ps
+element-below t = and 3 element-kinds.ps (falls 3 element-kinds.ps _<_ μ-element t) element.Pre
+
+abbrev elements-at : ℕ → In 3 elements-kinds.ps
+elements-at t = and 3 elements-kinds.ps (is 3 elements-kinds.ps μ-elements t) elements.Pre
+
+abbrev elements-below : ℕ → In 3 elements-kinds.ps
+elements-below t =
+    and 3 elements-kinds.ps (falls 3 elements-kinds.ps _<_ μ-elements t) elements.Pre
+
+abbrev element-claims : ℕ → element-lts.Claims
+element-claims t = (
+  opens-reads.Asked,
+  opens-reads.Learnt,
+  byte-at-reads.Asked,
+  byte-at-reads.Learnt,
+  label-named-reads.Asked,
+  label-named-reads.Learnt,
+  is-empty-reads.Asked,
+  is-empty-reads.Learnt,
+  elements-below t,
+  elements.Post,
+  closes-reads.Asked,
+  closes-reads.Learnt,
+)
+
+abbrev elements-claims : ℕ → elements-lts.Claims
+elements-claims t = (opens-reads.Asked, opens-reads.Learnt, element-below t, element.Post, elements-below t, elements.Post)
+
+-- ---- places of `element`: the name is read
+
+module _ (t : ℕ) (n : element-lts.After-label-named (element-claims t) (element-at t) element.Post) where
+  abbrev start : element-lts.Start (element-claims t) (element-at t) element.Post
+  start = n .before .before .before .before .before .before
+
+  abbrev text : List ℕ
+  text = start .args .text .now
+
+  abbrev at : ℕ
+  at = start .args .at
+
+  abbrev nodes : ℕ
+  nodes = start .args .nodes
+
+  abbrev ups : List ℕ
+  ups = start .args .ups .now
+
+  abbrev labels : List ℕ
+  labels = start .args .labels .now
+
+  abbrev name : ℕ
+  name = n .before .byte-at .result
+
+  abbrev label : ℕ
+  label = n .label-named .result
+
+  abbrev readable : Readable text at nodes ups labels
+  readable = start .pre .1
+
+  few : nodes < 64
+  few = n .before .before .if2 .left
+
+  begun : Started text at name label
+  begun =
+      let o = n .before .before .before in
+      started text at name label (sym (o .before .opens .ensures) ∙ not-false _ (o .if1 .left)) (n .before .byte-at .ensures) (n .label-named .ensures)
+
+-- > behind the name
+
+module _ (t : ℕ) (b : element-lts.Else4 (element-claims t) (element-at t) element.Post) where
+  abbrev named : element-lts.After-label-named (element-claims t) (element-at t) element.Post
+  named = b .before .before .before .before
+
+  bracket : getD (text t named) (at t named + 2) 0 ≡ 62
+  bracket = sym (b .before .byte-at2 .ensures) ∙ b .if4 .left
+
+  three : at t named + 3 ≤ length (text t named)
+  three = let l = byte-there (text t named) (at t named + 2) 62 bracket (omega arith) .1 in omega (arith, l)
+
+-- what is inside is read
+
+module _ (t : ℕ) (e : element-lts.After-elements (element-claims t) (element-at t) element.Post) where
+  abbrev behind : element-lts.Else4 (element-claims t) (element-at t) element.Post
+  behind = e .before .before .before
+
+  abbrev place : element-lts.After-label-named (element-claims t) (element-at t) element.Post
+  place = named t behind
+
+  abbrev us : List ℕ
+  us = e .elements .last .1 .1 .1 .1 .0
+
+  abbrev ls : List ℕ
+  ls = e .elements .last .1 .1 .1 .1 .1 .0
+
+  abbrev us₀ : List ℕ
+  us₀ = set (ups t place) (nodes t place) (start t place .args .up)
+
+  abbrev ls₀ : List ℕ
+  ls₀ = set (labels t place) (nodes t place) (label t place)
+
+  inside-found : (end total : ℕ) → e .elements .result ≡ To end total
+      → Found Ended (text t place) (at t place + 3) (nodes t place) (nodes t place + 1) us₀ ls₀ end total us ls
+  inside-found end total d = to-found Ended (text t place) (at t place + 3) (nodes t place) (nodes t place + 1) us₀ ls₀ (e .elements .result) us ls end total (e .elements .ensures) d
+
+  inside-missed : e .elements .result ≡ Not → Missed Ended (text t place) (at t place + 3) (nodes t place + 1)
+  inside-missed d = to-missed Ended (text t place) (at t place + 3) (nodes t place) (nodes t place + 1) us₀ ls₀ (e .elements .result) us ls (e .elements .ensures) d
+
+-- it ended at a place, with so many nodes
+
+module _ (t : ℕ) (i : element-lts.After-inside (element-claims t) (element-at t) element.Post) where
+  abbrev answer : element-lts.After-elements (element-claims t) (element-at t) element.Post
+  answer = i .before .before
+
+  abbrev outer : element-lts.After-label-named (element-claims t) (element-at t) element.Post
+  outer = place t answer
+
+  abbrev end : ℕ
+  end = i .inside .given .0 .0
+
+  abbrev total : ℕ
+  total = i .inside .given .0 .1 .0
+
+  inside : Found Ended (text t outer) (at t outer + 3) (nodes t outer) (nodes t outer + 1) (us₀ t answer) (ls₀ t answer) end total (us t answer) (ls t answer)
+  inside = inside-found t answer end total (i .inside .given .1)
+
+-- there were some, and the end of the element is asked for
+
+module _ (t : ℕ) (a : element-lts.After-closes (element-claims t) (element-at t) element.Post) where
+  abbrev ended : element-lts.After-inside (element-claims t) (element-at t) element.Post
+  ended = a .before .before .before
+
+  some-inside : total t ended ≡ nodes t (outer t ended) + 1 → ⊥
+  some-inside = a .before .if5 .left
+
+  closes-seen : a .closes .result ≡ closesAt (text t (outer t ended)) (end t ended) (name t (outer t ended))
+  closes-seen = a .closes .ensures
+
+element-opens-requires : (t : ℕ) → element-lts.Need-opens-requires (element-claims t) (element-at t) element.Post
+element-opens-requires t c κs = search needs
+
+element-returns : (t : ℕ) → element-lts.Need-returns (element-claims t) (element-at t) element.Post
+element-returns t c =
+    let s = c .before .before .before in
+    miss-start (s .args .text .now) (s .args .at) (s .args .nodes) (sym (c .before .opens .ensures) ∙ not-true _ (c .if1 .taken))
+
+element-returns-2 : (t : ℕ) → element-lts.Need-returns-2 (element-claims t) (element-at t) element.Post
+element-returns-2 t c =
+    let s = c .before .before .before .before in
+    miss-many (s .args .text .now) (s .args .at) (s .args .nodes) (c .if2 .taken)
+
+element-add-byte-at : (t : ℕ) → element-lts.Need-add-byte-at (element-claims t) (element-at t) element.Post
+element-add-byte-at t c =
+    let s = c .before .before .before .before in
+    let l = started (s .args .text .now) (s .args .at) _ _ (sym (c .before .before .opens .ensures) ∙ not-false _ (c .before .if1 .left)) refl refl .within in
+    omega (arith, l)
+
+element-byte-at-requires : (t : ℕ) → element-lts.Need-byte-at-requires (element-claims t) (element-at t) element.Post
+element-byte-at-requires t c κs = search needs
+
+element-label-named-requires : (t : ℕ) → element-lts.Need-label-named-requires (element-claims t) (element-at t) element.Post
+element-label-named-requires t c κs = search needs
+
+element-element-write-ups : (t : ℕ) → element-lts.Need-element-write-ups (element-claims t) (element-at t) element.Post
+element-element-write-ups t c = let l = few t c in omega (arith, l)
+
+element-element-write-labels : (t : ℕ) → element-lts.Need-element-write-labels (element-claims t) (element-at t) element.Post
+element-element-write-labels t c = let l = few t c in omega (arith, l)
+
+element-add-is-empty : (t : ℕ) → element-lts.Need-add-is-empty (element-claims t) (element-at t) element.Post
+element-add-is-empty t c = let l = begun t c .within in omega (arith, l)
+
+element-is-empty-requires : (t : ℕ) → element-lts.Need-is-empty-requires (element-claims t) (element-at t) element.Post
+element-is-empty-requires t c κs = search needs
+
+element-add-t20 : (t : ℕ) → element-lts.Need-add-t20 (element-claims t) (element-at t) element.Post
+element-add-t20 t c =
+    let n = c .before .before in
+    let l = empty-within (text t n) (at t n + 2) (sym (c .before .is-empty .ensures) ∙ c .if3 .taken) in
+    omega (arith, l)
+
+element-add-t21 : (t : ℕ) → element-lts.Need-add-t21 (element-claims t) (element-at t) element.Post
+element-add-t21 t c = let l = few t (c .before .before) in omega (arith, l)
+
+element-returns-3 : (t : ℕ) → element-lts.Need-returns-3 (element-claims t) (element-at t) element.Post
+element-returns-3 t c =
+    let n = c .before .before in
+    found-leaf (begun t n) (start t n .args .up) (readable t n) (few t n) (sym (c .before .is-empty .ensures) ∙ c .if3 .taken)
+
+element-add-byte-at-2 : (t : ℕ) → element-lts.Need-add-byte-at-2 (element-claims t) (element-at t) element.Post
+element-add-byte-at-2 t c = let l = begun t (c .before .before) .within in omega (arith, l)
+
+element-byte-at-requires-2 : (t : ℕ) → element-lts.Need-byte-at-requires-2 (element-claims t) (element-at t) element.Post
+element-byte-at-requires-2 t c κs = search needs
+
+element-returns-4 : (t : ℕ) → element-lts.Need-returns-4 (element-claims t) (element-at t) element.Post
+element-returns-4 t c =
+    let n = c .before .before .before .before in
+    miss-neither (begun t n) (nodes t n) (sym (c .before .before .before .is-empty .ensures) ∙ c .before .before .if3 .left) (λ h. c .if4 .taken (c .before .byte-at2 .ensures ∙ h))
+
+element-add-elements : (t : ℕ) → element-lts.Need-add-elements (element-claims t) (element-at t) element.Post
+element-add-elements t c = let l = three t c in omega (arith, l)
+
+element-cast-elements : (t : ℕ) → element-lts.Need-cast-elements (element-claims t) (element-at t) element.Post
+element-cast-elements t c = let l = few t (named t c) in omega (arith, l)
+
+element-add-elements-2 : (t : ℕ) → element-lts.Need-add-elements-2 (element-claims t) (element-at t) element.Post
+element-add-elements-2 t c = let l = few t (named t c) in omega (arith, l)
+
+element-elements-requires : (t : ℕ) → element-lts.Need-elements-requires (element-claims t) (element-at t) element.Post
+element-elements-requires t c κs =
+    let b = c .before .before in
+    let n = named t b in
+    let l = three t b in
+    let m = start t n .pre .0 in
+    let f = few t n in (
+      omega (arith, l, m),
+      record {
+        within = l;
+        some = omega arith;
+        few = omega (arith, f);
+        long-ups = length-set (ups t n) (nodes t n) (start t n .args .up) ∙ readable t n .long-ups;
+        long-labels = length-set (labels t n) (nodes t n) (label t n) ∙ readable t n .long-labels;
+      },
+    )
+
+element-enum-told : (t : ℕ) → element-lts.Need-enum-told (element-claims t) (element-at t) element.Post
+element-enum-told t c = search needs
+
+element-enum-known-inside : (t : ℕ) → element-lts.Need-enum-known-inside (element-claims t) (element-at t) element.Post
+element-enum-known-inside t c = search needs
+
+element-add-if5 : (t : ℕ) → element-lts.Need-add-if5 (element-claims t) (element-at t) element.Post
+element-add-if5 t c = let l = few t (place t (c .before .before .before)) in omega (arith, l)
+
+element-returns-5 : (t : ℕ) → element-lts.Need-returns-5 (element-claims t) (element-at t) element.Post
+element-returns-5 t c =
+    let i = c .before .before in
+    let n = outer t i in
+    miss-empty (begun t n) (nodes t n) (bracket t (behind t (answer t i))) (inside t i) (c .if5 .taken)
+
+element-closes-requires : (t : ℕ) → element-lts.Need-closes-requires (element-claims t) (element-at t) element.Post
+element-closes-requires t c κs = search needs
+
+element-returns-6 : (t : ℕ) → element-lts.Need-returns-6 (element-claims t) (element-at t) element.Post
+element-returns-6 t c =
+    let i = ended t (c .before) in
+    let n = outer t i in
+    miss-close (begun t n) (nodes t n) (bracket t (behind t (answer t i))) (inside t i) (sym (closes-seen t (c .before)) ∙ not-true _ (c .if6 .taken))
+
+element-add-t27 : (t : ℕ) → element-lts.Need-add-t27 (element-claims t) (element-at t) element.Post
+element-add-t27 t c =
+    let i = ended t (c .before) in
+    let n = outer t i in
+    let l = closes-within (text t n) (end t i) (name t n) (name-some _ (begun t n .named)) (sym (closes-seen t (c .before)) ∙ not-false _ (c .if6 .left)) in
+    omega (arith, l)
+
+element-returns-7 : (t : ℕ) → element-lts.Need-returns-7 (element-claims t) (element-at t) element.Post
+element-returns-7 t c =
+    let e = c .before .before in
+    miss-inside (begun t (place t e)) (nodes t (place t e)) (bracket t (behind t e)) (inside-missed t e (c .enum-told .given .1))
+
+element-returns-8 : (t : ℕ) → element-lts.Need-returns-8 (element-claims t) (element-at t) element.Post
+element-returns-8 t c =
+    let a = c .before in
+    let i = ended t a in
+    let n = outer t i in
+    found-around (begun t n) (start t n .args .up) (readable t n) (few t n) (bracket t (behind t (answer t i))) (inside t i) (some-inside t a)
+    (sym (closes-seen t a) ∙ not-false _ (c .if6 .left))
+
+-- ---- places of `elements`: an element starts
+
+module _ (t : ℕ) (o : elements-lts.Else1 (elements-claims t) (elements-at t) elements.Post) where
+  abbrev all : elements-lts.Start (elements-claims t) (elements-at t) elements.Post
+  all = o .before .before .before
+
+  opened : opensAt (all .args .text .now) (all .args .at) ≡ true
+  opened = sym (o .before .opens .ensures) ∙ not-false _ (o .if1 .left)
+
+-- and is read
+
+module _ (t : ℕ) (e : elements-lts.After-element (elements-claims t) (elements-at t) elements.Post) where
+  abbrev there : elements-lts.Else1 (elements-claims t) (elements-at t) elements.Post
+  there = e .before .before .before
+
+  abbrev args : elements-lts.Args (elements-claims t) (elements-at t) elements.Post (all t there .κs)
+  args = all t there .args
+
+  abbrev us₁ : List ℕ
+  us₁ = e .element .last .1 .1 .1 .1 .0
+
+  abbrev ls₁ : List ℕ
+  ls₁ = e .element .last .1 .1 .1 .1 .1 .0
+
+  first-found : (end total : ℕ) → e .element .result ≡ To end total
+      → Found Single (args .text .now) (args .at) (args .up) (args .nodes) (args .ups .now) (args .labels .now) end total us₁ ls₁
+  first-found end total d =
+      to-found Single (args .text .now) (args .at) (args .up) (args .nodes) (args .ups .now) (args .labels .now) (e .element .result) us₁ ls₁ end total (e .element .ensures) d
+
+  first-missed : e .element .result ≡ Not → Missed Single (args .text .now) (args .at) (args .nodes)
+  first-missed d = to-missed Single (args .text .now) (args .at) (args .up) (args .nodes) (args .ups .now) (args .labels .now) (e .element .result) us₁ ls₁ (e .element .ensures) d
+
+-- it ended at a place, with so many nodes
+
+module _ (t : ℕ) (i : elements-lts.After-first (elements-claims t) (elements-at t) elements.Post) where
+  abbrev answer₁ : elements-lts.After-element (elements-claims t) (elements-at t) elements.Post
+  answer₁ = i .before .before
+
+  abbrev end₁ : ℕ
+  end₁ = i .first .given .0 .0
+
+  abbrev total₁ : ℕ
+  total₁ = i .first .given .0 .1 .0
+
+  first : Found Single (args t answer₁ .text .now) (args t answer₁ .at) (args t answer₁ .up) (args t answer₁ .nodes) (args t answer₁ .ups .now) (args t answer₁ .labels .now) end₁ total₁
+      (us₁ t answer₁) (ls₁ t answer₁)
+  first = first-found t answer₁ end₁ total₁ (i .first .given .1)
+
+-- and those after it are read
+
+module _ (t : ℕ) (r : elements-lts.After-elements (elements-claims t) (elements-at t) elements.Post) where
+  abbrev before : elements-lts.After-first (elements-claims t) (elements-at t) elements.Post
+  before = r .before .before .before .before
+
+  abbrev given : elements-lts.Args (elements-claims t) (elements-at t) elements.Post (all t (there t (answer₁ t before)) .κs)
+  given = args t (answer₁ t before)
+
+  others-seen : ForestRead Ended (given .text .now) (end₁ t before) (given .up) (total₁ t before) (us₁ t (answer₁ t before)) (ls₁ t (answer₁ t before)) (r .elements .result)
+      (r .elements .last .1 .1 .1 .1 .0) (r .elements .last .1 .1 .1 .1 .1 .0)
+  others-seen = r .elements .ensures
+
+elements-opens-requires : (t : ℕ) → elements-lts.Need-opens-requires (elements-claims t) (elements-at t) elements.Post
+elements-opens-requires t c κs = search needs
+
+elements-returns : (t : ℕ) → elements-lts.Need-returns (elements-claims t) (elements-at t) elements.Post
+elements-returns t c =
+    let s = c .before .before .before in
+    found-none (s .args .up) (s .pre .1) (sym (c .before .opens .ensures) ∙ not-true _ (c .if1 .taken))
+
+elements-element-requires : (t : ℕ) → elements-lts.Need-element-requires (elements-claims t) (elements-at t) elements.Post
+elements-element-requires t c κs =
+    let s = all t (c .before .before) in
+    let m = s .pre .0 in
+    (omega (arith, m), s .pre .1)
+
+elements-enum-told : (t : ℕ) → elements-lts.Need-enum-told (elements-claims t) (elements-at t) elements.Post
+elements-enum-told t c = search needs
+
+elements-enum-known-first : (t : ℕ) → elements-lts.Need-enum-known-first (elements-claims t) (elements-at t) elements.Post
+elements-enum-known-first t c = search needs
+
+elements-elements-requires : (t : ℕ) → elements-lts.Need-elements-requires (elements-claims t) (elements-at t) elements.Post
+elements-elements-requires t c κs =
+    let i = c .before .before .before in
+    let s = all t (there t (answer₁ t i)) in
+    let m = s .pre .0 in
+    let w = forward (s .pre .1) (first t i) in
+    let l = first t i .within in
+    (omega (arith, m, w, l), readable-after (s .pre .1) (first t i))
+
+elements-returns-2 : (t : ℕ) → elements-lts.Need-returns-2 (elements-claims t) (elements-at t) elements.Post
+elements-returns-2 t c =
+    let e = c .before .before in
+    let o = there t e in
+    let s = all t o in
+    miss-first (s .args .text .now) (s .args .at) (s .args .nodes) (opened t o) (first-missed t e (c .enum-told .given .1))
+
+elements-returns-3 : (t : ℕ) → elements-lts.Need-returns-3 (elements-claims t) (elements-at t) elements.Post
+elements-returns-3 t c =
+    let i = before t c in
+    let o = there t (answer₁ t i) in
+    then-more (all t o .pre .1) (first t i) (opened t o) (c .elements .result) _ _ (others-seen t c)
+
+pub +element+elements-spec : {M : Type 1} → statement M
++element+elements-spec = close μ-element μ-elements (λ t. element-lts.spec (element-claims t)
+    (element-at t)
+    element.Post
+    (element-opens-requires t)
+    (element-returns t)
+    (element-returns-2 t)
+    (element-add-byte-at t)
+    (element-byte-at-requires t)
+    (element-label-named-requires t)
+    (element-element-write-ups t)
+    (element-element-write-labels t)
+    (element-add-is-empty t)
+    (element-is-empty-requires t)
+    (element-add-t20 t)
+    (element-add-t21 t)
+    (element-returns-3 t)
+    (element-add-byte-at-2 t)
+    (element-byte-at-requires-2 t)
+    (element-returns-4 t)
+    (element-add-elements t)
+    (element-cast-elements t)
+    (element-add-elements-2 t)
+    (element-elements-requires t)
+    (element-enum-told t)
+    (element-enum-known-inside t)
+    (element-add-if5 t)
+    (element-returns-5 t)
+    (element-closes-requires t)
+    (element-returns-6 t)
+    (element-add-t27 t)
+    (element-returns-7 t)
+    (element-returns-8 t))
+    λ t. elements-lts.spec (elements-claims t)
+    (elements-at t)
+    elements.Post
+    (elements-opens-requires t)
+    (elements-returns t)
+    (elements-element-requires t)
+    (elements-enum-told t)
+    (elements-enum-known-first t)
+    (elements-elements-requires t)
+    (elements-returns-2 t)
+    (elements-returns-3 t)
