@@ -34,3 +34,17 @@ put-byte l at word i h =
     let e : i + 1 ≡ suc i = omega arith in
     let n : length (take i word) ≡ i = omega (arith, length-take-le i word (omega arith)) in
     rw (e, take-suc word i 0, sets-append l at (take i word) (getD word i 0 ∷ []), n)
+
+-- so many stores, one behind the other
+pub put-three : (l : List ℕ) (at a b c : ℕ) → at + 3 ≤ length l → Put l at (a ∷ b ∷ c ∷ []) (at + 3) (set (set (set l at a) (at + 1) b) (at + 2) c)
+put-three l at a b c h =
+    let p : at + 1 ≡ suc at = omega arith in
+    let q : at + 2 ≡ suc (suc at) = omega arith in
+    put-text l at (a ∷ b ∷ c ∷ []) (at + 3) _ refl (rw (p, q)) h
+
+pub put-four : (l : List ℕ) (at a b c d : ℕ) → at + 4 ≤ length l → Put l at (a ∷ b ∷ c ∷ d ∷ []) (at + 4) (set (set (set (set l at a) (at + 1) b) (at + 2) c) (at + 3) d)
+put-four l at a b c d h =
+    let p : at + 1 ≡ suc at = omega arith in
+    let q : at + 2 ≡ suc (suc at) = omega arith in
+    let r : at + 3 ≡ suc (suc (suc at)) = omega arith in
+    put-text l at (a ∷ b ∷ c ∷ d ∷ []) (at + 4) _ refl (rw (p, q, r)) h

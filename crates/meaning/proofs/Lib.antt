@@ -41,5 +41,6 @@ pub mod OnePass
 pub mod RecasedFiles
 pub mod Capitals
 pub mod PathCapitals
--- trees as XML: a tree is one ordered tree, and the records in document order are it
+-- trees as XML: a few computed; a tree is one ordered tree, and the records in document order are it
+pub mod XmlCases
 pub mod XmlTrees

@@ -72,6 +72,12 @@ pub write-wide : (vs : List NodeRecord) (buffer : List ℕ) → 512 ≤ length b
 unfolding writtenOf
 write-wide vs buffer l y = pick-yes _ _ (le-yes l) ∙ pick-yes _ _ y
 
+-- of the buffer it asks only that it is long enough
+pub write-alike : (j : JudgedNodes) (b c : List ℕ) → 512 ≤ length b → 512 ≤ length c → writtenOf j b ≡ writtenOf j c
+unfolding writtenOf
+write-alike (refused-nodes q) b c l m = refl
+write-alike (accepted-nodes vs) b c l m = pick-yes _ _ (le-yes l) ∙ sym (pick-yes _ _ (le-yes m))
+
 pub write-keeps : (nodes buffer : List ℕ) → WriterPromise nodes buffer (writeXml nodes buffer) (fillWrote (writeXml nodes buffer) buffer)
 unfolding writeXml
 write-keeps nodes buffer = record {
@@ -127,6 +133,10 @@ read-fits text buffer l (got e q) d = le-trans (document-length e (form-of d .fe
 readXml-fits : (text buffer : List ℕ) → Fits buffer (readXml text buffer)
 unfolding readXml
 readXml-fits text buffer = pick-has (Fits buffer) (leb 256 (length buffer)) _ _ (λ l. read-fits text buffer (is-le l) (textElement text) refl) tt
+
+pub read-alike : (text b c : List ℕ) → 256 ≤ length b → 256 ≤ length c → readXml text b ≡ readXml text c
+unfolding readXml
+read-alike text b c l m = pick-yes _ _ (le-yes l) ∙ sym (pick-yes _ _ (le-yes m))
 
 pub read-wide : (text buffer : List ℕ) (e : Element) → 256 ≤ length buffer → XmlForm text e → readXml text buffer ≡ fill-written (nodeBytes 0 (documentRecords e))
 unfolding readXml readOf

@@ -20,18 +20,10 @@ use Rattle.lent.specs.declared.Answer.{Answer}
 use Rattle.lent.specs.declared.Answer.the-variants.{Written, Refused}
 use Rattle.lent.specs.Filling.{AnswerOf}
 use Rattle.lent.specs.Putting.{Put}
+use Rattle.lent.proofs.Answered.{put-filled}
 use Rattle.xmlreader.specs.Reading.{Single, Readable, Found, Missed, NodesWritten}
 use Rattle.xmlreader.proofs.Forests.{one-split}
 use Rattle.xmlreader.proofs.Found.{single-is, put-count}
-
--- a text that was put at the front fills the buffer
-put-filled : {buffer after text : List ℕ} {r : ℕ} → Put buffer 0 text r after → AnswerOf (fill-written text) (Written r) × (after ≡ fillWrote (fill-written text) buffer)
-unfolding fillWrote
-put-filled {buffer} {text = text} p =
-    let n : length text ≡ 0 + length text = omega arith in
-    let w = p .within in
-    let e = p .end in
-    (ap Written (p .end ∙ sym n), p .stored ∙ sets-eq text buffer 0 (omega arith) ∙ ap (λ (k : ℕ). text ++ drop k buffer) (sym n))
 
 -- what was put behind the document node is a column of the records
 column : (g : NodeRecord → ℕ) (e : Element) {total : ℕ} {x : List ℕ} → g blankRecord ≡ 0 → Put (replicate 64 0) 1 (map g (forestRecords 0 1 (alone e))) total x

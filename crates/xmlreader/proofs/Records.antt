@@ -6,19 +6,12 @@ use Prim.Native.Nat.{ℕ, suc, _+_, _*_, _≤_, _<_}
 use native.Mathlib.Nat.{add-zero}
 use native.Mathlib.Numerals.{add-one}
 use native.Mathlib.Omega.{arith}
-use lib.ListN.{length, getD, take, set}
+use lib.ListN.{length, getD, take}
 use lib.Seq.{take-suc, take-length, length-take-le}
 use Rattle.meaning.specs.ReadOff.{NodeRecord, blankRecord, nodeBytes}
 use Rattle.lent.specs.Putting.{Put}
-use Rattle.lent.proofs.Stores.{put-none, put-text, put-same, put-then}
+use Rattle.lent.proofs.Stores.{put-none, put-same, put-then}
 use Rattle.xmlreader.specs.Reading.{Columns, NodesWritten}
-
-pub put-four : (l : List ℕ) (at a b c d : ℕ) → at + 4 ≤ length l → Put l at (a ∷ b ∷ c ∷ d ∷ []) (at + 4) (set (set (set (set l at a) (at + 1) b) (at + 2) c) (at + 3) d)
-put-four l at a b c d h =
-    let p : at + 1 ≡ suc at = omega arith in
-    let q : at + 2 ≡ suc (suc at) = omega arith in
-    let r : at + 3 ≡ suc (suc (suc at)) = omega arith in
-    put-text l at (a ∷ b ∷ c ∷ d ∷ []) (at + 4) _ refl (rw (p, q, r)) h
 
 bytes-then : (i : ℕ) (vs ws : List NodeRecord) → nodeBytes i (vs ++ ws) ≡ nodeBytes i vs ++ nodeBytes (i + length vs) ws
 unfolding nodeBytes

@@ -1,6 +1,6 @@
 -- Writer and reader ask of the buffer only that it is long enough, so what is printed is what is promised of the shortest one; and what the programs
 -- read is enough: what is kept of node records read in pieces, and the first 439 bytes of a text, get the answer of the whole.
-use mathlib.Core.Path.{_≡_, refl, sym, ap, subst, _∙_}
+use mathlib.Core.Path.{_≡_, sym, ap, subst, _∙_}
 use mathlib.Core.List.{List}
 use Prim.Native.Nat.{ℕ, _≤_, _<_}
 use native.Mathlib.Decide.{decLe}
@@ -9,15 +9,14 @@ use lib.ListN.{length, take, length-replicate}
 use lib.Seq.{length-take-le, take-all}
 use lib.Dec.{leb}
 use Rattle.meaning.specs.Finite.{pick}
-use Rattle.meaning.specs.Files.{JudgedNodes, refused-nodes, accepted-nodes, judgeNodes}
+use Rattle.meaning.specs.Files.{JudgedNodes, judgeNodes}
 use Rattle.meaning.specs.Results.{Fill, fill-refused}
 use Rattle.meaning.specs.Text.{fillText}
 use Rattle.meaning.specs.Xml.{Element}
-use Rattle.meaning.proofs.Tests.{pick-yes, le-yes}
 use Rattle.theory.specs.Reader.{Got, nothing}
 use Rattle.theory.specs.Xml.{writtenOf, writeXml, textElement, readOf, readXml}
 use Rattle.theory.proofs.XmlReader.{no-form, form-short}
-use Rattle.theory.proofs.XmlPromise.{write-keeps, read-keeps}
+use Rattle.theory.proofs.XmlPromise.{write-alike, write-keeps, read-alike, read-keeps}
 use Rattle.answers.specs.Pieces.{kept, joined}
 use Rattle.answers.proofs.ShorterNodes.{nodes-as-joined}
 use Rattle.putting.specs.Fronts.{Fronted}
@@ -25,25 +24,14 @@ use Rattle.xmltext.specs.Printing.{textRoom, nodesRoom, WrittenAs, ReadA
 
 -- ---- the buffer
 
-wide-alike : (nodes b c : List ℕ) → 512 ≤ length b → 512 ≤ length c → writeXml nodes b ≡ writeXml nodes c
-unfolding writeXml
-wide-alike nodes b c l m = by (judgeNodes nodes)
-  where
-    by : (j : JudgedNodes) → writtenOf j b ≡ writtenOf j c
-    by (refused-nodes q) = unfold writtenOf in refl
-    by (accepted-nodes vs) = unfold writtenOf in pick-yes _ _ (le-yes l) ∙ sym (pick-yes _ _ (le-yes m))
-
 pub written-as : (nodes before : List ℕ) (k : ℕ) (last : List ℕ) → 512 ≤ length before → Fronted (fillText (writeXml nodes before)) before k last → WrittenAs nodes before k last
+unfolding writeXml
 written-as nodes before k last l f =
     let e : length textRoom ≡ 512 = length-replicate {A = ℕ} 512 0 in
     record {
-      output = subst (λ (q : Fill). Fronted (fillText q) before k last) (wide-alike nodes before textRoom l (omega arith)) f;
+      output = subst (λ (q : Fill). Fronted (fillText q) before k last) (write-alike (judgeNodes nodes) before textRoom l (omega arith)) f;
       promise = write-keeps nodes textRoom;
     }
-
-read-alike : (text b c : List ℕ) → 256 ≤ length b → 256 ≤ length c → readXml text b ≡ readXml text c
-unfolding readXml
-read-alike text b c l m = pick-yes _ _ (le-yes l) ∙ sym (pick-yes _ _ (le-yes m))
 
 pub read-as : (text before : List ℕ) (k : ℕ) (last : List ℕ) → 256 ≤ length before → Fronted (fillText (readXml text before)) before k last → ReadAs text before k last
 read-as text before k last l f =

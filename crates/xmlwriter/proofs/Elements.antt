@@ -4,32 +4,16 @@ use mathlib.Core.List.{List, [], _∷_, _++_, append-assoc}
 use Prim.Native.Nat.{ℕ, suc, _+_, _-_, _≤_, _<_}
 use native.Mathlib.Omega.{arith}
 use lib.Dec.{eqb}
-use lib.ListN.{length, getD, set, length-append}
+use lib.ListN.{length, getD, length-append}
 use Rattle.meaning.specs.Tree.{Label}
 use Rattle.meaning.specs.Finite.{pick}
 use Rattle.meaning.specs.Ascii.{ascii}
 use Rattle.meaning.specs.Xml.{Forest, no-element, element, nameOf, enclosed, forestText}
 use Rattle.meaning.proofs.Tests.{pick-yes, pick-no, is-eq, eq-yes}
 use Rattle.lent.specs.Putting.{Put}
-use Rattle.lent.proofs.Stores.{put-none, put-text, put-then, put-same}
+use Rattle.lent.proofs.Stores.{put-none, put-then, put-same}
 use Rattle.xmlwriter.specs.Links.{Linked, Fits, ForestWritten}
 use Rattle.xmlwriter.proofs.Linking.{linked-same}
-
--- ---- bytes one behind the other
-
-pub three-put : (at a b c : ℕ) (old : List ℕ) → at + 3 ≤ length old → Put old at (a ∷ b ∷ c ∷ []) (at + 3) (set (set (set old at a) (at + 1) b) (at + 2) c)
-three-put at a b c old h =
-    let p : at + 1 ≡ suc at = omega arith in
-    let q : at + 2 ≡ suc (suc at) = omega arith in
-    put-text old at (a ∷ b ∷ c ∷ []) (at + 3) _ refl (rw (p, q)) h
-
-pub four-put : (at a b c d : ℕ) (old : List ℕ) → at + 4 ≤ length old
-    → Put old at (a ∷ b ∷ c ∷ d ∷ []) (at + 4) (set (set (set (set old at a) (at + 1) b) (at + 2) c) (at + 3) d)
-four-put at a b c d old h =
-    let p : at + 1 ≡ suc at = omega arith in
-    let q : at + 2 ≡ suc (suc at) = omega arith in
-    let r : at + 3 ≡ suc (suc (suc at)) = omega arith in
-    put-text old at (a ∷ b ∷ c ∷ d ∷ []) (at + 4) _ refl (rw (p, q, r)) h
 
 -- ---- the text of a forest, in the order of the code
 

@@ -3,7 +3,8 @@ use mathlib.Core.Path.{_≡_, refl, _∙_}
 use Prim.Native.Nat.{_+_, _-_, _*_, _≤_}
 use native.Mathlib.Omega.{arith}
 use lib.ListN.{length, getD, length-set}
-use Rattle.xmlreader.proofs.Records.{put-four, First, first-none, first-more, first-all}
+use Rattle.lent.proofs.Stores.{put-four}
+use Rattle.xmlreader.proofs.Records.{First, first-none, first-more, first-all}
 use borrow.Author.Needs.{needs}
 use Rattle.xmlreader.proofs.put_nodes.Statement.{statement}
 use Rattle.xmlreader.proofs.put_nodes.Tie as tie

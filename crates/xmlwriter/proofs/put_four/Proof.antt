@@ -2,7 +2,7 @@
 use native.Mathlib.Omega.{arith}
 use lib.ListN.{length-set}
 use borrow.Author.Needs.{needs}
-use Rattle.xmlwriter.proofs.Elements.{four-put}
+use Rattle.lent.proofs.Stores.{put-four}
 use Rattle.xmlwriter.proofs.put_four.Statement.{statement}
 use Rattle.xmlwriter.proofs.put_four.Tie as tie
 
@@ -34,7 +34,7 @@ same-length : tie.Need-same-length
 same-length c = simp length-set
 
 returns : tie.Need-returns
-returns c = four-put (c .args .at) (c .args .a) (c .args .b) (c .args .c) (c .args .d) (c .args .text .now) (c .pre)
+returns c = put-four (c .args .text .now) (c .args .at) (c .args .a) (c .args .b) (c .args .c) (c .args .d) (c .pre)
 
 pub put-four-spec : {M : Type 1} → statement M
 put-four-spec =

@@ -2,7 +2,7 @@
 use native.Mathlib.Omega.{arith}
 use lib.ListN.{length-set}
 use borrow.Author.Needs.{needs}
-use Rattle.xmlwriter.proofs.Elements.{three-put}
+use Rattle.lent.proofs.Stores.{put-three}
 use Rattle.xmlwriter.proofs.put_three.Statement.{statement}
 use Rattle.xmlwriter.proofs.put_three.Tie as tie
 
@@ -28,7 +28,7 @@ same-length : tie.Need-same-length
 same-length c = simp length-set
 
 returns : tie.Need-returns
-returns c = three-put (c .args .at) (c .args .a) (c .args .b) (c .args .c) (c .args .text .now) (c .pre)
+returns c = put-three (c .args .text .now) (c .args .at) (c .args .a) (c .args .b) (c .args .c) (c .pre)
 
 pub put-three-spec : {M : Type 1} → statement M
 put-three-spec =
