@@ -1,6 +1,6 @@
 -- Writer and reader ask of the buffer only that it is long enough, so what is printed is what is promised of the shortest one; and what the programs
--- read is enough: what is kept of node records read in pieces, and the first 439 bytes of a text, get the answer of the whole.
-use mathlib.Core.Path.{_≡_, sym, ap, subst, _∙_}
+-- read is enough: what is kept of node records read in pieces, and the first 439 bytes of a text, get the answer of the whole. No refusal is a tree.
+use mathlib.Core.Path.{_≡_, refl, sym, ap, subst, _∙_}
 use mathlib.Core.List.{List}
 use Prim.Native.Nat.{ℕ, _≤_, _<_}
 use native.Mathlib.Decide.{decLe}
@@ -8,13 +8,14 @@ use native.Mathlib.Omega.{arith}
 use lib.ListN.{length, take, length-replicate}
 use lib.Seq.{length-take-le, take-all}
 use lib.Dec.{leb}
-use Rattle.meaning.specs.Finite.{pick}
-use Rattle.meaning.specs.Files.{JudgedNodes, judgeNodes}
+use Rattle.meaning.specs.Ascii.{ascii}
+use Rattle.meaning.specs.Finite.{pick, _and_}
+use Rattle.meaning.specs.Files.{JudgedNodes, refused-nodes, judgeNodes}
 use Rattle.meaning.specs.Results.{Fill, fill-refused}
-use Rattle.meaning.specs.Text.{fillText}
+use Rattle.meaning.specs.Text.{beforeLast, digitsOf, decimal, numbered, fillText}
 use Rattle.meaning.specs.Xml.{Element}
-use Rattle.theory.specs.Reader.{Got, nothing}
-use Rattle.theory.specs.Xml.{writtenOf, writeXml, textElement, readOf, readXml}
+use Rattle.theory.specs.Reader.{Got, nothing, front}
+use Rattle.theory.specs.Xml.{writtenOf, writeXml, opens, forestAt, outermost, textElement, readOf, readXml}
 use Rattle.theory.proofs.XmlReader.{no-form, form-short}
 use Rattle.theory.proofs.XmlPromise.{write-alike, write-keeps, read-alike, read-keeps}
 use Rattle.answers.specs.Pieces.{kept, joined}
@@ -57,3 +58,12 @@ text-read text buffer = ap (λ (g : Got Element). pick (leb 256 (length buffer))
     by : Dec (length text ≤ 439) → textElement (take 439 text) ≡ textElement text
     by (yes l) = ap textElement (take-all 439 text l)
     by (no l) = let n = length-take-le 439 text (omega arith) in long-text (take 439 text) (omega arith) ∙ sym (long-text text (omega arith))
+
+-- ---- what is refused
+
+-- neither program takes the line of the other's refusal for a tree
+pub refusal-no-tree : (judgeNodes (fillText (fill-refused 16)) ≡ refused-nodes 8)
+    × (textElement (fillText (fill-refused 8)) ≡ nothing) × (textElement (fillText (fill-refused 9)) ≡ nothing) × (textElement (fillText (fill-refused 10)) ≡ nothing)
+    × (textElement (fillText (fill-refused 11)) ≡ nothing) × (textElement (fillText (fill-refused 15)) ≡ nothing)
+unfolding judgeNodes textElement outermost forestAt opens front fillText numbered ascii decimal digitsOf beforeLast pick _and_
+refusal-no-tree = (refl, refl, refl, refl, refl, refl)
