@@ -4,7 +4,7 @@ use Rattle.io.specs.Counts.{Counts}
 use Rattle.reading.specs.Filling.{Fills}
 use Rattle.reading.specs.declared.Filled.{Filled}
 use Rattle.putting.proofs.Fronts.{front-counts}
-use Rattle.marking.specs.Pieces.{FillsInPieces}
+use Rattle.marking.specs.Pieces.{FillsWithAnswer}
 use borrow.Author.Needs.{needs}
 use Rattle.marking.proofs.mark_files.Statement.{statement}
 use Rattle.marking.proofs.mark_files.Tie as tie
@@ -13,7 +13,7 @@ first-counts : (c : tie.After-first) → Counts (c .first .given .0 .0) (c .befo
 first-counts c = subst (λ (f : Filled). Fills f (c .before .before .before .read-constraints .last .1 .0)) (c .first .given .1) (c .before .before .before .read-constraints .ensures)
 
 second-counts : (c : tie.After-second) → Counts (c .second .given .0 .0) (c .before .before .before .read-answer .last .1 .0)
-second-counts c = subst (λ (f : Filled). FillsInPieces f (c .before .before .before .read-answer .last .1 .0)) (c .second .given .1) (c .before .before .before .read-answer .ensures) .0
+second-counts c = subst (λ (f : Filled). FillsWithAnswer f (c .before .before .before .read-answer .last .1 .0)) (c .second .given .1) (c .before .before .before .read-answer .ensures) .0
 
 slice-aggregate-read-constraints : tie.Need-slice-aggregate-read-constraints
 slice-aggregate-read-constraints c = search needs
