@@ -14,6 +14,7 @@ mod sets;
 mod sheets;
 mod solver;
 mod trees;
+mod words;
 mod xml;
 
 use cudreth::{cudreth_mark, cudreth_solve};

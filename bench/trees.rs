@@ -1,9 +1,10 @@
-// The proved writer and reader of XML beside the plain ones: node records and texts on which both must agree, and some to time.
+// The proved writer and reader of XML beside the plain ones, and beside those that go by words: node records and texts on which all three must agree, and
+// some to time.
 use std::hint::black_box;
 
 use crate::cudreth::{cudreth_xml_read, cudreth_xml_write, NODE, NODES_BYTES, PLACE, XML_BYTES};
 use crate::sets::Rng;
-use crate::{bounded, head, rounds, row, xml, Times};
+use crate::{bounded, head, rounds, row, words, xml, Times};
 
 type Function = fn(&[u8], &mut [u8]) -> u64;
 
@@ -33,42 +34,55 @@ fn plain_read(text: &[u8], nodes: &mut [u8]) -> u64 {
     told(xml::read(text, nodes))
 }
 
-// Writing or reading: the proved function and the plain one, and the shortest buffer that they take.
+fn words_write(nodes: &[u8], text: &mut [u8]) -> u64 {
+    told(words::write(nodes, text))
+}
+
+fn words_read(text: &[u8], nodes: &mut [u8]) -> u64 {
+    told(words::read(text, nodes))
+}
+
+// Writing or reading: the proved function, the plain one and the one by words, and the shortest buffer that they take.
 struct Way {
-    functions: [Function; 2],
+    functions: [Function; 3],
     buffer: usize,
     times: fn(&[Vec<u8>]) -> Times,
+    beside_words: fn(&[Vec<u8>]) -> Times,
 }
 
 const WRITING: Way = Way {
-    functions: [proved_write, plain_write],
+    functions: [proved_write, plain_write, words_write],
     buffer: XML_BYTES,
     times: |trees| times(proved_write, plain_write, trees),
+    beside_words: |trees| times(proved_write, words_write, trees),
 };
 
 const READING: Way = Way {
-    functions: [proved_read, plain_read],
+    functions: [proved_read, plain_read, words_read],
     buffer: NODES_BYTES,
     times: |texts| times(proved_read, plain_read, texts),
+    beside_words: |texts| times(proved_read, words_read, texts),
 };
 
 impl Way {
-    // Result and every byte of the buffer of both functions, which must be equal.
+    // Result and every byte of the buffer of all functions, which must be equal.
     fn both(&self, input: &[u8], buffer: usize, noise: u8) -> (u64, Vec<u8>) {
-        let [proved, plain] = self.functions.map(|function| {
+        let [proved, others @ ..] = self.functions.map(|function| {
             let mut lent = vec![noise; buffer];
             let end = function(input, &mut lent);
             (end, lent)
         });
-        assert!(
-            proved == plain,
-            "they differ on {:?}, buffer {buffer}, noise {noise}:\nproved {:x}, {:?}\nplain  {:x}, {:?}",
-            input[..input.len().min(520)].escape_ascii().to_string(),
-            proved.0,
-            proved.1.escape_ascii().to_string(),
-            plain.0,
-            plain.1.escape_ascii().to_string()
-        );
+        for (name, other) in ["plain", "words"].iter().zip(others) {
+            assert!(
+                proved == other,
+                "they differ on {:?}, buffer {buffer}, noise {noise}:\nproved {:x}, {:?}\n{name} {:x}, {:?}",
+                input[..input.len().min(520)].escape_ascii().to_string(),
+                proved.0,
+                proved.1.escape_ascii().to_string(),
+                other.0,
+                other.1.escape_ascii().to_string()
+            );
+        }
         proved
     }
 
@@ -391,7 +405,25 @@ pub fn time() {
         ("<a> again and again", vec!["<a>".repeat(350_000).into_bytes()]),
     ];
     rows(&READING, &refused);
+    beside_words();
     growth();
+}
+
+// For what it is worth, with no bound: the same beside Rust that goes by words of four bytes.
+fn beside_words() {
+    let shapes = [
+        ("chain of 63", vec![chain(63)]),
+        ("star of 63", vec![star(63)]),
+        ("10,000 trees of 2 to 64 nodes", mixed(20_261_124, 10_000, 64)),
+    ];
+    head("    writer of XML beside Rust by words, ns a tree");
+    for (name, trees) in &shapes {
+        row(name, (WRITING.beside_words)(trees));
+    }
+    head("    reader of XML beside Rust by words, ns a text");
+    for (name, trees) in &shapes {
+        row(name, (READING.beside_words)(&texts(trees)));
+    }
 }
 
 fn growth() {

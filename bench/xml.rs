@@ -1,165 +1,122 @@
-// Trees as XML in plain Rust. Every tag has four bytes, if `<a>` is taken with the `<` that always comes next, so both ways go by words.
-//
-// The writer does not walk the tree. A parent's number is smaller than its children's: from the last node to the first each adds its size to
-// its parent's, and from the first to the last each takes the next place that its parent has, so that no branch hangs on the shape.
-// The reader keeps the elements that are open. Records are gathered beside the lent buffer, so that a refusal changes none of its bytes.
+// Trees as XML in plain Rust, as it is first written: the questions one by one, children linked and walked, a reader that calls itself for what is
+// inside an element. Records are gathered beside the lent buffer, so that a refusal changes none of its bytes.
 
 use crate::cudreth::{NODE, NODES_BYTES, XML_BYTES};
-
 const MOST: usize = 64;
-// Cuts off nothing of a node's number; it tells the compiler that 64 places are enough.
-const NUMBER: usize = MOST - 1;
 
-const OPEN: u32 = u32::from_le_bytes(*b"<\0><");
-const CLOSE: u32 = u32::from_le_bytes(*b"</\0>");
-const LEAF: u32 = u32::from_le_bytes(*b"<\0/>");
-
-// ---- writing
-
-// The bytes written, or the number of the question that refuses.
-pub fn write(nodes: &[u8], text: &mut [u8]) -> Result<usize, u8> {
-    let records = questions(nodes, text.len())?;
-    Ok(put(records, text))
-}
-
-// All that is asked of a record is gathered in one pass without a way out, which the compiler does four records at a time.
-fn questions(nodes: &[u8], lent: usize) -> Result<&[[u8; 4]], u8> {
-    let (records, rest) = nodes.as_chunks();
-    if !rest.is_empty() {
+// The number of nodes, or the number of the question that refuses.
+fn questions(nodes: &[u8], lent: usize) -> Result<usize, u8> {
+    if nodes.len() % 4 != 0 {
         return Err(8);
     }
-    if !(2..=MOST).contains(&records.len()) {
-        return Err(if records.iter().all(|record| record[0] == NODE) { 10 } else { 9 });
-    }
-    let (mut kinds, mut wrong, mut labels) = (0, 0, 0);
-    for (v, record) in records.iter().enumerate() {
-        let (v, record) = (v as i32, i32::from_le_bytes(*record));
-        let (parent, label) = (record >> 16 & 0xff, record >> 24 & 0xff);
-        kinds |= record ^ i32::from(NODE);
-        wrong |= (record >> 8 ^ v) & 0xff;
-        // negative unless the parent is 1 to v - 1, as it is from node 2 on
-        wrong |= ((parent - 1) | (v - 1 - parent)) & if v < 2 { 0 } else { i32::MIN };
-        // negative unless the label is a letter, in either case
-        let letter = (label | 32) - i32::from(b'a');
-        labels |= if label == 0 { 0 } else { letter | (25 - letter) };
-    }
-    if kinds & 0xff != 0 {
+    if nodes.chunks_exact(4).any(|record| record[0] != NODE) {
         return Err(9);
     }
-    if wrong != 0 || records[0] != [NODE, 0, 0, 0] || records[1][2] != 0 {
-        return Err(11);
+    let count = nodes.len() / 4;
+    if !(2..=MOST).contains(&count) {
+        return Err(10);
+    }
+    for (v, record) in nodes.chunks_exact(4).enumerate() {
+        let (own, parent, label) = (record[1] as usize, record[2] as usize, record[3]);
+        let fine = match v {
+            0 => parent == 0 && label == 0,
+            1 => parent == 0,
+            _ => 0 < parent && parent < v,
+        };
+        if own != v || !fine {
+            return Err(11);
+        }
     }
     if lent < XML_BYTES {
         return Err(17);
     }
-    if labels < 0 {
+    if nodes.chunks_exact(4).any(|record| record[3] != 0 && !record[3].is_ascii_alphabetic()) {
         return Err(15);
     }
-    Ok(records)
+    Ok(count)
 }
 
-// The bytes of each element with all that is in it.
-fn sizes(records: &[[u8; 4]]) -> [u32; MOST] {
-    let mut sizes = [4; MOST];
-    for record in &records[2..] {
-        sizes[usize::from(record[2]) & NUMBER] = 7;
+// The bytes written, or the number of the question that refuses.
+pub fn write(nodes: &[u8], text: &mut [u8]) -> Result<usize, u8> {
+    let count = questions(nodes, text.len())?;
+    let (mut first, mut next) = ([0u8; MOST], [0u8; MOST]);
+    for v in (1..count).rev() {
+        let parent = nodes[v * 4 + 2] as usize;
+        next[v] = first[parent];
+        first[parent] = v as u8;
     }
-    for v in (2..records.len()).rev() {
-        sizes[usize::from(records[v][2]) & NUMBER] += sizes[v & NUMBER];
-    }
-    sizes
+    Ok(put(nodes, &first, &next, 1, text, 0))
 }
 
-fn put(records: &[[u8; 4]], text: &mut [u8]) -> usize {
-    let sizes = sizes(records);
-    // of each node that has been reached: where its next child goes; of the document node behind the outermost element
-    let mut places = [0u32; MOST];
-    for v in 1..records.len() {
-        let [_, _, parent, label] = records[v];
-        let (parent, size) = (usize::from(parent) & NUMBER, sizes[v & NUMBER]);
-        let at = places[parent];
-        places[parent] = at + size;
-        places[v & NUMBER] = at + 3;
-        let name = u32::from(if label == 0 { b'_' } else { label });
-        let leaf = LEAF | name << 8;
-        let [first, last] = if size == 4 { [leaf; 2] } else { [OPEN | name << 8, CLOSE | name << 16] };
-        let (at, end) = (at as usize, (at + size) as usize);
-        text[at..at + 4].copy_from_slice(&first.to_le_bytes());
-        text[end - 4..end].copy_from_slice(&last.to_le_bytes());
+// The element v and all that is inside it, from a place on; the place behind it.
+fn put(nodes: &[u8], first: &[u8; MOST], next: &[u8; MOST], v: usize, text: &mut [u8], mut at: usize) -> usize {
+    let label = nodes[v * 4 + 3];
+    let name = if label == 0 { b'_' } else { label };
+    if first[v] == 0 {
+        text[at..at + 4].copy_from_slice(&[b'<', name, b'/', b'>']);
+        return at + 4;
     }
-    places[0] as usize
+    text[at..at + 3].copy_from_slice(&[b'<', name, b'>']);
+    at += 3;
+    let mut child = first[v] as usize;
+    while child != 0 {
+        at = put(nodes, first, next, child, text, at);
+        child = next[child] as usize;
+    }
+    text[at..at + 4].copy_from_slice(&[b'<', b'/', name, b'>']);
+    at + 4
 }
-
-// ---- reading
-
-// No label of an element that can be read.
-const NO: u8 = 1;
-
-// The label of an element with that name.
-const LABELS: [u8; 256] = {
-    let mut labels = [NO; 256];
-    let mut letter = 0;
-    while letter < 26 {
-        labels[b'a' as usize + letter] = b'a' + letter as u8;
-        labels[b'A' as usize + letter] = b'A' + letter as u8;
-        letter += 1;
-    }
-    labels[b'_' as usize] = 0;
-    labels
-};
 
 // The bytes written, or the number of the question that refuses.
 pub fn read(text: &[u8], nodes: &mut [u8]) -> Result<usize, u8> {
     if nodes.len() < NODES_BYTES {
         return Err(17);
     }
-    let mut records = [[0; 4]; MOST];
-    let count = elements(text, &mut records).ok_or(16)?;
-    let bytes = records[..count].as_flattened();
-    nodes[..bytes.len()].copy_from_slice(bytes);
-    Ok(bytes.len())
+    let mut records = [[0u8; 4]; MOST];
+    records[0] = [NODE, 0, 0, 0];
+    let mut reader = Reader { text, at: 0, records, count: 1 };
+    if reader.element(0).is_none() || reader.at != text.len() {
+        return Err(16);
+    }
+    let bytes = reader.count * 4;
+    nodes[..bytes].copy_from_slice(&reader.records.as_flattened()[..bytes]);
+    Ok(bytes)
 }
 
-// The number of nodes, the document node counted.
-fn elements(mut rest: &[u8], records: &mut [[u8; 4]; MOST]) -> Option<usize> {
-    records[0] = [NODE, 0, 0, 0];
-    let mut count = 1;
-    // of the elements that are open, by depth: number and end; at depth 0 the document node
-    let (mut numbers, mut ends) = ([0; MOST], [0; MOST]);
-    let mut depth = 0;
-    let mut childless = true;
-    loop {
-        let word = u32::from_le_bytes(*rest.first_chunk()?);
-        if word == ends[depth & NUMBER] && !childless {
-            rest = &rest[4..];
-            depth -= 1;
-            if depth == 0 {
-                break;
-            }
-            continue;
-        }
-        let name = word >> 8 & 0xff;
-        let label = LABELS[name as usize];
-        if label == NO || count == MOST {
+struct Reader<'a> {
+    text: &'a [u8],
+    at: usize,
+    records: [[u8; 4]; MOST],
+    count: usize,
+}
+
+impl Reader<'_> {
+    // One element and all that is inside it.
+    fn element(&mut self, parent: u8) -> Option<()> {
+        let rest = &self.text[self.at..];
+        let (&[b'<', name], rest) = rest.split_first_chunk()? else { return None };
+        if name != b'_' && !name.is_ascii_alphabetic() || self.count == MOST {
             return None;
         }
-        records[count & NUMBER] = [NODE, count as u8, numbers[depth & NUMBER], label];
-        count += 1;
-        if word ^ name << 8 == LEAF {
-            rest = &rest[4..];
-            childless = false;
-            if depth == 0 {
-                break;
-            }
-        } else if word ^ name << 8 == OPEN {
-            rest = &rest[3..];
-            depth += 1;
-            numbers[depth & NUMBER] = count as u8 - 1;
-            ends[depth & NUMBER] = CLOSE | name << 16;
-            childless = true;
-        } else {
+        let own = self.count as u8;
+        self.records[self.count] = [NODE, own, parent, if name == b'_' { 0 } else { name }];
+        self.count += 1;
+        if rest.starts_with(b"/>") {
+            self.at += 4;
+            return Some(());
+        }
+        if rest.first() != Some(&b'>') {
             return None;
         }
+        self.at += 3;
+        self.element(own)?;
+        while !self.text[self.at..].starts_with(b"</") {
+            self.element(own)?;
+        }
+        if !self.text[self.at + 2..].starts_with(&[name, b'>']) {
+            return None;
+        }
+        self.at += 4;
+        Some(())
     }
-    rest.is_empty().then_some(count)
 }
