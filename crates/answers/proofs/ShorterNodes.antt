@@ -1,18 +1,17 @@
 -- Node records alone that are shortened are judged as all of them are, whatever follows: more than 64 records are refused by 9 or by 10, and by
 -- which of them depends only on whether all are node records.
 use mathlib.Core.Path.{_≡_, refl, sym, ap, _∙_}
-use mathlib.Core.Logic.{⊎-elim}
 use mathlib.Core.Bool.{Bool, true, false}
 use mathlib.Core.List.{List, [], _∷_, _++_, append-nil, append-assoc}
-use Prim.Native.Nat.{ℕ, suc, _%_, _≤_, _<_}
+use Prim.Native.Nat.{ℕ, _%_, _≤_, _<_}
 use native.Mathlib.Decide.{decLt, ℕ-discrete}
 use native.Mathlib.Omega.{arith}
-use lib.Dec.{eqb, leb}
-use lib.ListN.{length, take, drop, length-append}
+use lib.Dec.{eqb}
+use lib.ListN.{length, drop, length-append}
 use lib.Seq.{drop-length}
 use borrow.Author.Tests.{eq-eqb, ne-eqb, le-leb, lt-leb}
 use Rattle.meaning.specs.Finite.{pick, _and_}
-use Rattle.meaning.specs.Files.{Quad, quads, allPlaces, allNodes, JudgedNodes, refused-nodes, judgeNodes}
+use Rattle.meaning.specs.Files.{Quad, quads, allPlaces, allNodes, refused-nodes, judgeNodes}
 use Rattle.answers.specs.Judgement.{leading}
 use Rattle.answers.specs.Shorter.{kindOfAll, shortened}
 use Rattle.answers.specs.Pieces.{kept, joined, NodesAsJoined}

@@ -18,7 +18,6 @@ use Rattle.theory.proofs.PathPromise as paths
 use Rattle.theory.proofs.XmlPromise as xml
 use Rattle.theory.proofs.XmlBack.{write-few, read-few}
 use Rattle.lent.specs.declared.Answer.{Answer}
-use Rattle.lent.specs.declared.Answer.the-variants.{Written, Refused}
 use Rattle.lent.specs.Filling.{AnswerOf}
 use Rattle.capi.specs.Numbers.{FewBytes, answerNumber}
 use Rattle.capi.specs.Translates.{Translates}

@@ -2,7 +2,7 @@
 -- change of a byte, of an order or of a number shows here.
 use mathlib.Core.Path.{_≡_, refl}
 use mathlib.Core.Bool.{true, false}
-use mathlib.Core.List.{List, [], _∷_, _++_}
+use mathlib.Core.List.{[], _∷_}
 use Prim.Native.Nat.{ℕ, zero, suc}
 use lib.ListN.{length}
 use Rattle.meaning.specs.Finite.{pick, _and_, _or_}
@@ -11,7 +11,7 @@ use Rattle.meaning.specs.ReadOff.{nodeBytes}
 use Rattle.meaning.specs.Files.{quads, nodeFine, nodesFine, nodeOf, allNodes, refused-nodes, accepted-nodes, judgeNodes}
 use Rattle.meaning.specs.Ascii.{ascii}
 use Rattle.meaning.specs.Paths.{isSmall, isLetter}
-use Rattle.meaning.specs.Xml.{Forest, no-element, element, Element, count, isNameable, allNameable, nameOf, enclosed, forestText, elementText, forestRecords, documentRecords, recordsNameable}
+use Rattle.meaning.specs.Xml.{Forest, no-element, element, Element, count, isNameable, allNameable, nameOf, enclosed, forestText, elementText, forestRecords, documentRecords}
 
 -- an a with two elements inside it: a blank that has a c inside it, and a B
 abbrev tree : Element
@@ -40,10 +40,6 @@ not-named = (refl, refl, refl, refl, refl, refl)
 inner-not-named : (allNameable (element 97 (element 95 no-element no-element) no-element) ≡ false) × (allNameable (element 97 no-element (element 95 no-element no-element)) ≡ false)
 unfolding allNameable isNameable isLetter isSmall isCapital _and_ _or_
 inner-not-named = (refl, refl)
-
-later-not-named : recordsNameable (record { up = 0; label = 0 } ∷ record { up = 0; label = 95 } ∷ []) ≡ false
-unfolding recordsNameable isNameable isLetter isSmall isCapital _and_ _or_
-later-not-named = refl
 
 -- ---- questions 8 to 11 of node records alone
 

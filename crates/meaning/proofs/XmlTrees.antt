@@ -1,22 +1,35 @@
 -- A numbered tree is no more than one ordered tree; the node records of an ordered tree in document order are a tree that is it, in which a node's
 -- parent is the node before it or above that.
 use mathlib.Core.Path.{_≡_, refl, sym, ap, _∙_, subst}
-use mathlib.Core.Logic.{_⊎_, inl, inr, ⊎-elim, _≢_}
-use mathlib.Core.Bool.{Bool, true, false, false≢true}
+use mathlib.Core.Logic.{_⊎_, inl, inr, ⊎-elim}
+use mathlib.Core.Bool.{false}
 use mathlib.Core.List.{List, [], _∷_, _++_, append-assoc, append-nil}
 use Prim.Native.Nat.{ℕ, zero, suc, _+_, _-_, _≤_, _<_, zero-le}
 use native.Mathlib.Nat.{not-suc-le-zero, le-refl, le-trans}
-use native.Mathlib.Decide.{decLt, ℕ-discrete}
+use native.Mathlib.Decide.{decLt}
 use native.Mathlib.Omega.{arith}
-use lib.ListN.{length, getD, length-append, List·getD-append}
+use lib.ListN.{length, getD, length-append}
 use lib.Seq.{getD-at}
-use lib.Dec.{eqb, leb, ltb}
-use Rattle.meaning.specs.Tree.{Node, Label, Tree, Parent, IsTree, Above, self, up}
-use Rattle.meaning.specs.Finite.{Yes, pick, _and_, _or_, neg, sum}
+use Rattle.meaning.specs.Tree.{Node, Label, isCapital, Tree, Parent, Above, self, up}
+use Rattle.meaning.specs.Finite.{Yes, _and_, _or_}
 use Rattle.meaning.specs.ReadOff.{NodeRecord, blankRecord, treeOf}
-use Rattle.meaning.specs.Xml.{Forest, no-element, element, Element, alone, count, NextChild, Children, IsOrdered, isNameable, allNameable, forestRecords, documentRecords, recordsNameable}
-use Rattle.meaning.proofs.Tests.{clash, yes-case, pick-yes, pick-no, is-eq, eq-yes, self-eq, is-lt, lt-yes, and-left, and-right, and-both}
-use Rattle.meaning.proofs.Finite.{split-lt}
+use Rattle.meaning.specs.Paths.{isSmall, isLetter}
+use Rattle.meaning.specs.Xml.{Forest, no-element, element, Element, alone, count, Children, IsOrdered, isNameable, allNameable, forestRecords, documentRecords, recordsNameable}
+use Rattle.meaning.proofs.Tests.{and-left, and-right, and-both}
+
+-- ---- by computing: an order or a question that is changed shows here
+
+-- what is inside an element comes before those after it
+inside-first : (u i : Node) (l m n : Label)
+    → forestRecords u i (element l (element m no-element no-element) (element n no-element no-element))
+    ≡ record { up = u; label = l } ∷ record { up = i; label = m } ∷ record { up = u; label = n } ∷ []
+unfolding forestRecords
+inside-first u i l m n = refl
+
+-- question 15 is asked of later nodes too
+later-not-named : recordsNameable (blankRecord ∷ record { up = 0; label = 95 } ∷ []) ≡ false
+unfolding recordsNameable isNameable isLetter isSmall isCapital _and_ _or_
+later-not-named = refl
 
 -- ---- one ordered tree at most
 

@@ -1,8 +1,7 @@
 -- What is put at the front of the buffer: the text of what solver, marker and path reader promise of any bytes.
-use mathlib.Core.Path.{_≡_}
-use mathlib.Core.List.{List, _++_}
+use mathlib.Core.List.{List}
 use Prim.Native.Nat.{ℕ}
-use lib.ListN.{length, drop, replicate}
+use lib.ListN.{replicate}
 use Rattle.meaning.specs.Results.{written, fillWrote}
 use Rattle.meaning.specs.Promises.{SolverPromise, MarkerPromise, PathsPromise}
 use Rattle.meaning.specs.Text.{solvedText, markedText, fillText}

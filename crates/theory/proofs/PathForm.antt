@@ -1,7 +1,7 @@
 -- What the path reader has read has that text: by induction on the fuel, each part that is taken away is the text of what is answered. So the
 -- reader decides whether a text is of the form, and which paths it holds.
 use mathlib.Core.Path.{_≡_, refl, sym, ap, _∙_, subst}
-use mathlib.Core.Bool.{Bool, true, false, false≢true}
+use mathlib.Core.Bool.{Bool, true, false}
 use mathlib.Core.List.{List, [], _∷_, _++_}
 use Prim.Native.Nat.{ℕ, zero, suc, _≤_, _<_, zero-le, suc-le-suc}
 use native.Mathlib.Omega.{arith}
@@ -13,7 +13,7 @@ use Rattle.theory.specs.PathReader.{afterName, axisAt, testBy, testAt, m
 use Rattle.theory.specs.Reader.{Got, nothing, got, andThen, byte, front}
 use Rattle.meaning.proofs.PathSheets.{letter-range}
 use Rattle.theory.proofs.PathReader.{move-text, having-text, more-text, lines-read}
-use Rattle.meaning.proofs.Tests.{pick-has, is-eq, and-left, and-right}
+use Rattle.meaning.proofs.Tests.{pick-has, is-eq}
 use Rattle.theory.proofs.Reader.{front-is, no-bytes}
 
 -- what was read, and the bytes after it, are the bytes

@@ -6,12 +6,12 @@ use mathlib.Core.List.{List, []}
 use Prim.Native.Nat.{ℕ, _≤_}
 use native.Mathlib.Nat.{le-trans}
 use native.Mathlib.Omega.{arith}
-use lib.ListN.{length, drop, length-append, length-drop}
+use lib.ListN.{length}
 use lib.Dec.{leb}
 use Rattle.meaning.specs.Finite.{Yes, pick}
 use Rattle.meaning.specs.Paths.{Path, OfForm}
 use Rattle.meaning.specs.PathRecords.{recordsOf, variablesOf, fileBytes}
-use Rattle.meaning.specs.Results.{Fill, fill-refused, fill-written, fillWrote}
+use Rattle.meaning.specs.Results.{Fill, fillWrote}
 use Rattle.meaning.specs.Promises.{RightRecords, PathsPromise}
 use Rattle.theory.specs.PathReader.{linesAt, textPaths, pathsAnswer, answerOf, readPaths}
 use Rattle.theory.specs.Reader.{Got, nothing, got, andThen}

@@ -3,17 +3,16 @@
 use mathlib.Core.Path.{_≡_, refl, sym, ap, _∙_, subst}
 use mathlib.Core.Logic.{⊎-elim, _↔_}
 use mathlib.Core.List.{List}
-use Prim.Native.Nat.{ℕ, suc, _≤_, _<_}
+use Prim.Native.Nat.{ℕ, _≤_}
 use native.Mathlib.Omega.{arith}
 use lib.ListN.{length, replicate, length-replicate}
 use lib.Dec.{leb}
-use Rattle.meaning.specs.Finite.{Yes}
 use Rattle.meaning.specs.ReadOff.{NodeRecord, treeOf, nodeBytes}
 use Rattle.meaning.specs.Files.{JudgedNodes, refused-nodes, accepted-nodes, judgeNodes}
 use Rattle.meaning.specs.Results.{Fill, fill-refused, fill-written, fillWrote}
 use Rattle.meaning.specs.Xml.{Element, elementText, XmlForm, documentRecords, recordsNameable, WriterPromise, ReaderPromise, Produced, RecordsOf, ReadBack, ThereAndBack}
 use Rattle.meaning.proofs.Tests.{clash, yes-case, pick-yes, pick-no}
-use Rattle.meaning.proofs.XmlTrees.{document-size, document-ordered, document-order, ordered-nameable, document-nameable}
+use Rattle.meaning.proofs.XmlTrees.{document-size, document-ordered, document-order, document-nameable}
 use Rattle.theory.specs.Reader.{Got, nothing, got}
 use Rattle.theory.specs.Xml.{elementOf, writtenOf, writeXml, textElement, readOf, readXml}
 use Rattle.theory.proofs.AnswerFile.{length-nodeBytes}

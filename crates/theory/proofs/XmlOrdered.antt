@@ -6,9 +6,9 @@ use Prim.Native.Nat.{ℕ, zero, suc, _+_, _-_, _≤_, _<_, zero-le}
 use native.Mathlib.Nat.{not-suc-le-zero, le-refl}
 use native.Mathlib.Omega.{arith}
 use lib.Dec.{eqb, ltb}
-use Rattle.meaning.specs.Finite.{Yes, pick, _and_, neg, sum}
+use Rattle.meaning.specs.Finite.{Yes, _and_, neg, sum}
 use Rattle.meaning.specs.Tree.{Node, Tree, Parent, IsTree}
-use Rattle.meaning.specs.Xml.{Forest, element, Element, alone, count, NextChild, Children, IsOrdered}
+use Rattle.meaning.specs.Xml.{Forest, Element, alone, count, NextChild, Children, IsOrdered}
 use Rattle.meaning.proofs.Tests.{clash, yes-case, pick-yes, pick-no, is-eq, eq-yes, self-eq, is-lt, lt-yes, and-left, and-right, and-both}
 use Rattle.meaning.proofs.Finite.{split-lt}
 use Rattle.meaning.proofs.XmlTrees.{forest-unique, ordered-unique, lower}

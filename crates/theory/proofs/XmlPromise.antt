@@ -1,17 +1,19 @@
 -- The computed writer and reader keep their promises, and each promise leaves one answer.
 use mathlib.Core.Path.{_≡_, refl, sym, ap, _∙_}
 use mathlib.Core.Logic.{⊎-elim}
-use mathlib.Core.List.{List}
+use mathlib.Core.List.{List, [], _∷_}
 use Prim.Native.Nat.{ℕ, suc, _≤_, _<_}
 use native.Mathlib.Nat.{le-trans}
 use native.Mathlib.Omega.{arith}
 use lib.ListN.{length}
 use lib.Dec.{leb}
-use Rattle.meaning.specs.Finite.{Yes, pick, neg}
+use Rattle.meaning.specs.Finite.{Yes, pick, _and_, _or_, neg}
+use Rattle.meaning.specs.Tree.{isCapital}
+use Rattle.meaning.specs.Paths.{isSmall, isLetter}
 use Rattle.meaning.specs.ReadOff.{NodeRecord, treeOf, nodeBytes}
 use Rattle.meaning.specs.Files.{JudgedNodes, refused-nodes, accepted-nodes, judgeNodes}
 use Rattle.meaning.specs.Results.{Fill, fill-refused, fill-written, fillWrote}
-use Rattle.meaning.specs.Xml.{Element, alone, count, IsOrdered, elementText, XmlForm, documentRecords, recordsNameable, WriterPromise, ReaderPromise}
+use Rattle.meaning.specs.Xml.{Element, alone, count, IsOrdered, elementText, XmlForm, documentRecords, isNameable, recordsNameable, WriterPromise, ReaderPromise}
 use Rattle.meaning.proofs.Tests.{clash, yes-case, pick-yes, pick-no, pick-has, is-le, le-yes}
 use Rattle.meaning.proofs.XmlTrees.{ordered-unique, document-size, document-ordered, ordered-nameable}
 use Rattle.theory.specs.Reader.{Got, nothing, got}
@@ -21,6 +23,11 @@ use Rattle.theory.proofs.AnswerFile.{length-nodeBytes}
 use Rattle.theory.proofs.XmlOrdered.{ordered-is, ordered-only, ordered-count}
 use Rattle.theory.proofs.XmlReader.{form-unique, form-read, form-of, no-form, not-read, form-short}
 use Rattle.theory.proofs.XmlQuestions.{Accepted, nodes-accepted, accepted-shape, document-accepted}
+
+-- 17 is asked before 15
+short-before-label : writtenOf (accepted-nodes (record { up = 0; label = 0 } ∷ record { up = 0; label = 95 } ∷ [])) [] ≡ fill-refused 17
+unfolding writtenOf recordsNameable isNameable isLetter isSmall isCapital pick _and_ _or_
+short-before-label = refl
 
 -- ---- accepted records are exactly one ordered tree
 

@@ -4,16 +4,16 @@ use mathlib.Core.Path.{_≡_, refl, sym, ap, _∙_, subst}
 use mathlib.Core.Logic.{⊎-elim}
 use mathlib.Core.Bool.{Bool, true, false}
 use mathlib.Core.List.{List, [], _∷_, map, append-nil}
-use Prim.Native.Nat.{ℕ, suc, _+_, _*_, _%_, _/_, _≤_, _<_}
+use Prim.Native.Nat.{ℕ, suc, _+_, _*_, _%_, _≤_, _<_}
 use native.Mathlib.Nat.{zero-add}
 use native.Mathlib.Decide.{decLt}
 use native.Mathlib.Omega.{arith}
 use lib.ListN.{length, getD, length-map}
 use lib.Dec.{eqb, leb}
-use Rattle.meaning.specs.Finite.{Yes, pick, _and_, _or_}
+use Rattle.meaning.specs.Finite.{Yes, pick, _and_}
 use Rattle.meaning.specs.Tree.{Node, Parent}
 use Rattle.meaning.specs.ReadOff.{NodeRecord, blankRecord, treeOf, nodeBytes}
-use Rattle.meaning.specs.Files.{Quad, quads, allPlaces, nodesThenPlaces, ofKind, nodesFine, placesFine, JudgedAnswer, refused-answer, accepted-answer, nodeOf, judgeQuads, judgeAnswer, allNodes, JudgedNodes, refused-nodes, accepted-nodes, judgeNodes}
+use Rattle.meaning.specs.Files.{Quad, quads, nodesThenPlaces, ofKind, nodesFine, placesFine, JudgedAnswer, refused-answer, accepted-answer, nodeOf, judgeQuads, judgeAnswer, allNodes, JudgedNodes, refused-nodes, accepted-nodes, judgeNodes}
 use Rattle.meaning.specs.Xml.{Element, alone, count, documentRecords}
 use Rattle.meaning.proofs.Tests.{pick-yes, pick-no, is-eq, eq-yes, self-eq, is-le, le-yes, and-left, and-right, and-both, or-left, or-cases}
 use Rattle.meaning.proofs.Records.{length-quads}

@@ -1,13 +1,13 @@
 -- The computed reader reads the text of every forest, and what it has read has that text. So it decides whether a text is of the form, no two
 -- ordered trees have one text, and a text of at most 63 elements is short.
 use mathlib.Core.Path.{_≡_, refl, sym, ap, _∙_, subst}
-use mathlib.Core.Logic.{_⊎_, inl, inr, ⊎-elim}
-use mathlib.Core.Bool.{Bool, true, false, false≢true}
+use mathlib.Core.Logic.{_⊎_, ⊎-elim}
+use mathlib.Core.Bool.{true, false, false≢true}
 use mathlib.Core.List.{List, [], _∷_, _++_, append-assoc, append-nil}
 use Prim.Native.Nat.{ℕ, zero, suc, _+_, _*_, _≤_, _<_}
 use native.Mathlib.Nat.{not-suc-le-zero}
 use native.Mathlib.Omega.{arith}
-use lib.ListN.{length, getD, drop, length-append}
+use lib.ListN.{length, drop, length-append}
 use lib.Dec.{eqb, leb}
 use Rattle.meaning.specs.Finite.{Yes, pick, _and_, _or_}
 use Rattle.meaning.specs.Tree.{Label, isCapital}
@@ -16,8 +16,20 @@ use Rattle.meaning.specs.Paths.{isSmall, isLetter}
 use Rattle.meaning.specs.Xml.{Forest, no-element, element, Element, alone, count, isNameable, allNameable, nameOf, enclosed, forestText, elementText, XmlForm}
 use Rattle.theory.specs.Reader.{Got, nothing, got, andThen, front}
 use Rattle.theory.specs.Xml.{nameAt, isName, labelNamed, opens, some, forestAt, outermost, textElement}
-use Rattle.meaning.proofs.Tests.{clash, yes-case, pick-yes, pick-no, pick-has, is-eq, self-eq, eq-yes, is-le, le-yes, and-left, and-right, and-both, or-left, or-right, or-cases}
+use Rattle.meaning.proofs.Tests.{pick-yes, pick-no, pick-has, is-eq, self-eq, is-le, le-yes, and-left, and-right, and-both, or-left, or-right, or-cases}
 use Rattle.theory.proofs.Reader.{front-is, front-self, no-bytes}
+
+-- ---- by computing: what is let in by a change shows here
+
+-- <a></a>
+empty-not-read : forestAt 3 (60 ∷ 97 ∷ 62 ∷ 60 ∷ 47 ∷ 97 ∷ 62 ∷ []) ≡ nothing
+unfolding forestAt opens some front isName labelNamed isLetter isSmall isCapital pick _and_ _or_
+empty-not-read = refl
+
+-- 65 nodes
+many-not-read : (e : Element) (q : List ℕ) → suc (count (alone e)) ≡ 65 → outermost (got (alone e) q) ≡ nothing
+unfolding outermost
+many-not-read e q m = pick-no _ _ (λ y. let l : suc (count (alone e)) ≤ 64 = is-le (and-right (eqb (length q) 0) y) in omega arith)
 
 -- ---- names
 

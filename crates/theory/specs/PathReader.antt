@@ -6,7 +6,7 @@ use mathlib.Core.List.{List, [], _∷_}
 use Prim.Native.Nat.{ℕ, zero, suc, _+_, _*_}
 use lib.ListN.{length, drop}
 use lib.Dec.{eqb, leb}
-use Rattle.meaning.specs.Finite.{pick, _and_}
+use Rattle.meaning.specs.Finite.{pick}
 use Rattle.meaning.specs.Paths.{Axis, to-self, to-child, to-parent, to-descendant, to-ancestor, to-descendant-or-self, to-ancestor-or-self, to-following-sibling, to-preceding-sibling, isSmall, isLetter, Test, letter, any, Path, alone, from-root, from-here, Steps, one, more, Step, move, having, axisText}
 use Rattle.meaning.specs.PathRecords.{recordsOf, variablesOf, fileBytes}
 use Rattle.meaning.specs.Results.{Fill, fill-refused, fill-written}

@@ -10,7 +10,7 @@ use lib.Dec.{eqb, ltb}
 use lib.ListN.{length, getD, set, replicate, getD-replicate}
 use lib.Seq.{getD-set-same, getD-set-other}
 use Rattle.meaning.specs.Tree.{Tree}
-use Rattle.meaning.specs.Finite.{pick, _and_}
+use Rattle.meaning.specs.Finite.{_and_}
 use Rattle.meaning.specs.Xml.{Forest, no-element, element, nameOf}
 use Rattle.meaning.proofs.Tests.{clash, yes-case, pick-yes, pick-no, is-eq, eq-yes, lt-yes, and-right, and-both}
 use Rattle.theory.specs.Xml.{forestFrom}

@@ -2,13 +2,13 @@
 use mathlib.Core.Path.{_≡_, refl, sym, ap, _∙_, subst}
 use mathlib.Core.Bool.{true, false, false≢true}
 use mathlib.Core.List.{List, map}
-use Prim.Native.Nat.{ℕ, _-_, _*_, _/_, _≤_, _<_}
+use Prim.Native.Nat.{ℕ, _-_, _≤_, _<_}
 use native.Mathlib.Omega.{arith}
-use lib.ListN.{length, getD}
+use lib.ListN.{length}
 use Rattle.meaning.specs.Finite.{Yes}
 use Rattle.meaning.specs.Tree.{Tree}
 use Rattle.meaning.specs.ReadOff.{NodeRecord, treeOf}
-use Rattle.meaning.specs.Files.{quads, nodeOf, JudgedNodes, refused-nodes, accepted-nodes, judgeNodes}
+use Rattle.meaning.specs.Files.{quads, nodeOf, JudgedNodes, accepted-nodes, judgeNodes}
 use Rattle.meaning.specs.Results.{Fill, fill-refused, fill-written, fillWrote}
 use Rattle.meaning.specs.Xml.{alone, forestText, elementText, recordsNameable}
 use Rattle.lent.specs.declared.Answer.{Answer}
