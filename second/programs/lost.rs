@@ -35,7 +35,7 @@ impl Printing {
     fn bytes(&self) -> Vec<u8> {
         match self.program {
             "solve" => text::of_solve(&second::solve(self.file, LEAST_BUFFER, ALLOWANCE)).into_bytes(),
-            "paths" => text::of_paths(&second::paths(self.file, LEAST_RECORDS_BUFFER)),
+            "paths" => text::of_fill(&second::paths(self.file, LEAST_RECORDS_BUFFER)),
             _ => text::of_mark(&second::mark(self.file, self.answer)).into_bytes(),
         }
     }

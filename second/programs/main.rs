@@ -17,7 +17,7 @@ mod together;
 
 use call::{nothing, open, written, Call};
 use run::Said;
-use second::verdict::{hex, MarkerVerdict, PathsVerdict, SolverVerdict};
+use second::verdict::{hex, FillVerdict, MarkerVerdict, SolverVerdict};
 use seen::Seen;
 use std::fmt::Display;
 use std::fs::File;
@@ -140,10 +140,10 @@ impl Trial {
     }
 
     /// Holds `paths` to the bytes of a verdict, and to reading no byte too many.
-    fn paths(&mut self, name: &str, lines: &[u8], verdict: &PathsVerdict) {
+    fn paths(&mut self, name: &str, lines: &[u8], verdict: &FillVerdict) {
         let input = open(&written("text", lines));
         let said = self.run(self.reading_paths(&input).command());
-        hold_verdict(name, &said, text::of_paths(verdict), &[("text", lines)]);
+        hold_verdict(name, &said, text::of_fill(verdict), &[("text", lines)]);
         hold_read(name, input, lines);
         self.seen.paths(lines, verdict);
     }

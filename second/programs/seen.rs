@@ -1,7 +1,7 @@
 //! The sorts of what has been run, and which must come up.
 
 use second::constraint::KIND_NAMES;
-use second::verdict::{MarkerVerdict, PathsVerdict, SolverVerdict};
+use second::verdict::{FillVerdict, MarkerVerdict, SolverVerdict};
 use second::Refusal;
 use std::collections::BTreeSet;
 
@@ -62,21 +62,21 @@ impl Seen {
         }
     }
 
-    pub fn paths(&mut self, text: &[u8], verdict: &PathsVerdict) {
+    pub fn paths(&mut self, text: &[u8], verdict: &FillVerdict) {
         self.note(format!("paths: {}", length_of(text)));
         if text.iter().any(u8::is_ascii_uppercase) {
             self.note(match verdict {
-                PathsVerdict::Written(_) => "paths: a capital written",
-                PathsVerdict::Refused(_) => "paths: a capital refused",
+                FillVerdict::Written(_) => "paths: a capital written",
+                FillVerdict::Refused(_) => "paths: a capital refused",
             });
         }
         match verdict {
-            PathsVerdict::Written(records) => self.note(match records.len() {
+            FillVerdict::Written(records) => self.note(match records.len() {
                 4 => "paths: one record written",
                 180 => "paths: 45 records written",
                 _ => "paths: records written",
             }),
-            PathsVerdict::Refused(Refusal(question)) => self.note(format!("paths: refused {question}")),
+            FillVerdict::Refused(Refusal(question)) => self.note(format!("paths: refused {question}")),
         }
     }
 

@@ -25,7 +25,7 @@ impl Trial {
 
         let lines = right_text(100);
         let path = written("text", &lines);
-        let expected = text::of_paths(&second::paths(&lines, LEAST_RECORDS_BUFFER));
+        let expected = text::of_fill(&second::paths(&lines, LEAST_RECORDS_BUFFER));
         let paths = self.paths.clone();
         self.at_once("paths: at once", 200, &expected, || Call::new(&paths, &[], open(&path)));
     }

@@ -17,7 +17,7 @@ pub mod tree;
 pub mod verdict;
 
 use search::{Outcome, Trace};
-use verdict::{MarkerVerdict, PathsVerdict, SolverVerdict};
+use verdict::{FillVerdict, MarkerVerdict, SolverVerdict};
 
 /// The number of the question that a file or buffer fails.
 #[derive(Clone, Copy, PartialEq, Eq, Debug)]
@@ -71,16 +71,16 @@ pub fn mark(constraint_file: &[u8], answer_file: &[u8]) -> MarkerVerdict {
 }
 
 /// Question 7, then 13, then 14.
-pub fn paths(text: &[u8], buffer_length: usize) -> PathsVerdict {
+pub fn paths(text: &[u8], buffer_length: usize) -> FillVerdict {
     if buffer_length < LEAST_RECORDS_BUFFER {
-        return PathsVerdict::Refused(Refusal(7));
+        return FillVerdict::Refused(Refusal(7));
     }
     let Some(lines) = path::read(text) else {
-        return PathsVerdict::Refused(Refusal(13));
+        return FillVerdict::Refused(Refusal(13));
     };
     let translation = translate::translate(&lines);
     if translation.variables > translate::MOST_VARIABLES {
-        return PathsVerdict::Refused(Refusal(14));
+        return FillVerdict::Refused(Refusal(14));
     }
-    PathsVerdict::Written(constraint::write(&translation.records))
+    FillVerdict::Written(constraint::write(&translation.records))
 }

@@ -18,7 +18,7 @@
 
 use crate::{Expected, Question};
 use second::constraint::KIND_NAMES;
-use second::verdict::{parse_marker, parse_paths, parse_solver, PathsVerdict, SolverVerdict};
+use second::verdict::{parse_fill, parse_marker, parse_solver, FillVerdict, SolverVerdict};
 use second::{LEAST_BUFFER, LEAST_RECORDS_BUFFER};
 
 /// A verdict in words and the records that follow it.
@@ -146,10 +146,10 @@ fn words_of((words, _): &Gives) -> Vec<&str> {
     words.iter().map(String::as_str).collect()
 }
 
-fn paths_verdict(gives: &Gives) -> Option<PathsVerdict> {
+fn paths_verdict(gives: &Gives) -> Option<FillVerdict> {
     match words_of(gives).as_slice() {
-        ["written"] => Some(PathsVerdict::Written(gives.1.clone())),
-        words => parse_paths(words),
+        ["written"] => Some(FillVerdict::Written(gives.1.clone())),
+        words => parse_fill(words),
     }
 }
 

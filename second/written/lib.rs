@@ -3,7 +3,7 @@
 mod example;
 
 pub use example::questions as examples;
-use second::verdict::{parse_marker, parse_solver, unhex, MarkerVerdict, PathsVerdict, SolverVerdict};
+use second::verdict::{parse_marker, parse_solver, unhex, FillVerdict, MarkerVerdict, SolverVerdict};
 
 pub struct Question {
     pub name: String,
@@ -15,7 +15,7 @@ pub struct Question {
 pub enum Expected {
     Solver { buffer: usize, allowance: u32, verdict: SolverVerdict },
     Marker { answer: Vec<u8>, verdict: MarkerVerdict },
-    Paths { buffer: usize, verdict: PathsVerdict },
+    Paths { buffer: usize, verdict: FillVerdict },
 }
 
 /// One question a line: its name, `solve`, constraints, buffer, allowance, verdict; or its name, `mark`, constraints, answer, verdict.
