@@ -109,6 +109,8 @@ unsafe extern "C" {
     ) -> u64;
     pub fn cudreth_mark(constraints: *const u8, constraints_len: usize, answer: *const u8, answer_len: usize) -> u64;
     pub fn cudreth_paths(text: *const u8, text_len: usize, records: *mut u8, records_len: usize) -> u64;
+    pub fn cudreth_xml_write(nodes: *const u8, nodes_len: usize, text: *mut u8, text_len: usize) -> u64;
+    pub fn cudreth_xml_read(text: *const u8, text_len: usize, nodes: *mut u8, nodes_len: usize) -> u64;
 }
 
 /// What `solve` answers. `count` is the number of alternatives entered.
