@@ -4,7 +4,7 @@
 #[path = "../../include/cudreth.rs"]
 mod cudreth;
 
-use cudreth::{cudreth_mark, cudreth_paths, cudreth_solve};
+use cudreth::{cudreth_mark, cudreth_paths, cudreth_solve, cudreth_xml_read, cudreth_xml_write};
 use second::one_pass::NumberOrN;
 use second::verdict::{hex, FillVerdict, MarkerVerdict, SolverVerdict};
 use second::Refusal;
@@ -110,6 +110,16 @@ type Filling = unsafe extern "C" fn(*const u8, usize, *mut u8, usize) -> u64;
 
 pub fn hold_paths(text: &[u8], buffer: usize, expected: &FillVerdict) -> Result<(), Disagreement> {
     hold_filling("paths", cudreth_paths, text, buffer, expected)
+}
+
+/// Node records to the writer of XML.
+pub fn hold_xml_write(node_records: &[u8], buffer: usize, expected: &FillVerdict) -> Result<(), Disagreement> {
+    hold_filling("xml write", cudreth_xml_write, node_records, buffer, expected)
+}
+
+/// A text to the reader of XML.
+pub fn hold_xml_read(text: &[u8], buffer: usize, expected: &FillVerdict) -> Result<(), Disagreement> {
+    hold_filling("xml read", cudreth_xml_read, text, buffer, expected)
 }
 
 fn hold_filling(
