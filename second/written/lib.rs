@@ -7,7 +7,7 @@ use second::verdict::{parse_marker, parse_solver, unhex, FillVerdict, MarkerVerd
 
 pub struct Question {
     pub name: String,
-    /// The constraint file, or the text of paths.
+    /// The constraint file, the text of paths, the node records or the text of XML.
     pub file: Vec<u8>,
     pub expected: Expected,
 }
@@ -16,6 +16,8 @@ pub enum Expected {
     Solver { buffer: usize, allowance: u32, verdict: SolverVerdict },
     Marker { answer: Vec<u8>, verdict: MarkerVerdict },
     Paths { buffer: usize, verdict: FillVerdict },
+    XmlWriter { buffer: usize, verdict: FillVerdict },
+    XmlReader { buffer: usize, verdict: FillVerdict },
 }
 
 /// One question a line: its name, `solve`, constraints, buffer, allowance, verdict; or its name, `mark`, constraints, answer, verdict.
