@@ -4,7 +4,7 @@ use crate::call::{open, written, Call};
 use crate::run::in_pieces;
 use crate::{hold_read, hold_verdict, text, Trial};
 use second::verdict::{FillVerdict, MarkerVerdict};
-use second::{LEAST_NODES_BUFFER, LEAST_TEXT_BUFFER};
+use second::{Refusal, LEAST_NODES_BUFFER, LEAST_TEXT_BUFFER};
 use std::fs::File;
 use std::process::Command;
 
@@ -119,7 +119,7 @@ impl Trial {
 
     /// Worked out by hand: one tree both ways, every question refused, and letters beside the others.
     pub fn trees_by_hand(&mut self) {
-        let refused = |question| FillVerdict::Refused(second::Refusal(question));
+        let refused = |question| FillVerdict::Refused(Refusal(question));
         self.toxml("a tree by depth", &BY_DEPTH, &FillVerdict::Written(ITS_TEXT.to_vec()));
         self.toxml("a tree in document order", &IN_ORDER, &FillVerdict::Written(ITS_TEXT.to_vec()));
         self.fromxml("a text of five elements", ITS_TEXT, &FillVerdict::Written(IN_ORDER.to_vec()));
@@ -146,9 +146,9 @@ impl Trial {
     /// Inputs that come through a pipe, so many bytes at a time.
     pub fn xml_in_pieces(&mut self) {
         let (full, too_many) = (chain_of_nodes(64), chain_of_nodes(65));
-        let long = [&chain_of_nodes(2_000)[..], &[2, 0, 0, 0]].concat();
+        let long = [&chain_of_nodes(1_100)[..], &[2, 0, 0, 0]].concat();
         let (longest, too_long) = (chain_of_tags(63), chain_of_tags(64));
-        let nodes = [&[][..], &BY_DEPTH, &BY_DEPTH[..23], &NO_NAME, &full, &too_many, &long, &long[..8_003]];
+        let nodes = [&[][..], &BY_DEPTH, &BY_DEPTH[..23], &NO_NAME, &full, &too_many, &long, &long[..4_403]];
         let texts = [&[][..], ITS_TEXT, &ITS_TEXT[..28], b"<a/>\n", &longest, &longest[..437], &too_long];
         for length in [1, 3, 4, 7, 1_000, 4_096] {
             for input in nodes {
@@ -182,7 +182,7 @@ impl Trial {
         for (xml, expected) in [(ITS_TEXT, ITS_TEXT), (LEAF, LEAF), (&longest, &longest), (NO_TEXT, b"refused 8\n")] {
             self.piped("fromxml", "toxml", xml, expected);
         }
-        for (xml, verdict) in [(ITS_TEXT, MarkerVerdict::Met), (NO_TEXT, MarkerVerdict::Refused(second::Refusal(8)))] {
+        for (xml, verdict) in [(ITS_TEXT, MarkerVerdict::Met), (NO_TEXT, MarkerVerdict::Refused(Refusal(8)))] {
             self.piped("fromxml", "mark", xml, text::of_mark(&verdict).as_bytes());
         }
     }
