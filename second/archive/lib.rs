@@ -122,6 +122,7 @@ pub fn hold_xml_read(text: &[u8], buffer: usize, expected: &FillVerdict) -> Resu
     hold_filling("xml read", cudreth_xml_read, text, buffer, expected)
 }
 
+/// All of them are lent alike, and tell alike what they wrote.
 fn hold_filling(
     name: &str,
     filling: Filling,
@@ -146,7 +147,7 @@ fn hold_filling(
             let front = &after[..after.len().min(1024)];
             return Err(Disagreement(format!(
                 "{name}, buffer {buffer}\ninput {}\nbytes {}\nexpected {expected} = {:#x}\narchive  {:#x}\nfront of the buffer after {}",
-                String::from_utf8_lossy(input),
+                input.escape_ascii(),
                 hex(input),
                 fill_number(expected),
                 result,

@@ -115,6 +115,7 @@ fn hold(question: &Question) -> Result<(), String> {
     held.map_err(|disagreement| disagreement.0)
 }
 
+/// The second side is asked first, so that an example that is wrong is not put down to the archive.
 fn hold_said<V: PartialEq + Display>(who: &str, verdict: &V, said: V) -> Result<(), String> {
     if said != *verdict {
         return Err(format!("written {verdict}, the second {who} says {said}"));

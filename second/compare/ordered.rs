@@ -38,6 +38,7 @@ impl Element {
         records
     }
 
+    /// An element has its number before those in it.
     fn add_records(&self, parent: u8, records: &mut Vec<u8>) {
         let own = (records.len() / 4) as u8;
         records.extend([1, own, parent, self.label]);

@@ -6,7 +6,7 @@ use crate::xml::shown;
 use crate::{disagree, Comparison};
 use second::verdict::FillVerdict;
 use second::Refusal;
-use std::collections::HashSet;
+use std::collections::{BTreeSet, HashSet};
 
 /// The text of every tree of up to 6 elements a, B and blank, and of 7 elements a and blank.
 type TextsOfTrees = HashSet<Vec<u8>>;
@@ -37,8 +37,8 @@ impl Comparison {
         self.all_rows_read("every text of up to 8 inside an element", &texts, inside, &["<", ">", "/", "a"], 8);
         const TAGS: &str = "every text of up to 7 tags";
         let read = self.all_rows_read(TAGS, &texts, alone, &["<a>", "</a>", "<a/>", "<_>", "</_>", "<_/>"], 7);
-        // By hand, of 1 to 7 tags: trees of 1 element; none; of 2; of 3, two of them leaves; of 3 in a chain and of 4, three of them leaves;
-        // and so on, each element with either label.
+        // By hand: a leaf has one tag, another element two. So of 1 to 7 tags there are 1, 0, 1, 1, 1 + 1, 3 + 1 and 1 + 6 + 1 trees without
+        // labels, of 1, 2, 3, 3 and 4, 4 and 5, and 4 to 6 elements; each element has either label.
         let by_hand = [2, 0, 4, 8, 8 + 16, 3 * 16 + 32, 16 + 6 * 32 + 64].iter().sum();
         if read != by_hand {
             disagree(TAGS, &format!("{read} were read, by hand {by_hand}"));
@@ -74,7 +74,7 @@ impl Comparison {
     }
 
     /// The text is read as the records of the tree, and the records are written as the text.
-    pub fn tree_by_rule(&mut self, sort: &'static str, tree: &Element, text: &[u8]) {
+    fn tree_by_rule(&mut self, sort: &'static str, tree: &Element, text: &[u8]) {
         let records = tree.records();
         let (read, written) = (self.text_as_tree(sort, text), self.tree_as_xml(sort, &records));
         if read != FillVerdict::Written(records) || written != FillVerdict::Written(text.to_vec()) {
@@ -130,8 +130,8 @@ impl Comparison {
     /// The same twice, with the bytes of the form and some more.
     fn two_edits_away(&mut self, texts: &TextsOfTrees) {
         for text in ["<a/>", "<a><B/></a>", "<_><_/></_>"] {
-            let once: HashSet<Vec<u8>> = edits(text.as_bytes(), b"<>/aB_ ").into_iter().collect();
-            let twice: HashSet<Vec<u8>> = once.iter().flat_map(|edited| edits(edited, b"<>/aB_ ")).collect();
+            let once: BTreeSet<Vec<u8>> = edits(text.as_bytes(), b"<>/aB_ ").into_iter().collect();
+            let twice: BTreeSet<Vec<u8>> = once.iter().flat_map(|edited| edits(edited, b"<>/aB_ ")).collect();
             for edited in &twice {
                 self.is_text_of_tree("texts of up to 2 elements two bytes away", texts, edited);
             }

@@ -64,6 +64,7 @@ impl Comparison {
         }
     }
 
+    /// Several at once, so that the first one that is no name does not hang on its place.
     fn labels_at_limits_written(&mut self) {
         for nodes in brute::LEAST_NODES..=4 {
             for shape in brute::shapes(nodes) {

@@ -128,6 +128,7 @@ impl Comparison {
     }
 }
 
+/// What is expected here hangs on the buffer alone.
 fn hold_by_hand(sort: &str, buffer: usize, input: &[u8], said: &FillVerdict, expected: &FillVerdict) {
     if said != expected {
         disagree(sort, &format!("{said}, by hand {expected}\nbuffer {buffer}\ninput {}", hex(input)));

@@ -72,6 +72,7 @@ impl Comparison {
         self.xml.note_if(other != *tree, "one tree in two numberings");
     }
 
+    /// Damage may make another right text, so that what is read is held to its own text.
     fn damaged_text_of_tree(&mut self, text: &[u8]) {
         let damaged = damaged_xml(&mut self.random, text);
         let verdict = self.text_as_tree("damaged texts of trees", &damaged);
@@ -104,6 +105,7 @@ impl Comparison {
         Some(format!("{}></{name}>{}", &text[..at], &text[at + 2..]))
     }
 
+    /// Something in front, behind or anywhere between.
     fn with_inserted(&mut self, text: &str, inserted: &str) -> String {
         let (front, back) = text.split_at(self.random.below(text.len() + 1));
         [front, inserted, back].concat()
@@ -116,6 +118,7 @@ impl Comparison {
         (text[at..at + 1] != *other).then(|| [&text[..at], other, &text[at + 1..]].concat())
     }
 
+    /// The same letter in the other case; a blank has none.
     fn with_other_closing_case(&mut self, text: &str) -> Option<String> {
         let at = self.some_place_of(text, "</")? + 2;
         let name = text.as_bytes()[at] as char;

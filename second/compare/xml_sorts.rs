@@ -76,6 +76,7 @@ pub const XML: [&str; 61] = [
 ];
 
 impl Comparison {
+    /// Of node records: what was written, or why not.
     pub fn note_xml_written(&mut self, records: &[u8], buffer: usize, failed: &[u8], verdict: &FillVerdict) {
         match verdict {
             FillVerdict::Refused(_) => self.note_nodes_refused(records, buffer, failed),
@@ -90,6 +91,7 @@ impl Comparison {
         }
     }
 
+    /// Which sorts of names a text has; case must not be lost.
     fn note_letters_written(&mut self, text: &[u8]) {
         let has = |letter: &u8| text.contains(letter);
         self.xml.note_if(has(&b'_'), "a blank written");
@@ -134,6 +136,7 @@ impl Comparison {
         }
     }
 
+    /// Of a text: how much was read, or why not.
     pub fn note_xml_read(&mut self, text: &[u8], buffer: usize, verdict: &FillVerdict) {
         match verdict {
             FillVerdict::Written(records) => {

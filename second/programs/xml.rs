@@ -41,6 +41,7 @@ pub fn as_second(program: &str, input: &[u8]) -> FillVerdict {
 }
 
 impl Trial {
+    /// The open file has one position, here and in the program.
     pub fn converting(&self, program: &str, input: &File) -> Call {
         let path = if program == "toxml" { &self.toxml } else { &self.fromxml };
         Call::new(path, &[], input.try_clone().expect("an open file is lent"))
@@ -63,10 +64,12 @@ impl Trial {
         self.seen.fromxml(xml, verdict);
     }
 
+    /// Where nothing is worked out by hand, the second writer is asked.
     fn toxml_as_second(&mut self, name: &str, nodes: &[u8]) {
         self.toxml(name, nodes, &as_second("toxml", nodes));
     }
 
+    /// The second reader likewise.
     fn fromxml_as_second(&mut self, name: &str, xml: &[u8]) {
         self.fromxml(name, xml, &as_second("fromxml", xml));
     }
@@ -160,6 +163,7 @@ impl Trial {
         }
     }
 
+    /// A read call may give less than there is.
     fn piece_by_piece(&mut self, program: &str, input: &[u8], length: usize) {
         let said = self.run(self.converting(program, &in_pieces(input, length)).command());
         let name = format!("{program} in pieces of {length} bytes");

@@ -38,6 +38,7 @@ fn name_of(label: u8) -> Option<u8> {
     }
 }
 
+/// The label that has this name, so that what is read is what was written.
 fn label_of(name: u8) -> Option<u8> {
     match name {
         BLANK_NAME => Some(0),
