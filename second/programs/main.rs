@@ -1,6 +1,6 @@
-//! Runs the built programs `solve`, `mark`, `paths`, `toxml` and `fromxml` and holds what they print, byte for byte, to what documents 01 and 02 say of them: the
-//! written questions, the benchmark files with their known counts, every limit, and what happens where a verdict cannot be given or
-//! printed. Stops at the first run that differs, with its name and exit status 1. What is expected is written, or the second side's.
+//! Runs the built programs `solve`, `mark`, `paths`, `toxml` and `fromxml` and holds what they print, byte for byte, to what documents 01 and 02
+//! say of them: the written questions, the benchmark files with their known counts, every limit, and what happens where a verdict cannot be
+//! given or printed. Stops at the first run that differs, with its name and exit status 1. What is expected is written, or the second side's.
 //!
 //! usage: programs FOLDER OF solve, mark, paths, toxml AND fromxml      from the root of the repository
 
