@@ -4,9 +4,9 @@
 #[path = "../../include/cudreth.rs"]
 mod cudreth;
 
-use cudreth::{cudreth_mark, cudreth_paths, cudreth_solve};
+use cudreth::{cudreth_mark, cudreth_paths, cudreth_solve, cudreth_xml_read, cudreth_xml_write};
 use second::one_pass::NumberOrN;
-use second::verdict::{hex, MarkerVerdict, PathsVerdict, SolverVerdict};
+use second::verdict::{hex, FillVerdict, MarkerVerdict, SolverVerdict};
 use second::Refusal;
 
 /// Where and how the archive differs, with the whole input.
@@ -105,28 +105,51 @@ pub fn hold_marker(file: &[u8], answer_file: &[u8], expected: &MarkerVerdict) ->
     Ok(())
 }
 
-pub fn hold_paths(text: &[u8], buffer: usize, expected: &PathsVerdict) -> Result<(), Disagreement> {
+/// A C function that takes one slice to read and fills the front of another.
+type Filling = unsafe extern "C" fn(*const u8, usize, *mut u8, usize) -> u64;
+
+pub fn hold_paths(text: &[u8], buffer: usize, expected: &FillVerdict) -> Result<(), Disagreement> {
+    hold_filling("paths", cudreth_paths, text, buffer, expected)
+}
+
+/// Node records to the writer of XML.
+pub fn hold_xml_write(node_records: &[u8], buffer: usize, expected: &FillVerdict) -> Result<(), Disagreement> {
+    hold_filling("xml write", cudreth_xml_write, node_records, buffer, expected)
+}
+
+/// A text to the reader of XML.
+pub fn hold_xml_read(text: &[u8], buffer: usize, expected: &FillVerdict) -> Result<(), Disagreement> {
+    hold_filling("xml read", cudreth_xml_read, text, buffer, expected)
+}
+
+/// All of them are lent alike, and tell alike what they wrote.
+fn hold_filling(
+    name: &str,
+    filling: Filling,
+    input: &[u8],
+    buffer: usize,
+    expected: &FillVerdict,
+) -> Result<(), Disagreement> {
     let written: &[u8] = match expected {
-        PathsVerdict::Written(records) => records,
-        PathsVerdict::Refused(_) => &[],
+        FillVerdict::Written(bytes) => bytes,
+        FillVerdict::Refused(_) => &[],
     };
     for way in &WAYS {
-        let mut lines = Lent::holding(text, way);
-        let mut records = Lent::noise(buffer, way);
-        let (text_lent, records_lent) = (lines.bytes(), records.bytes());
-        let result = unsafe {
-            cudreth_paths(text_lent.as_ptr(), text_lent.len(), records_lent.as_mut_ptr(), records_lent.len())
-        };
+        let mut read = Lent::holding(input, way);
+        let mut filled = Lent::noise(buffer, way);
+        let (read_lent, filled_lent) = (read.bytes(), filled.bytes());
+        let result =
+            unsafe { filling(read_lent.as_ptr(), read_lent.len(), filled_lent.as_mut_ptr(), filled_lent.len()) };
         let as_expected =
-            result == paths_number(expected) && records.changed_only_by(written) && lines.changed_only_by(&[]);
+            result == fill_number(expected) && filled.changed_only_by(written) && read.changed_only_by(&[]);
         if !as_expected {
-            let after = records.bytes();
+            let after = filled.bytes();
             let front = &after[..after.len().min(1024)];
             return Err(Disagreement(format!(
-                "paths, buffer {buffer}\ntext {}\nbytes {}\nexpected {expected} = {:#x}\narchive  {:#x}\nfront of the buffer after {}",
-                String::from_utf8_lossy(text),
-                hex(text),
-                paths_number(expected),
+                "{name}, buffer {buffer}\ninput {}\nbytes {}\nexpected {expected} = {:#x}\narchive  {:#x}\nfront of the buffer after {}",
+                input.escape_ascii(),
+                hex(input),
+                fill_number(expected),
                 result,
                 hex(front),
             )));
@@ -200,9 +223,9 @@ fn marker_number(verdict: &MarkerVerdict) -> u64 {
     }
 }
 
-fn paths_number(verdict: &PathsVerdict) -> u64 {
+fn fill_number(verdict: &FillVerdict) -> u64 {
     match verdict {
-        PathsVerdict::Written(records) => number(0, records.len() as u64, 0),
-        PathsVerdict::Refused(Refusal(question)) => number(3, 0, *question as u64),
+        FillVerdict::Written(bytes) => number(0, bytes.len() as u64, 0),
+        FillVerdict::Refused(Refusal(question)) => number(3, 0, *question as u64),
     }
 }

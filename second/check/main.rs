@@ -11,6 +11,7 @@ mod changes;
 
 use before::{Request, REQUESTS};
 use second::verdict::hex;
+use std::fmt::Display;
 use written::{Expected, Question};
 
 fn main() {
@@ -71,8 +72,8 @@ fn print_again(path: &str) {
             Expected::Marker { answer, .. } => {
                 println!("{name} mark {file} {} {}", hex(&answer), second::mark(&constraints, &answer));
             }
-            // No stored question is set as paths.
-            Expected::Paths { .. } => println!("{line}"),
+            // No stored question is set as paths or is of XML.
+            Expected::Paths { .. } | Expected::XmlWriter { .. } | Expected::XmlReader { .. } => println!("{line}"),
         }
     }
 }
@@ -86,28 +87,38 @@ fn fail(path: &str, how: &str) -> ! {
     std::process::exit(1);
 }
 
+/// What is written is what the second side says, and what the archive does.
 fn hold(question: &Question) -> Result<(), String> {
-    match &question.expected {
+    let file = &question.file;
+    let held = match &question.expected {
         Expected::Solver { buffer, allowance, verdict } => {
-            let said = second::solve(&question.file, *buffer, *allowance);
-            if said != *verdict {
-                return Err(format!("written {verdict}, the second solver says {said}"));
-            }
-            archive::hold_solver(&question.file, *buffer, *allowance, verdict).map_err(|disagreement| disagreement.0)
+            hold_said("solver", verdict, second::solve(file, *buffer, *allowance))?;
+            archive::hold_solver(file, *buffer, *allowance, verdict)
         }
         Expected::Marker { answer, verdict } => {
-            let said = second::mark(&question.file, answer);
-            if said != *verdict {
-                return Err(format!("written {verdict}, the second marker says {said}"));
-            }
-            archive::hold_marker(&question.file, answer, verdict).map_err(|disagreement| disagreement.0)
+            hold_said("marker", verdict, second::mark(file, answer))?;
+            archive::hold_marker(file, answer, verdict)
         }
         Expected::Paths { buffer, verdict } => {
-            let said = second::paths(&question.file, *buffer);
-            if said != *verdict {
-                return Err(format!("written {verdict}, the second reader of paths says {said}"));
-            }
-            archive::hold_paths(&question.file, *buffer, verdict).map_err(|disagreement| disagreement.0)
+            hold_said("reader of paths", verdict, second::paths(file, *buffer))?;
+            archive::hold_paths(file, *buffer, verdict)
         }
+        Expected::XmlWriter { buffer, verdict } => {
+            hold_said("writer of XML", verdict, second::xml_write(file, *buffer))?;
+            archive::hold_xml_write(file, *buffer, verdict)
+        }
+        Expected::XmlReader { buffer, verdict } => {
+            hold_said("reader of XML", verdict, second::xml_read(file, *buffer))?;
+            archive::hold_xml_read(file, *buffer, verdict)
+        }
+    };
+    held.map_err(|disagreement| disagreement.0)
+}
+
+/// The second side is asked first, so that an example that is wrong is not put down to the archive.
+fn hold_said<V: PartialEq + Display>(who: &str, verdict: &V, said: V) -> Result<(), String> {
+    if said != *verdict {
+        return Err(format!("written {verdict}, the second {who} says {said}"));
     }
+    Ok(())
 }

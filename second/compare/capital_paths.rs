@@ -5,7 +5,7 @@ use crate::small_capitals::LABELS;
 use crate::{disagree, Comparison};
 use questions::capitals::{capital, small};
 use second::path::{text_of, Axis, Path, Step, Test, AXES};
-use second::verdict::{PathsVerdict, SolverVerdict};
+use second::verdict::{FillVerdict, SolverVerdict};
 use second::{Refusal, LEAST_BUFFER};
 
 impl Comparison {
@@ -24,7 +24,7 @@ impl Comparison {
             let line = |steps: Vec<Step>| Path { from_root: false, steps };
             for lines in [vec![line(vec![one.clone()]), line(vec![other.clone()])], vec![line(vec![one, other])]] {
                 let text = text_of(&lines);
-                let PathsVerdict::Written(records) = self.text(SORT, &text) else {
+                let FillVerdict::Written(records) = self.text(SORT, &text) else {
                     disagree(SORT, &format!("refused\ntext {}", String::from_utf8_lossy(&text)));
                 };
                 let verdict = self.solve(SORT, &records, LEAST_BUFFER, 0);
@@ -38,7 +38,7 @@ impl Comparison {
     /// Axis names stay small: each with one letter or all as capitals is refused. So are two letters as a test.
     fn capitals_in_axes(&mut self) {
         const SORT: &str = "capitals in axes, and two letters";
-        let refused = PathsVerdict::Refused(Refusal(13));
+        let refused = FillVerdict::Refused(Refusal(13));
         for (_, name) in AXES {
             self.hold_text_by_rule(SORT, format!("{}::a\n", name.to_uppercase()).as_bytes(), &refused);
             for at in (0..name.len()).filter(|&at| name.as_bytes()[at] != b'-') {

@@ -9,7 +9,7 @@ use questions::capitals::{
 use second::closure::Clash;
 use second::path::{text_of, Path};
 use second::search::Trace;
-use second::verdict::{hex, MarkerVerdict, PathsVerdict, SolverVerdict};
+use second::verdict::{hex, FillVerdict, MarkerVerdict, SolverVerdict};
 use second::LEAST_BUFFER;
 
 pub const CAPITALS: [&str; 20] = [
@@ -175,14 +175,14 @@ impl Comparison {
     }
 
     /// A right text with its tests small and as capitals: the records have the bytes that stand in the text.
-    pub fn text_in_other_case(&mut self, lines: &[Path], verdict: &PathsVerdict) {
+    pub fn text_in_other_case(&mut self, lines: &[Path], verdict: &FillVerdict) {
         const SORT: &str = "texts in another case";
         for letter in [small, capital] {
             let text = text_of(&relabelled_lines(lines, &mut { letter }));
             let said = self.text(SORT, &text);
             let expected = match verdict {
-                PathsVerdict::Written(records) => PathsVerdict::Written(relabelled_question(records, letter)),
-                PathsVerdict::Refused(refusal) => PathsVerdict::Refused(*refusal),
+                FillVerdict::Written(records) => FillVerdict::Written(relabelled_question(records, letter)),
+                FillVerdict::Refused(refusal) => FillVerdict::Refused(*refusal),
             };
             if said != expected {
                 disagree(SORT, &format!("{said}, expected {expected}\ntext {}", String::from_utf8_lossy(&text)));

@@ -11,6 +11,7 @@ mod capitals;
 mod document;
 mod meaning;
 mod one_pass;
+mod ordered;
 mod path_rounds;
 mod path_sorts;
 mod paths;
@@ -25,6 +26,12 @@ mod small_capitals;
 mod small_document;
 mod small_passes;
 mod small_shuffles;
+mod small_xml_texts;
+mod small_xml_trees;
+mod xml;
+mod xml_limits;
+mod xml_rounds;
+mod xml_sorts;
 
 use brothers::BROTHERS;
 use came_up::CameUp;
@@ -40,6 +47,7 @@ use selection::{Selections, SmallTrees};
 use shuffled::SHUFFLES;
 use std::collections::BTreeMap;
 use std::time::{Duration, Instant};
+use xml_sorts::XML;
 
 struct Comparison {
     random: Random,
@@ -56,6 +64,7 @@ struct Comparison {
     capitals: CameUp,
     shuffles: CameUp,
     passes: CameUp,
+    xml: CameUp,
     path_sorts: PathSorts,
     selections: Selections,
     small_trees: SmallTrees,
@@ -76,7 +85,7 @@ fn main() {
         }
     }
     println!(
-        "compare: seed {seed}; all that is small, then random questions and texts on each processor for {seconds} s"
+        "compare: seed {seed}; all that is small, then random questions, texts and trees on each processor for {seconds} s"
     );
     let start = Instant::now();
     shares::compared(seconds, seed).report(start.elapsed());
@@ -100,6 +109,7 @@ impl Comparison {
             capitals: CameUp::new(&CAPITALS),
             shuffles: CameUp::new(&SHUFFLES),
             passes: CameUp::new(&PASSES),
+            xml: CameUp::new(&XML),
             path_sorts: PathSorts::default(),
             selections: Selections::default(),
             small_trees: SmallTrees::default(),
@@ -169,9 +179,12 @@ impl Comparison {
             .chain((1..=6).chain(8..=12).map(|question| format!("marker refused {question}")))
             .chain(constraint::KIND_NAMES.iter().map(|name| format!("unmet {name}")))
             .chain([7, 13, 14].map(|question| format!("paths refused {question}")))
-            .chain(["tree", "none", "spent", "met", "paths written"].map(String::from));
+            .chain([8, 9, 10, 11, 15, 17].map(|question| format!("xml write, refused {question}")))
+            .chain([16, 17].map(|question| format!("xml read, refused {question}")))
+            .chain(["tree", "none", "spent", "met", "paths written"].map(String::from))
+            .chain(["xml write, written", "xml read, written"].map(String::from));
         let not_seen = must_be_seen.into_iter().find(|verdict| !self.seen.contains_key(verdict));
-        let came_up = [&self.brothers, &self.document, &self.capitals, &self.shuffles, &self.passes];
+        let came_up = [&self.brothers, &self.document, &self.capitals, &self.shuffles, &self.passes, &self.xml];
         let not_seen = not_seen.or_else(|| came_up.into_iter().find_map(CameUp::missing));
         if let Some(sort) = not_seen.or_else(|| self.path_sort_not_seen()) {
             println!("compare: '{sort}' never came up; a longer run is needed");
@@ -187,6 +200,7 @@ impl Comparison {
         println!("compare: capitals: {}", self.capitals);
         println!("compare: shuffled papers: {}", self.shuffles);
         println!("compare: one pass: {}", self.passes);
+        println!("compare: trees as XML: {}", self.xml);
         let Selections { trees, nones, tree_by_tree } = self.selections;
         println!(
             "compare: paths against definition 2.3: variable 0 selected in {trees} trees found; {nones} times none, and no tree of up to \

@@ -4,7 +4,7 @@ use crate::Comparison;
 use questions::paths::{damaged_text, nested, pad_to_bytes, pad_to_variables, random_lines, PathMix};
 use second::path::{text_of, Path};
 use second::translate::translate;
-use second::verdict::PathsVerdict;
+use second::verdict::FillVerdict;
 
 impl Comparison {
     /// One random text and all that is asked about it.
@@ -48,7 +48,7 @@ impl Comparison {
             let buffer = self.random.pick(&[0, 1, 1023, 1025, 2000]);
             self.paths("damaged texts", &damaged, buffer);
         }
-        if matches!(verdict, PathsVerdict::Written(_)) {
+        if matches!(verdict, FillVerdict::Written(_)) {
             self.selection_round(&lines);
         }
     }

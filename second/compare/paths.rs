@@ -3,7 +3,7 @@
 use crate::{disagree, Comparison};
 use second::path::{self, text_of, Path, Step, Test, AXES};
 use second::translate::translate;
-use second::verdict::{hex, PathsVerdict};
+use second::verdict::{hex, FillVerdict};
 use second::{Refusal, LEAST_RECORDS_BUFFER};
 
 const ROOT_ALONE: Path = Path { from_root: true, steps: Vec::new() };
@@ -39,26 +39,26 @@ const BYTES: [u8; 33] = [
 ];
 
 impl Comparison {
-    pub fn paths(&mut self, sort: &'static str, text: &[u8], buffer: usize) -> PathsVerdict {
+    pub fn paths(&mut self, sort: &'static str, text: &[u8], buffer: usize) -> FillVerdict {
         let verdict = second::paths(text, buffer);
         self.hold_paths(sort, text, buffer, &verdict);
         verdict
     }
 
-    pub fn hold_paths(&mut self, sort: &'static str, text: &[u8], buffer: usize, expected: &PathsVerdict) {
+    pub fn hold_paths(&mut self, sort: &'static str, text: &[u8], buffer: usize, expected: &FillVerdict) {
         if let Err(disagreement) = archive::hold_paths(text, buffer, expected) {
             disagree(sort, &disagreement.0);
         }
         match expected {
-            PathsVerdict::Written(_) => self.tally(sort, "paths written".to_string()),
-            PathsVerdict::Refused(Refusal(question)) => self.tally(sort, format!("paths refused {question}")),
+            FillVerdict::Written(_) => self.tally(sort, "paths written".to_string()),
+            FillVerdict::Refused(Refusal(question)) => self.tally(sort, format!("paths refused {question}")),
         }
     }
 
     /// With a buffer that is long enough; what came up is noted, and the text must be what its syntax is printed as.
-    pub fn text(&mut self, sort: &'static str, text: &[u8]) -> PathsVerdict {
+    pub fn text(&mut self, sort: &'static str, text: &[u8]) -> FillVerdict {
         let verdict = self.paths(sort, text, LEAST_RECORDS_BUFFER);
-        let written = matches!(verdict, PathsVerdict::Written(_));
+        let written = matches!(verdict, FillVerdict::Written(_));
         self.note(if written { "bytes written" } else { "bytes refused" }, text.len());
         if let Some(lines) = path::read(text) {
             if text_of(&lines) != text {
@@ -160,18 +160,18 @@ impl Comparison {
         for (front, back, axis_records, reached) in [outside, in_brackets] {
             for byte in 0..=255u8 {
                 let expected = match byte {
-                    b'*' => PathsVerdict::Written(axis_records.clone()),
+                    b'*' => FillVerdict::Written(axis_records.clone()),
                     _ if byte.is_ascii_alphabetic() => {
-                        PathsVerdict::Written([&axis_records[..], &[8, reached, 0, byte]].concat())
+                        FillVerdict::Written([&axis_records[..], &[8, reached, 0, byte]].concat())
                     }
-                    _ => PathsVerdict::Refused(Refusal(13)),
+                    _ => FillVerdict::Refused(Refusal(13)),
                 };
                 self.hold_text_by_rule(SORT, &[front.as_bytes(), &[byte], back.as_bytes()].concat(), &expected);
             }
         }
     }
 
-    pub fn hold_text_by_rule(&mut self, sort: &'static str, text: &[u8], expected: &PathsVerdict) {
+    pub fn hold_text_by_rule(&mut self, sort: &'static str, text: &[u8], expected: &FillVerdict) {
         let said = self.text(sort, text);
         if said != *expected {
             let text = String::from_utf8_lossy(text);

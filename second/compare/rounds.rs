@@ -62,6 +62,7 @@ impl Comparison {
         self.solved_with_other_numbers(&solved, number_of_variables(&constraints));
         self.split_question(&solved.file);
         self.damaged(&solved);
+        self.solution_as_xml(&solved.verdict);
         self.answers(&solved, &constraints, &tree, &assignment);
     }
 

@@ -9,15 +9,18 @@ use std::thread;
 use std::time::{Duration, Instant};
 
 /// What is compared whatever the seed, what takes longest first.
-const PARTS: [fn(&mut Comparison); 10] = [
+const PARTS: [fn(&mut Comparison); 13] = [
     Comparison::all_small_questions,
     Comparison::all_small_shuffles,
     Comparison::all_small_capitals,
     Comparison::all_small_paths,
     Comparison::all_small_paths_with_capitals,
     Comparison::all_small_documents,
+    Comparison::all_small_texts_as_trees,
+    Comparison::all_small_trees_as_xml,
     Comparison::all_small_passes,
     Comparison::all_small_answers,
+    Comparison::xml_limits,
     Comparison::long_answers,
     Comparison::empty_files,
 ];
@@ -25,7 +28,7 @@ const PARTS: [fn(&mut Comparison); 10] = [
 /// As deep as on the main thread.
 const STACK_BYTES: usize = 8 << 20;
 
-/// All parts once; then random questions and texts of paths on each processor for so many seconds.
+/// All parts once; then random questions, texts of paths and trees as XML on each processor for so many seconds.
 pub fn compared(seconds: u64, seed: u64) -> Comparison {
     all_ordered_trees();
     let next_part = AtomicUsize::new(0);
@@ -53,6 +56,7 @@ impl Comparison {
             self.round();
             self.round();
             self.path_round();
+            self.xml_round();
         }
         self
     }
@@ -70,6 +74,7 @@ impl Comparison {
         self.capitals.add(other.capitals);
         self.shuffles.add(other.shuffles);
         self.passes.add(other.passes);
+        self.xml.add(other.xml);
         add(&mut self.path_sorts, other.path_sorts);
         self.selections.trees += other.selections.trees;
         self.selections.nones += other.selections.nones;

@@ -1,7 +1,7 @@
 //! Capitals (document 02, request (vi)): what the three programs say of them, worked out by hand.
 
 use crate::Trial;
-use second::verdict::{MarkerVerdict, PathsVerdict, SolverVerdict};
+use second::verdict::{FillVerdict, MarkerVerdict, SolverVerdict};
 use second::Refusal;
 
 const NONE: SolverVerdict = SolverVerdict::None { count: 0 };
@@ -39,8 +39,8 @@ impl Trial {
     }
 
     pub fn capitals_in_paths(&mut self) {
-        let written = |letter| PathsVerdict::Written(vec![4, 1, 0, 0, 8, 0, 0, letter]);
-        let refused = PathsVerdict::Refused(Refusal(13));
+        let written = |letter| FillVerdict::Written(vec![4, 1, 0, 0, 8, 0, 0, letter]);
+        let refused = FillVerdict::Refused(Refusal(13));
         self.paths("a capital as test", b"self::A\n", &written(b'A'));
         self.paths("the last capital as test", b"self::Z\n", &written(b'Z'));
         for text in [&b"SELF::a\n"[..], b"self::@\n", b"self::[\n", b"self::AA\n"] {

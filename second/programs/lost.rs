@@ -5,6 +5,7 @@ use crate::call::{nothing, open, written, Call};
 use crate::limits::{CHILD_0_1, LISTING, NODE_0, PARENT_AND_CHILD};
 use crate::paths::{SELF_A, SEVENTEEN_VARIABLES};
 use crate::run::Said;
+use crate::xml::{as_second, LEAF, NODES_OF_LEAF};
 use crate::{fail, hold_errors, text, Trial, ALLOWANCE, FILES};
 use second::{LEAST_BUFFER, LEAST_RECORDS_BUFFER};
 use std::fs::File;
@@ -16,7 +17,7 @@ enum Line<'a> {
     Names(&'a str),
 }
 
-/// A verdict to be printed: by which program, and on what. `paths` has a text, and no other program an answer but `mark`.
+/// A verdict to be printed: by which program, and on what. Only `mark` has an answer.
 struct Printing {
     program: &'static str,
     file: &'static [u8],
@@ -28,6 +29,7 @@ impl Printing {
         match self.program {
             "solve" => trial.solving(&open(&written("constraints", self.file))),
             "paths" => trial.reading_paths(&open(&written("text", self.file))),
+            "toxml" | "fromxml" => trial.converting(self.program, &open(&written("input", self.file))),
             _ => trial.marking(self.file, self.answer),
         }
     }
@@ -35,14 +37,15 @@ impl Printing {
     fn bytes(&self) -> Vec<u8> {
         match self.program {
             "solve" => text::of_solve(&second::solve(self.file, LEAST_BUFFER, ALLOWANCE)).into_bytes(),
-            "paths" => text::of_paths(&second::paths(self.file, LEAST_RECORDS_BUFFER)),
+            "paths" => text::of_fill(&second::paths(self.file, LEAST_RECORDS_BUFFER)),
+            "toxml" | "fromxml" => text::of_fill(&as_second(self.program, self.file)),
             _ => text::of_mark(&second::mark(self.file, self.answer)).into_bytes(),
         }
     }
 }
 
 /// Every verdict but spent, which differs from none by a word.
-const PRINTINGS: [Printing; 10] = [
+const PRINTINGS: [Printing; 14] = [
     Printing { program: "solve", file: &[], answer: &[] },
     Printing { program: "solve", file: &LISTING, answer: &[] },
     Printing { program: "solve", file: &[1, 0, 0, 0], answer: &[] },
@@ -53,6 +56,10 @@ const PRINTINGS: [Printing; 10] = [
     Printing { program: "paths", file: SELF_A, answer: &[] },
     Printing { program: "paths", file: b"", answer: &[] },
     Printing { program: "paths", file: SEVENTEEN_VARIABLES, answer: &[] },
+    Printing { program: "toxml", file: &NODES_OF_LEAF, answer: &[] },
+    Printing { program: "toxml", file: &NODE_0, answer: &[] },
+    Printing { program: "fromxml", file: LEAF, answer: &[] },
+    Printing { program: "fromxml", file: b"", answer: &[] },
 ];
 
 impl Trial {
@@ -62,9 +69,11 @@ impl Trial {
             self.output_closed(printing);
             self.output_cut_short(printing);
         }
-        let (solve, paths) = (self.solve.clone(), self.paths.clone());
+        let [solve, paths, toxml, fromxml] = [&self.solve, &self.paths, &self.toxml, &self.fromxml].map(String::clone);
         self.usage_of_reader("solve", &solve, &written("constraints", &LISTING), "usage: solve < CONSTRAINTS");
         self.usage_of_reader("paths", &paths, &written("text", SELF_A), "usage: paths < TEXT");
+        self.usage_of_reader("toxml", &toxml, &written("nodes", &NODES_OF_LEAF), "usage: toxml < NODES");
+        self.usage_of_reader("fromxml", &fromxml, &written("xml", LEAF), "usage: fromxml < TEXT");
         self.usage_of_mark();
         self.no_input();
         self.no_file();
@@ -117,8 +126,12 @@ impl Trial {
     }
 
     fn no_input(&mut self) {
-        let readers: [(&str, fn(&Trial, &File) -> Call); 2] =
-            [("solve", Trial::solving), ("paths", Trial::reading_paths)];
+        let readers: [(&str, fn(&Trial, &File) -> Call); 4] = [
+            ("solve", Trial::solving),
+            ("paths", Trial::reading_paths),
+            ("toxml", |trial, input| trial.converting("toxml", input)),
+            ("fromxml", |trial, input| trial.converting("fromxml", input)),
+        ];
         for (program, reading) in readers {
             let said = self.run(reading(self, &open(FILES)).command());
             self.hold_lost(program, "standard input is a folder", &said, Line::Names("standard input"));

@@ -1,8 +1,8 @@
-//! Runs the built programs `solve`, `mark` and `paths` and holds what they print, byte for byte, to what documents 01 and 02 say of them: the
-//! written questions, the benchmark files with their known counts, every limit, and what happens where a verdict cannot be given or
-//! printed. Stops at the first run that differs, with its name and exit status 1. What is expected is written, or the second side's.
+//! Runs the built programs `solve`, `mark`, `paths`, `toxml` and `fromxml` and holds what they print, byte for byte, to what documents 01 and 02
+//! say of them: the written questions, the benchmark files with their known counts, every limit, and what happens where a verdict cannot be
+//! given or printed. Stops at the first run that differs, with its name and exit status 1. What is expected is written, or the second side's.
 //!
-//! usage: programs FOLDER OF solve, mark AND paths      from the root of the repository
+//! usage: programs FOLDER OF solve, mark, paths, toxml AND fromxml      from the root of the repository
 
 mod call;
 mod capitals;
@@ -14,10 +14,11 @@ mod run;
 mod seen;
 mod text;
 mod together;
+mod xml;
 
 use call::{nothing, open, written, Call};
 use run::Said;
-use second::verdict::{hex, MarkerVerdict, PathsVerdict, SolverVerdict};
+use second::verdict::{hex, FillVerdict, MarkerVerdict, SolverVerdict};
 use seen::Seen;
 use std::fmt::Display;
 use std::fs::File;
@@ -36,6 +37,8 @@ struct Trial {
     solve: String,
     mark: String,
     paths: String,
+    toxml: String,
+    fromxml: String,
     runs: u64,
     seen: Seen,
     /// Written questions whose result under `solve`'s allowance and buffer the second solver was asked for.
@@ -45,7 +48,7 @@ struct Trial {
 }
 
 /// What is run, in this order.
-const PARTS: [(&str, fn(&mut Trial)); 16] = [
+const PARTS: [(&str, fn(&mut Trial)); 21] = [
     ("written questions", Trial::written_questions),
     ("benchmark files", Trial::known_counts),
     ("constraint files by length", Trial::lengths_of_constraints),
@@ -58,8 +61,13 @@ const PARTS: [(&str, fn(&mut Trial)); 16] = [
     ("capitals to mark", Trial::capitals_marked),
     ("capitals in texts of paths", Trial::capitals_in_paths),
     ("capitals piped on to solve", Trial::capitals_piped),
+    ("trees as XML by hand", Trial::trees_by_hand),
+    ("node records by length", Trial::lengths_of_nodes),
+    ("texts of XML by length", Trial::lengths_of_xml),
+    ("XML piped on", Trial::xml_piped),
     ("files in pieces", Trial::pieces),
     ("texts of paths in pieces", Trial::texts_in_pieces),
+    ("XML in pieces", Trial::xml_in_pieces),
     ("usages and losses", Trial::lost),
     ("at once into one pipe", Trial::together),
 ];
@@ -67,7 +75,7 @@ const PARTS: [(&str, fn(&mut Trial)); 16] = [
 fn main() {
     let words: Vec<String> = std::env::args().skip(1).collect();
     let [folder] = words.as_slice() else {
-        eprintln!("usage: programs FOLDER OF solve, mark AND paths");
+        eprintln!("usage: programs FOLDER OF solve, mark, paths, toxml AND fromxml");
         std::process::exit(2);
     };
     std::fs::create_dir_all(FILES).unwrap_or_else(|error| fail(FILES, &error));
@@ -76,6 +84,8 @@ fn main() {
         solve: format!("{folder}/solve"),
         mark: format!("{folder}/mark"),
         paths: format!("{folder}/paths"),
+        toxml: format!("{folder}/toxml"),
+        fromxml: format!("{folder}/fromxml"),
         runs: 0,
         seen: Seen::default(),
         asked_anew: 0,
@@ -135,16 +145,16 @@ impl Trial {
         let input = open(&written("constraints", constraints));
         let said = self.run(self.solving(&input).command());
         hold_verdict(name, &said, text::of_solve(verdict), &[("constraints", constraints)]);
-        hold_read(name, input, constraints);
+        hold_read(name, input, constraints, MOST_READ);
         self.seen.solve(constraints, verdict);
     }
 
     /// Holds `paths` to the bytes of a verdict, and to reading no byte too many.
-    fn paths(&mut self, name: &str, lines: &[u8], verdict: &PathsVerdict) {
+    fn paths(&mut self, name: &str, lines: &[u8], verdict: &FillVerdict) {
         let input = open(&written("text", lines));
         let said = self.run(self.reading_paths(&input).command());
-        hold_verdict(name, &said, text::of_paths(verdict), &[("text", lines)]);
-        hold_read(name, input, lines);
+        hold_verdict(name, &said, text::of_fill(verdict), &[("text", lines)]);
+        hold_read(name, input, lines, MOST_READ);
         self.seen.paths(lines, verdict);
     }
 
@@ -170,10 +180,10 @@ fn hold_verdict(name: &str, said: &Said, expected: impl AsRef<[u8]>, files: &[(&
     }
 }
 
-/// The program has read its standard input to the end, or as much of it as it reads.
-fn hold_read(name: &str, mut input: File, bytes: &[u8]) {
+/// The program has read its standard input to the end, or as much of it as it reads at most.
+fn hold_read(name: &str, mut input: File, bytes: &[u8], most: usize) {
     let read = input.stream_position().expect("a file has a position");
-    if read != bytes.len().min(MOST_READ) as u64 {
+    if read != bytes.len().min(most) as u64 {
         fail(name, &format!("{read} of {} bytes were read", bytes.len()));
     }
 }

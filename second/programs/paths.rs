@@ -63,7 +63,7 @@ impl Trial {
             SEVENTEEN_VARIABLES,
         ];
         for lines in texts {
-            let printed = text::of_paths(&second::paths(lines, LEAST_RECORDS_BUFFER));
+            let printed = text::of_fill(&second::paths(lines, LEAST_RECORDS_BUFFER));
             self.piped_on_to_solve(lines, &second::solve(&printed, LEAST_BUFFER, ALLOWANCE));
         }
     }
@@ -90,7 +90,7 @@ impl Trial {
             for lines in [&[][..], SELF_A, &SELF_A[..7], SEVENTEEN_VARIABLES, &full, &full[..1_023], &too_long] {
                 let said = self.run(self.reading_paths(&in_pieces(lines, length)).command());
                 let verdict = second::paths(lines, LEAST_RECORDS_BUFFER);
-                hold_verdict(&name, &said, text::of_paths(&verdict), &[("text", lines)]);
+                hold_verdict(&name, &said, text::of_fill(&verdict), &[("text", lines)]);
                 self.seen.note("paths: in pieces");
             }
         }

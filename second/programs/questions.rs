@@ -1,9 +1,10 @@
 //! The stored questions and the examples, and the benchmark files with their known counts.
 
 use crate::call::open;
+use crate::xml::as_second;
 use crate::{fail, hold_verdict, text, Trial, ALLOWANCE};
 use second::verdict::{hex, MarkerVerdict, SolverVerdict};
-use second::{Refusal, LEAST_BUFFER, LEAST_RECORDS_BUFFER};
+use second::{Refusal, LEAST_BUFFER, LEAST_NODES_BUFFER, LEAST_RECORDS_BUFFER, LEAST_TEXT_BUFFER};
 use written::{Expected, Question};
 
 /// The second solver is asked where it can tell within so many choices.
@@ -26,11 +27,19 @@ impl Trial {
         let file = &question.file;
         match &question.expected {
             Expected::Marker { answer, verdict } => self.mark(name, file, answer, verdict),
-            // The program's own buffer is long enough.
+            // The programs' own buffers are long enough.
             Expected::Paths { buffer, .. } if *buffer < LEAST_RECORDS_BUFFER => {
                 self.paths(name, file, &second::paths(file, LEAST_RECORDS_BUFFER));
             }
+            Expected::XmlWriter { buffer, .. } if *buffer < LEAST_TEXT_BUFFER => {
+                self.toxml(name, file, &as_second("toxml", file));
+            }
+            Expected::XmlReader { buffer, .. } if *buffer < LEAST_NODES_BUFFER => {
+                self.fromxml(name, file, &as_second("fromxml", file));
+            }
             Expected::Paths { verdict, .. } => self.paths(name, file, verdict),
+            Expected::XmlWriter { verdict, .. } => self.toxml(name, file, verdict),
+            Expected::XmlReader { verdict, .. } => self.fromxml(name, file, verdict),
             Expected::Solver { verdict, .. } if holds_for_the_program(verdict) => self.solve(name, file, verdict),
             Expected::Solver { .. } => match second::solve(file, LEAST_BUFFER, AFFORDABLE) {
                 SolverVerdict::Spent { .. } => self.left_out += 1,

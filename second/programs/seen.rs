@@ -1,7 +1,7 @@
 //! The sorts of what has been run, and which must come up.
 
 use second::constraint::KIND_NAMES;
-use second::verdict::{MarkerVerdict, PathsVerdict, SolverVerdict};
+use second::verdict::{FillVerdict, MarkerVerdict, SolverVerdict};
 use second::Refusal;
 use std::collections::BTreeSet;
 
@@ -62,21 +62,50 @@ impl Seen {
         }
     }
 
-    pub fn paths(&mut self, text: &[u8], verdict: &PathsVerdict) {
+    pub fn paths(&mut self, text: &[u8], verdict: &FillVerdict) {
         self.note(format!("paths: {}", length_of(text)));
         if text.iter().any(u8::is_ascii_uppercase) {
             self.note(match verdict {
-                PathsVerdict::Written(_) => "paths: a capital written",
-                PathsVerdict::Refused(_) => "paths: a capital refused",
+                FillVerdict::Written(_) => "paths: a capital written",
+                FillVerdict::Refused(_) => "paths: a capital refused",
             });
         }
         match verdict {
-            PathsVerdict::Written(records) => self.note(match records.len() {
+            FillVerdict::Written(records) => self.note(match records.len() {
                 4 => "paths: one record written",
                 180 => "paths: 45 records written",
                 _ => "paths: records written",
             }),
-            PathsVerdict::Refused(Refusal(question)) => self.note(format!("paths: refused {question}")),
+            FillVerdict::Refused(Refusal(question)) => self.note(format!("paths: refused {question}")),
+        }
+    }
+
+    pub fn toxml(&mut self, nodes: &[u8], verdict: &FillVerdict) {
+        self.note(format!("toxml: {}", length_of_nodes(nodes)));
+        match verdict {
+            FillVerdict::Written(text) => {
+                self.note(if text.len() == 438 { "toxml: 438 bytes written" } else { "toxml: a text written" });
+                for (sort, holds) in [
+                    ("a blank", text.contains(&b'_')),
+                    ("a capital", text.iter().any(u8::is_ascii_uppercase)),
+                    ("a small letter", text.iter().any(u8::is_ascii_lowercase)),
+                ] {
+                    if holds {
+                        self.note(format!("toxml: {sort} written"));
+                    }
+                }
+            }
+            FillVerdict::Refused(Refusal(question)) => self.note(format!("toxml: refused {question}")),
+        }
+    }
+
+    pub fn fromxml(&mut self, text: &[u8], verdict: &FillVerdict) {
+        self.note(format!("fromxml: {}", length_of_xml(text)));
+        match verdict {
+            FillVerdict::Written(nodes) => {
+                self.note(if nodes.len() == 256 { "fromxml: 64 nodes written" } else { "fromxml: nodes written" });
+            }
+            FillVerdict::Refused(Refusal(question)) => self.note(format!("fromxml: refused {question}")),
         }
     }
 
@@ -94,6 +123,8 @@ fn must_be_seen() -> Vec<String> {
     let mut sorts: Vec<String> = Vec::new();
     for program in ["solve", "mark", "paths"] {
         sorts.extend(LENGTHS.map(|length| format!("{program}: {length}")));
+    }
+    for program in ["solve", "mark", "paths", "toxml", "fromxml"] {
         let lost = ["is a full device", "is closed", "has room for three bytes"];
         sorts.extend(lost.map(|how| format!("{program}: standard output {how}")));
         sorts.extend(["usage", "in pieces", "at once"].map(|sort| format!("{program}: {sort}")));
@@ -101,7 +132,7 @@ fn must_be_seen() -> Vec<String> {
     for program in ["solve", "mark"] {
         sorts.extend((1..=6).map(|question| format!("{program}: refused {question}")));
     }
-    for program in ["solve", "paths"] {
+    for program in ["solve", "paths", "toxml", "fromxml"] {
         sorts.extend(["is a folder", "is closed"].map(|how| format!("{program}: standard input {how}")));
     }
     sorts.extend(["tree", "none", "spent 1000000"].map(|sort| format!("solve: {sort}")));
@@ -120,6 +151,22 @@ fn must_be_seen() -> Vec<String> {
     sorts.extend(["one record", "records", "45 records"].map(|count| format!("paths: {count} written")));
     sorts.extend([13, 14].map(|question| format!("paths: refused {question}")));
     sorts.extend(["tree", "none", "refused 2"].map(|verdict| format!("paths: piped on to solve, {verdict}")));
+    sorts.extend(of_xml());
+    sorts
+}
+
+/// Of trees as XML; 17 cannot come up, since the programs' own buffers are long enough.
+fn of_xml() -> Vec<String> {
+    let mut sorts: Vec<String> = Vec::new();
+    sorts.extend(LENGTHS_OF_NODES.map(|length| format!("toxml: {length}")));
+    sorts.extend(LENGTHS_OF_XML.map(|length| format!("fromxml: {length}")));
+    sorts.extend([8, 9, 10, 11, 15].map(|question| format!("toxml: refused {question}")));
+    let written = ["a text", "438 bytes", "a blank", "a capital", "a small letter"];
+    sorts.extend(written.map(|what| format!("toxml: {what} written")));
+    sorts.extend(["nodes written", "64 nodes written", "refused 16"].map(|what| format!("fromxml: {what}")));
+    for (from, to) in [("toxml", "fromxml"), ("fromxml", "toxml"), ("fromxml", "mark")] {
+        sorts.extend(["as written", "refused"].map(|how| format!("{from}: piped on to {to}, {how}")));
+    }
     sorts
 }
 
@@ -132,6 +179,42 @@ fn length_of(constraints: &[u8]) -> &'static str {
         1_024 => 2,
         1_025 => 3,
         _ => 4,
+    }]
+}
+
+const LENGTHS_OF_NODES: [&str; 6] =
+    ["no byte", "up to 64 nodes", "above 64 nodes", "above 4,096 bytes", "above 65,536 bytes", "above 999,999 bytes"];
+
+fn length_of_nodes(nodes: &[u8]) -> &'static str {
+    LENGTHS_OF_NODES[match nodes.len() {
+        0 => 0,
+        1..=256 => 1,
+        257..=4_096 => 2,
+        4_097..=65_536 => 3,
+        65_537..=999_999 => 4,
+        _ => 5,
+    }]
+}
+
+const LENGTHS_OF_XML: [&str; 7] = [
+    "no byte",
+    "below 438 bytes",
+    "438 bytes",
+    "above 438 bytes",
+    "above 4,096 bytes",
+    "above 65,536 bytes",
+    "above 999,999 bytes",
+];
+
+fn length_of_xml(text: &[u8]) -> &'static str {
+    LENGTHS_OF_XML[match text.len() {
+        0 => 0,
+        1..=437 => 1,
+        438 => 2,
+        439..=4_096 => 3,
+        4_097..=65_536 => 4,
+        65_537..=999_999 => 5,
+        _ => 6,
     }]
 }
 

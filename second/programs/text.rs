@@ -1,7 +1,7 @@
-//! What the programs print (document 01, 'Program `solve`'; `paths` prints bytes), made of a verdict.
+//! What the programs print (document 01, 'Program `solve`'; the programs that fill a buffer print its bytes), made of a verdict.
 
 use second::constraint::KIND_NAMES;
-use second::verdict::{MarkerVerdict, PathsVerdict, SolverVerdict};
+use second::verdict::{FillVerdict, MarkerVerdict, SolverVerdict};
 use second::Refusal;
 
 pub fn of_solve(verdict: &SolverVerdict) -> String {
@@ -21,11 +21,11 @@ pub fn of_mark(verdict: &MarkerVerdict) -> String {
     }
 }
 
-/// The records as they are, or a line of text that is no constraint file: its length is no multiple of 4.
-pub fn of_paths(verdict: &PathsVerdict) -> Vec<u8> {
+/// The bytes as they are, or a line of text.
+pub fn of_fill(verdict: &FillVerdict) -> Vec<u8> {
     match verdict {
-        PathsVerdict::Written(records) => records.clone(),
-        PathsVerdict::Refused(Refusal(question)) => format!("refused {question}\n").into_bytes(),
+        FillVerdict::Written(bytes) => bytes.clone(),
+        FillVerdict::Refused(Refusal(question)) => format!("refused {question}\n").into_bytes(),
     }
 }
 

@@ -3,6 +3,7 @@
 use crate::call::{nothing, open, written, Call};
 use crate::limits::{CHILD_0_1, LISTING, PARENT_AND_CHILD};
 use crate::paths::right_text;
+use crate::xml::{LEAF, NODES_OF_LEAF};
 use crate::{fail, hold_errors, run, text, Trial, ALLOWANCE};
 use second::{LEAST_BUFFER, LEAST_RECORDS_BUFFER};
 use std::io::Read;
@@ -25,9 +26,17 @@ impl Trial {
 
         let lines = right_text(100);
         let path = written("text", &lines);
-        let expected = text::of_paths(&second::paths(&lines, LEAST_RECORDS_BUFFER));
+        let expected = text::of_fill(&second::paths(&lines, LEAST_RECORDS_BUFFER));
         let paths = self.paths.clone();
         self.at_once("paths: at once", 200, &expected, || Call::new(&paths, &[], open(&path)));
+
+        let path = written("nodes", &NODES_OF_LEAF);
+        let toxml = self.toxml.clone();
+        self.at_once("toxml: at once", 200, LEAF, || Call::new(&toxml, &[], open(&path)));
+
+        let path = written("xml", LEAF);
+        let fromxml = self.fromxml.clone();
+        self.at_once("fromxml: at once", 200, &NODES_OF_LEAF, || Call::new(&fromxml, &[], open(&path)));
     }
 
     fn at_once(&mut self, name: &str, runs: u64, expected: &[u8], call: impl Fn() -> Call + Sync) {

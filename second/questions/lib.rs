@@ -4,6 +4,7 @@ pub mod capitals;
 pub mod document;
 pub mod paths;
 pub mod shuffle;
+pub mod xml;
 
 use capitals::in_either_case;
 use second::constraint::{Constraint, Variable};
@@ -209,4 +210,27 @@ fn random_label(random: &mut Random) -> u8 {
 
 pub fn random_assignment(random: &mut Random, variables: usize, tree: &Tree) -> Assignment {
     Assignment((0..variables).map(|_| Node(random.below(tree.parents.len()))).collect())
+}
+
+/// What a hand might slip: bytes lacking, doubled, changed or moved, words of the language in the wrong place, lines too many or too few.
+pub fn damaged_bytes(random: &mut Random, text: &[u8], words: &[&[u8]]) -> Vec<u8> {
+    let mut bytes = text.to_vec();
+    for _ in 0..1 + random.below(2) {
+        let at = random.below(bytes.len() + 1);
+        let to = at + random.below(bytes.len() - at + 1).min(1 + random.below(12));
+        match random.below(9) {
+            0 | 1 => drop(bytes.drain(at..to.min(at + 1))),
+            2 => drop(bytes.drain(at..to)),
+            3 => drop(bytes.splice(at..at, random.pick(words).iter().copied())),
+            4 => drop(bytes.splice(at..to, random.pick(words).iter().copied())),
+            5 => drop(bytes.splice(at..at, bytes[at..to].to_vec())),
+            6 => bytes.truncate(at),
+            7 => {
+                let changed = random.byte();
+                bytes.iter_mut().skip(at).take(1).for_each(|byte| *byte = changed);
+            }
+            _ => bytes = bytes.repeat(random.pick(&[2, 3, 9])),
+        }
+    }
+    bytes
 }

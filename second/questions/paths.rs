@@ -1,6 +1,6 @@
 //! Seeded texts of paths: right ones as syntax, and damage to their bytes.
 
-use crate::Random;
+use crate::{damaged_bytes, Random};
 use second::path::{Axis, Path, Step, Test, AXES};
 use second::translate::translate;
 
@@ -125,7 +125,7 @@ pub fn nested(random: &mut Random, depth: usize, mix: &PathMix) -> Path {
     path
 }
 
-/// What a hand might slip: bytes lacking, doubled, changed or moved, words of the language in the wrong place, lines too many or too few.
+/// A text with bytes wrong, or with words of the language in the wrong place.
 pub fn damaged_text(random: &mut Random, text: &[u8]) -> Vec<u8> {
     const WORDS: [&[u8]; 24] = [
         b"/",
@@ -153,23 +153,5 @@ pub fn damaged_text(random: &mut Random, text: &[u8]) -> Vec<u8> {
         b"self::*",
         b"\0",
     ];
-    let mut bytes = text.to_vec();
-    for _ in 0..1 + random.below(2) {
-        let at = random.below(bytes.len() + 1);
-        let to = at + random.below(bytes.len() - at + 1).min(1 + random.below(12));
-        match random.below(9) {
-            0 | 1 => drop(bytes.drain(at..to.min(at + 1))),
-            2 => drop(bytes.drain(at..to)),
-            3 => drop(bytes.splice(at..at, random.pick(&WORDS).iter().copied())),
-            4 => drop(bytes.splice(at..to, random.pick(&WORDS).iter().copied())),
-            5 => drop(bytes.splice(at..at, bytes[at..to].to_vec())),
-            6 => bytes.truncate(at),
-            7 => {
-                let changed = random.byte();
-                bytes.iter_mut().skip(at).take(1).for_each(|byte| *byte = changed);
-            }
-            _ => bytes = bytes.repeat(random.pick(&[2, 3, 9])),
-        }
-    }
-    bytes
+    damaged_bytes(random, text, &WORDS)
 }

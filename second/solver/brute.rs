@@ -83,7 +83,8 @@ pub fn trees(nodes: usize, labels: &[u8]) -> Vec<Tree> {
     ordered_shapes(nodes).into_iter().flat_map(labelled).collect()
 }
 
-fn words(letters: &[u8], length: usize) -> Vec<Vec<u8>> {
+/// Every row of this many letters.
+pub fn words(letters: &[u8], length: usize) -> Vec<Vec<u8>> {
     (0..length).fold(vec![Vec::new()], |words, _| {
         words.iter().flat_map(|word| letters.iter().map(|&letter| [word.as_slice(), &[letter]].concat())).collect()
     })

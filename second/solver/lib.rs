@@ -1,5 +1,5 @@
-//! A second solver, marker and reader of paths, written from documents 01 and 02 and the source papers and from nothing else, to be held
-//! against the proved ones.
+//! A second solver, marker, reader of paths, and writer and reader of XML, written from documents 01 and 02 and the source papers and from
+//! nothing else, to be held against the proved ones.
 //! Facts are kept in sets and closed by repeating the rules; nothing here is clever, so that each line can be read beside its sentence.
 
 pub mod answer;
@@ -15,9 +15,10 @@ pub mod select;
 pub mod translate;
 pub mod tree;
 pub mod verdict;
+pub mod xml;
 
 use search::{Outcome, Trace};
-use verdict::{MarkerVerdict, PathsVerdict, SolverVerdict};
+use verdict::{FillVerdict, MarkerVerdict, SolverVerdict};
 
 /// The number of the question that a file or buffer fails.
 #[derive(Clone, Copy, PartialEq, Eq, Debug)]
@@ -27,6 +28,9 @@ pub struct Refusal(pub u8);
 pub const LEAST_BUFFER: usize = 136;
 /// The shortest buffer that question 7 lets pass for the records of paths.
 pub const LEAST_RECORDS_BUFFER: usize = 1024;
+/// The shortest buffers that question 17 lets pass, for the text of a tree and for its node records.
+pub const LEAST_TEXT_BUFFER: usize = 512;
+pub const LEAST_NODES_BUFFER: usize = 256;
 
 pub fn solve(constraint_file: &[u8], buffer_length: usize, allowance: u32) -> SolverVerdict {
     solve_traced(constraint_file, buffer_length, allowance).0
@@ -71,16 +75,42 @@ pub fn mark(constraint_file: &[u8], answer_file: &[u8]) -> MarkerVerdict {
 }
 
 /// Question 7, then 13, then 14.
-pub fn paths(text: &[u8], buffer_length: usize) -> PathsVerdict {
+pub fn paths(text: &[u8], buffer_length: usize) -> FillVerdict {
     if buffer_length < LEAST_RECORDS_BUFFER {
-        return PathsVerdict::Refused(Refusal(7));
+        return FillVerdict::Refused(Refusal(7));
     }
     let Some(lines) = path::read(text) else {
-        return PathsVerdict::Refused(Refusal(13));
+        return FillVerdict::Refused(Refusal(13));
     };
     let translation = translate::translate(&lines);
     if translation.variables > translate::MOST_VARIABLES {
-        return PathsVerdict::Refused(Refusal(14));
+        return FillVerdict::Refused(Refusal(14));
     }
-    PathsVerdict::Written(constraint::write(&translation.records))
+    FillVerdict::Written(constraint::write(&translation.records))
+}
+
+/// Questions 8 to 11, then 17, then 15.
+pub fn xml_write(node_records: &[u8], buffer_length: usize) -> FillVerdict {
+    let tree = match answer::read_nodes(node_records) {
+        Ok(tree) => tree,
+        Err(refusal) => return FillVerdict::Refused(refusal),
+    };
+    if buffer_length < LEAST_TEXT_BUFFER {
+        return FillVerdict::Refused(Refusal(17));
+    }
+    match xml::write(&tree) {
+        Some(text) => FillVerdict::Written(text),
+        None => FillVerdict::Refused(Refusal(15)),
+    }
+}
+
+/// Question 17, then 16.
+pub fn xml_read(text: &[u8], buffer_length: usize) -> FillVerdict {
+    if buffer_length < LEAST_NODES_BUFFER {
+        return FillVerdict::Refused(Refusal(17));
+    }
+    match xml::read(text) {
+        Some(tree) => FillVerdict::Written(answer::write_nodes(&tree)),
+        None => FillVerdict::Refused(Refusal(16)),
+    }
 }

@@ -1,4 +1,4 @@
-//! What the solver, the marker and the reader of paths answer, and the words for it in the stored files and the examples.
+//! What the solver, the marker and the parts that fill a lent buffer answer, and the words for it in the stored files and the examples.
 
 use crate::constraint::KIND_NAMES;
 use crate::Refusal;
@@ -19,8 +19,9 @@ pub enum MarkerVerdict {
     Refused(Refusal),
 }
 
+/// Of each part that fills the front of a lent buffer and is no solver: the reader of paths, the writer and the reader of XML.
 #[derive(Clone, PartialEq, Eq, Debug)]
-pub enum PathsVerdict {
+pub enum FillVerdict {
     Written(Vec<u8>),
     Refused(Refusal),
 }
@@ -48,11 +49,11 @@ impl fmt::Display for MarkerVerdict {
     }
 }
 
-impl fmt::Display for PathsVerdict {
+impl fmt::Display for FillVerdict {
     fn fmt(&self, f: &mut fmt::Formatter) -> fmt::Result {
         match self {
-            PathsVerdict::Written(records) => write!(f, "written {}", hex(records)),
-            PathsVerdict::Refused(Refusal(question)) => write!(f, "refused {question}"),
+            FillVerdict::Written(bytes) => write!(f, "written {}", hex(bytes)),
+            FillVerdict::Refused(Refusal(question)) => write!(f, "refused {question}"),
         }
     }
 }
@@ -82,10 +83,10 @@ pub fn parse_marker(words: &[&str]) -> Option<MarkerVerdict> {
 }
 
 /// Reads what `Display` writes.
-pub fn parse_paths(words: &[&str]) -> Option<PathsVerdict> {
+pub fn parse_fill(words: &[&str]) -> Option<FillVerdict> {
     match *words {
-        ["written", records] => Some(PathsVerdict::Written(unhex(records)?)),
-        ["refused", question] => Some(PathsVerdict::Refused(Refusal(question.parse().ok()?))),
+        ["written", bytes] => Some(FillVerdict::Written(unhex(bytes)?)),
+        ["refused", question] => Some(FillVerdict::Refused(Refusal(question.parse().ok()?))),
         _ => None,
     }
 }

@@ -8,27 +8,40 @@
 //!     path child::a[/]        a line of paths with its byte 10, so the question is for the reader of paths
 //!     text child::a           the same without byte 10
 //!     paths                   the same without a byte, for a text that has neither of them
-//!     buffer 135              the lent buffer, 136 unless said, or 1024 for paths
+//!     nodes                   node records follow, which are to be written as XML
+//!     xml <a><b/></a>         a text of XML, to be read; xml alone is one without a byte
+//!     buffer 135              the lent buffer; unless said 136, for paths 1024, for XML to be written 512 and to be read 256
 //!     allowance 5             1000000 unless said
 //!     answer                  a candidate's answer follows, so the question is for the marker
 //!     node 0 0 a              number, parent, label
 //!     var 0 0                 variable, node
-//!     gives tree 2            then its records; or none 2, spent 1, refused 7, met, unmet 0 child; of paths written, then the records
-//!     then none 0             what the solver gives to the records written: a question of its own
+//!     gives tree 2            then its records; or none 2, spent 1, refused 7, met, unmet 0 child; of paths written, then the records; of XML
+//!                             written, then its text as xml or its nodes
+//!     then none 0             what is given to what was written, a question of its own: by the solver to records, by the reader of XML to a
+//!                             text, by its writer to nodes
 
 use crate::{Expected, Question};
 use second::constraint::KIND_NAMES;
-use second::verdict::{parse_marker, parse_paths, parse_solver, PathsVerdict, SolverVerdict};
-use second::{LEAST_BUFFER, LEAST_RECORDS_BUFFER};
+use second::verdict::{parse_fill, parse_marker, parse_solver, FillVerdict, SolverVerdict};
+use second::{LEAST_BUFFER, LEAST_NODES_BUFFER, LEAST_RECORDS_BUFFER, LEAST_TEXT_BUFFER};
 
 /// A verdict in words and the records that follow it.
 type Gives = (Vec<String>, Vec<u8>);
+
+/// Whom a question is for; one with an answer is the marker's.
+#[derive(Clone, Copy, PartialEq, Eq)]
+enum Asked {
+    Solver,
+    ReaderOfPaths,
+    WriterOfXml,
+    ReaderOfXml,
+}
 
 /// A question as far as it has been read.
 struct Draft {
     name: String,
     file: Vec<u8>,
-    is_paths: bool,
+    asked: Asked,
     buffer: Option<usize>,
     allowance: u32,
     answer: Option<Vec<u8>>,
@@ -41,7 +54,7 @@ impl Draft {
         Draft {
             name,
             file: Vec::new(),
-            is_paths: false,
+            asked: Asked::Solver,
             buffer: None,
             allowance: 1_000_000,
             answer: None,
@@ -78,11 +91,14 @@ fn read_line(draft: &mut Draft, words: &[&str]) -> Option<()> {
         ["buffer", length] => draft.buffer = Some(length.parse().ok()?),
         ["allowance", allowance] => draft.allowance = allowance.parse().ok()?,
         ["answer"] => draft.answer = Some(Vec::new()),
-        ["paths"] => draft.is_paths = true,
+        ["paths"] => draft.asked = Asked::ReaderOfPaths,
+        ["nodes"] => draft.asked = Asked::WriterOfXml,
         ["gives", verdict @ ..] => draft.gives = verdict_in(verdict),
         ["then", verdict @ ..] => draft.then = verdict_in(verdict),
         _ => {
-            draft.is_paths |= words.contains(&"path") || words.contains(&"text");
+            if draft.gives.is_none() {
+                draft.asked = asked_by(words).unwrap_or(draft.asked);
+            }
             let file = match (&mut draft.then, &mut draft.gives, &mut draft.answer) {
                 (Some((_, records)), _, _) | (None, Some((_, records)), _) => records,
                 (None, None, Some(answer)) => answer,
@@ -94,13 +110,23 @@ fn read_line(draft: &mut Draft, words: &[&str]) -> Option<()> {
     Some(())
 }
 
+/// Whom a line of the question's own file is for, if it tells; what is given may be a text too.
+fn asked_by(words: &[&str]) -> Option<Asked> {
+    match words {
+        _ if words.contains(&"path") || words.contains(&"text") => Some(Asked::ReaderOfPaths),
+        _ if words.contains(&"xml") => Some(Asked::ReaderOfXml),
+        _ => None,
+    }
+}
+
 fn bytes_of(words: &[&str]) -> Option<Vec<u8>> {
     let number = |word: &str| word.parse::<u8>().ok();
     match words {
         ["times", times, record @ ..] => Some(bytes_of(record)?.repeat(times.parse().ok()?)),
         ["bytes", bytes @ ..] => bytes.iter().map(|byte| u8::from_str_radix(byte, 16).ok()).collect(),
         ["path", line] => Some(format!("{line}\n").into_bytes()),
-        ["text", part] => Some(part.as_bytes().to_vec()),
+        ["text" | "xml", part] => Some(part.as_bytes().to_vec()),
+        ["xml"] => Some(Vec::new()),
         ["node", own, parent, label] => Some(vec![1, number(own)?, number(parent)?, label_of(label)?]),
         ["var", variable, node] => Some(vec![2, number(variable)?, number(node)?, 0]),
         [name, rest @ ..] => {
@@ -124,32 +150,52 @@ fn label_of(word: &str) -> Option<u8> {
     }
 }
 
-/// The question and, where the draft says what the solver gives then, that one too.
+/// The question and, where the draft says what is given then, that one too.
 fn finish(draft: &Draft) -> Option<Vec<Question>> {
     let gives = draft.gives.as_ref()?;
-    let first = match &draft.answer {
-        _ if draft.is_paths => {
-            Expected::Paths { buffer: draft.buffer.unwrap_or(LEAST_RECORDS_BUFFER), verdict: paths_verdict(gives)? }
+    let lent = |least: usize| draft.buffer.unwrap_or(least);
+    let first = match (&draft.answer, draft.asked) {
+        (Some(answer), _) => Expected::Marker { answer: answer.clone(), verdict: parse_marker(&words_of(gives))? },
+        (None, Asked::Solver) => solver_expected(draft, gives)?,
+        (None, Asked::ReaderOfPaths) => {
+            Expected::Paths { buffer: lent(LEAST_RECORDS_BUFFER), verdict: fill_verdict(gives)? }
         }
-        Some(answer) => Expected::Marker { answer: answer.clone(), verdict: parse_marker(&words_of(gives))? },
-        None => solver_expected(draft, gives)?,
+        (None, Asked::WriterOfXml) => {
+            Expected::XmlWriter { buffer: lent(LEAST_TEXT_BUFFER), verdict: fill_verdict(gives)? }
+        }
+        (None, Asked::ReaderOfXml) => {
+            Expected::XmlReader { buffer: lent(LEAST_NODES_BUFFER), verdict: fill_verdict(gives)? }
+        }
     };
     let mut questions = vec![Question { name: draft.name.clone(), file: draft.file.clone(), expected: first }];
     if let Some(then) = &draft.then {
-        let expected = solver_expected(draft, then)?;
-        questions.push(Question { name: format!("{}, then solved", draft.name), file: gives.1.clone(), expected });
+        let (how, expected) = then_expected(draft, then)?;
+        questions.push(Question { name: format!("{}, then {how}", draft.name), file: gives.1.clone(), expected });
     }
     Some(questions)
+}
+
+/// What was written is put with the shortest buffer to the solver, or to the other of the writer and the reader of XML.
+fn then_expected(draft: &Draft, then: &Gives) -> Option<(&'static str, Expected)> {
+    match draft.asked {
+        Asked::Solver | Asked::ReaderOfPaths => Some(("solved", solver_expected(draft, then)?)),
+        Asked::WriterOfXml => {
+            Some(("read", Expected::XmlReader { buffer: LEAST_NODES_BUFFER, verdict: fill_verdict(then)? }))
+        }
+        Asked::ReaderOfXml => {
+            Some(("written", Expected::XmlWriter { buffer: LEAST_TEXT_BUFFER, verdict: fill_verdict(then)? }))
+        }
+    }
 }
 
 fn words_of((words, _): &Gives) -> Vec<&str> {
     words.iter().map(String::as_str).collect()
 }
 
-fn paths_verdict(gives: &Gives) -> Option<PathsVerdict> {
+fn fill_verdict(gives: &Gives) -> Option<FillVerdict> {
     match words_of(gives).as_slice() {
-        ["written"] => Some(PathsVerdict::Written(gives.1.clone())),
-        words => parse_paths(words),
+        ["written"] => Some(FillVerdict::Written(gives.1.clone())),
+        words => parse_fill(words),
     }
 }
 
@@ -159,6 +205,6 @@ fn solver_expected(draft: &Draft, gives: &Gives) -> Option<Expected> {
         ["tree", count] => SolverVerdict::Tree { count: count.parse().ok()?, answer: gives.1.clone() },
         words => parse_solver(words)?,
     };
-    let lent = draft.buffer.filter(|_| !draft.is_paths).unwrap_or(LEAST_BUFFER);
+    let lent = draft.buffer.filter(|_| draft.asked == Asked::Solver).unwrap_or(LEAST_BUFFER);
     Some(Expected::Solver { buffer: lent, allowance: draft.allowance, verdict })
 }

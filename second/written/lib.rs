@@ -3,11 +3,11 @@
 mod example;
 
 pub use example::questions as examples;
-use second::verdict::{parse_marker, parse_solver, unhex, MarkerVerdict, PathsVerdict, SolverVerdict};
+use second::verdict::{parse_marker, parse_solver, unhex, FillVerdict, MarkerVerdict, SolverVerdict};
 
 pub struct Question {
     pub name: String,
-    /// The constraint file, or the text of paths.
+    /// The constraint file, the text of paths, the node records or the text of XML.
     pub file: Vec<u8>,
     pub expected: Expected,
 }
@@ -15,7 +15,9 @@ pub struct Question {
 pub enum Expected {
     Solver { buffer: usize, allowance: u32, verdict: SolverVerdict },
     Marker { answer: Vec<u8>, verdict: MarkerVerdict },
-    Paths { buffer: usize, verdict: PathsVerdict },
+    Paths { buffer: usize, verdict: FillVerdict },
+    XmlWriter { buffer: usize, verdict: FillVerdict },
+    XmlReader { buffer: usize, verdict: FillVerdict },
 }
 
 /// One question a line: its name, `solve`, constraints, buffer, allowance, verdict; or its name, `mark`, constraints, answer, verdict.
