@@ -5,9 +5,9 @@ use Prim.Native.Nat.{ℕ, _≤_}
 use native.Mathlib.Omega.{arith}
 use lib.ListN.{length, replicate}
 use borrow.Author.Needs.{needs}
-use Rattle.xmlreader.specs.declared.Step.the-variants.{To, Not}
+use Rattle.xmlreader.specs.declared.Step.the-variants.{To, Absent, Not}
 use Rattle.xmlreader.specs.Reading.{Single, Found, Missed}
-use Rattle.xmlreader.proofs.Found.{to-found, to-missed}
+use Rattle.xmlreader.proofs.Found.{to-found, to-missed, to-absent}
 use Rattle.xmlreader.proofs.Answers.{start-readable, short, missed-all, bytes-left, room, written}
 use Rattle.xmlreader.proofs.read.Statement.{statement}
 use Rattle.xmlreader.proofs.read.Tie as tie
@@ -37,10 +37,13 @@ module _ (e : tie.After-element) where
   wide = e .before .before .before .if1 .left
 
   found : (end total : ℕ) → e .element .result ≡ To end total → Found Single text 0 0 1 blank blank end total us ls
-  found end total d = to-found Single text 0 0 1 blank blank (e .element .result) us ls end total (e .element .ensures) d
+  found end total d = to-found Single text 0 0 1 blank blank (e .element .result) us ls end total (e .element .ensures .0) d
 
   missed : e .element .result ≡ Not → Missed Single text 0 1
-  missed d = to-missed Single text 0 0 1 blank blank (e .element .result) us ls (e .element .ensures) d
+  missed d = to-missed Single text 0 0 1 blank blank (e .element .result) us ls (e .element .ensures .0) d
+
+  absent : e .element .result ≡ Absent → Missed Single text 0 1
+  absent d = to-absent Single text 0 0 1 blank blank (e .element .result) us ls (e .element .ensures .0) d
 
 -- where it has found one
 
@@ -71,6 +74,9 @@ element-requires c κs = start-readable _
 enum-told : tie.Need-enum-told
 enum-told c = search needs
 
+enum-told-2 : tie.Need-enum-told-2
+enum-told-2 c = search needs
+
 enum-known-outermost : tie.Need-enum-known-outermost
 enum-known-outermost c = search needs
 
@@ -96,11 +102,16 @@ returns-3 c =
     let e = c .before .before in
     missed-all (text e) (buffer e) (wide e) (missed e (c .enum-told .given .1))
 
+returns-4 : tie.Need-returns-4
+returns-4 c =
+    let e = c .before .before in
+    missed-all (text e) (buffer e) (wide e) (absent e (c .enum-told2 .given .1))
+
 same-length : tie.Need-same-length
 same-length c = search needs
 
-returns-4 : tie.Need-returns-4
-returns-4 c =
+returns-5 : tie.Need-returns-5
+returns-5 c =
     let put = c .before .before in
     let l = put .before .before .before .before in
     let o = l .before .before in
@@ -114,10 +125,12 @@ read-spec =
     returns
     element-requires
     enum-told
+    enum-told-2
     enum-known-outermost
     returns-2
     put-nodes-requires
     mul-t13
     returns-3
+    returns-4
     same-length
-    returns-4)
+    returns-5)
