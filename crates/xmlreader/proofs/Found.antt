@@ -1,8 +1,6 @@
--- What the reader's answers say: one element is an element alone, an answer is a finding or a miss by its case and tells whether an
--- element started, and the nodes are counted by what was put,
--- since each element puts one parent and one label.
-use mathlib.Core.Path.{_≡_, refl, ap, _∙_, subst}
-use mathlib.Core.Bool.{true, false}
+-- What the reader's answers say: one element is an element alone, and the nodes are counted by what was put, since each element puts one parent and one
+-- label.
+use mathlib.Core.Path.{_≡_, refl, ap, _∙_}
 use mathlib.Core.List.{List, [], _∷_, _++_, map}
 use Prim.Native.Nat.{ℕ, _+_, _<_}
 use native.Mathlib.Omega.{arith}
@@ -14,9 +12,7 @@ use Rattle.meaning.specs.Xml.{Forest, no-element, element, count, allNameable, 
 use Rattle.meaning.proofs.XmlTrees.{records-length}
 use Rattle.lent.specs.Putting.{Put}
 use Rattle.lent.proofs.Stores.{put-text}
-use Rattle.xmlreader.specs.declared.Step.{Step}
-use Rattle.xmlreader.specs.declared.Step.the-variants.{To, Absent, Not}
-use Rattle.xmlreader.specs.Reading.{opensAt, Single, Found, Missed, ForestRead, Began}
+use Rattle.xmlreader.specs.Reading.{Single, Missed}
 use Rattle.xmlreader.proofs.Forests.{one}
 
 -- ---- one element
@@ -33,31 +29,6 @@ pub missed-one : (text : List ℕ) (at nodes : ℕ)
 missed-one text at nodes m no-element q k e y = absurd k
 missed-one text at nodes m (element l c no-element) q k e y = m l c q e y
 missed-one text at nodes m (element l c (element i d s)) q k e y = absurd k
-
--- ---- by the answer
-
-module _ (P : Forest → List ℕ → Type 0) (text : List ℕ) (at up nodes : ℕ) (ups labels : List ℕ) (r : Step) (ups′ labels′ : List ℕ) where
-  pub to-found : (end total : ℕ) → ForestRead P text at up nodes ups labels r ups′ labels′ → r ≡ To end total → Found P text at up nodes ups labels end total ups′ labels′
-  to-found end total h e = subst (λ (s : Step). ForestRead P text at up nodes ups labels s ups′ labels′) e h
-
-  pub to-missed : ForestRead P text at up nodes ups labels r ups′ labels′ → r ≡ Not → Missed P text at nodes
-  to-missed h e = subst (λ (s : Step). ForestRead P text at up nodes ups labels s ups′ labels′) e h
-
-  pub to-absent : ForestRead P text at up nodes ups labels r ups′ labels′ → r ≡ Absent → Missed P text at nodes
-  to-absent h e = subst (λ (s : Step). ForestRead P text at up nodes ups labels s ups′ labels′) e h
-
-module _ (text : List ℕ) (at : ℕ) (ups labels : List ℕ) (r : Step) (ups′ labels′ : List ℕ) (h : Began text at ups labels r ups′ labels′) where
-  as-told : (s : Step) → r ≡ s → Began text at ups labels s ups′ labels′
-  as-told s e = subst (λ (x : Step). Began text at ups labels x ups′ labels′) e h
-
-  pub found-began : (end total : ℕ) → r ≡ To end total → opensAt text at ≡ true
-  found-began end total = as-told (To end total)
-
-  pub missed-began : r ≡ Not → opensAt text at ≡ true
-  missed-began = as-told Not
-
-  pub none-began : r ≡ Absent → (opensAt text at ≡ false) × (ups′ ≡ ups) × (labels′ ≡ labels)
-  none-began = as-told Absent
 
 -- ---- what is put
 

@@ -65,7 +65,7 @@ ForestRead P text at up nodes ups labels (To end total) ups′ labels′ = Found
 ForestRead P text at up nodes ups labels Absent ups′ labels′ = Missed P text at nodes
 ForestRead P text at up nodes ups labels Not ups′ labels′ = Missed P text at nodes
 
--- whether an element starts there; where none does nothing is put
+-- whether an element starts there; where none does nothing was put
 abbrev pub Began : List ℕ → ℕ → List ℕ → List ℕ → Step → List ℕ → List ℕ → Type 0
 Began text at ups labels (To end total) ups′ labels′ = opensAt text at ≡ true
 Began text at ups labels Absent ups′ labels′ = (opensAt text at ≡ false) × (ups′ ≡ ups) × (labels′ ≡ labels)

@@ -73,7 +73,7 @@ fn closes(text: &[u8], at: usize, name: u8) -> bool
     byte_at(text, at + 3) == b'>'
 }
 
-// One element under the node `up`, and all that is inside it. Where none starts is told apart, so that nobody need ask before.
+// One element under the node `up`, and all that is inside it. That none starts there is an answer of its own, so that nobody asks before.
 fn element(
     text: &[u8],
     at: usize,
@@ -105,6 +105,7 @@ fn element(
     let inside = elements(text, at + 3, nodes as u8, nodes + 1, ups, labels);
     match inside {
         Step::Not => Step::Not,
+        // Never answered by `elements`; if it were, it would be a miss.
         Step::Absent => Step::Not,
         Step::To(end, count) => {
             if count == nodes + 1 {
@@ -118,7 +119,7 @@ fn element(
     }
 }
 
-// As many elements as follow, under the node `up`.
+// As many elements as follow, under the node `up`. A loop, since a call for each of them would hand its answer back through all before it.
 fn elements(
     text: &[u8],
     at: usize,

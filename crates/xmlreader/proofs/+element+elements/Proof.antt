@@ -1,6 +1,6 @@
 -- `element` and `elements` find what stands at a place, or miss it. Both go forward in the text: `elements` asks `element` at its place and then behind each
 -- element, and `element` asks `elements` three bytes on. The places of the code are named first, with what is known there.
-use mathlib.Core.Path.{_≡_, refl, sym, _∙_}
+use mathlib.Core.Path.{_≡_, refl, sym, _∙_, subst}
 use mathlib.Core.Bool.{true}
 use mathlib.Core.List.{List}
 use Prim.Native.Nat.{ℕ, _+_, _-_, _*_, _≤_, _<_}
@@ -13,9 +13,8 @@ use borrow.Fn.Kinds.{In}
 use borrow.Fn.PlainCycle.{Measures, is, falls, and}
 use Rattle.xmlreader.specs.declared.Step.{Step}
 use Rattle.xmlreader.specs.declared.Step.the-variants.{To, Absent, Not}
-use Rattle.xmlreader.specs.Reading.{opensAt, closesAt, Single, Ended, Readable, Found, Missed, ForestRead}
+use Rattle.xmlreader.specs.Reading.{opensAt, closesAt, Single, Ended, Readable, Found, ForestRead, Began}
 use Rattle.xmlreader.proofs.Bytes.{Started, started, byte-there, name-some, empty-within, closes-within}
-use Rattle.xmlreader.proofs.Found.{to-found, to-missed, to-absent, found-began, missed-began, none-began}
 use Rattle.xmlreader.proofs.Single.{miss-start, miss-many, miss-neither, miss-inside, miss-empty, miss-close, found-leaf, found-around}
 use Rattle.xmlreader.proofs.Following.{found-none, miss-first, forward, readable-after, then-more}
 use Rattle.xmlreader.proofs.element.Reads as element
@@ -142,15 +141,8 @@ module _ (t : ℕ) (e : element-lts.After-elements (element-claims t) (element-a
   abbrev ls₀ : List ℕ
   ls₀ = set (labels t place) (nodes t place) (label t place)
 
-  inside-found : (end total : ℕ) → e .elements .result ≡ To end total
-      → Found Ended (text t place) (at t place + 3) (nodes t place) (nodes t place + 1) us₀ ls₀ end total us ls
-  inside-found end total d = to-found Ended (text t place) (at t place + 3) (nodes t place) (nodes t place + 1) us₀ ls₀ (e .elements .result) us ls end total (e .elements .ensures) d
-
-  inside-missed : e .elements .result ≡ Not → Missed Ended (text t place) (at t place + 3) (nodes t place + 1)
-  inside-missed d = to-missed Ended (text t place) (at t place + 3) (nodes t place) (nodes t place + 1) us₀ ls₀ (e .elements .result) us ls (e .elements .ensures) d
-
-  inside-absent : e .elements .result ≡ Absent → Missed Ended (text t place) (at t place + 3) (nodes t place + 1)
-  inside-absent d = to-absent Ended (text t place) (at t place + 3) (nodes t place) (nodes t place + 1) us₀ ls₀ (e .elements .result) us ls (e .elements .ensures) d
+  inside-read : (r : Step) → e .elements .result ≡ r → ForestRead Ended (text t place) (at t place + 3) (nodes t place) (nodes t place + 1) us₀ ls₀ r us ls
+  inside-read r d = subst (λ (x : Step). ForestRead Ended (text t place) (at t place + 3) (nodes t place) (nodes t place + 1) us₀ ls₀ x us ls) d (e .elements .ensures)
 
 -- it ended at a place, with so many nodes
 
@@ -168,7 +160,7 @@ module _ (t : ℕ) (i : element-lts.After-inside (element-claims t) (element-at 
   total = i .inside .given .0 .1 .0
 
   inside : Found Ended (text t outer) (at t outer + 3) (nodes t outer) (nodes t outer + 1) (us₀ t answer) (ls₀ t answer) end total (us t answer) (ls t answer)
-  inside = inside-found t answer end total (i .inside .given .1)
+  inside = inside-read t answer (To end total) (i .inside .given .1)
 
 -- there were some, and the end of the element is asked for
 
@@ -311,13 +303,13 @@ element-returns-7 : (t : ℕ) → element-lts.Need-returns-7 (element-claims t) 
 element-returns-7 t c =
     let e = c .before .before in
     let n = place t e in
-    (miss-inside (begun t n) (nodes t n) (bracket t (behind t e)) (inside-missed t e (c .enum-told .given .1)), opened t n)
+    (miss-inside (begun t n) (nodes t n) (bracket t (behind t e)) (inside-read t e Not (c .enum-told .given .1)), opened t n)
 
 element-returns-8 : (t : ℕ) → element-lts.Need-returns-8 (element-claims t) (element-at t) element.Post
 element-returns-8 t c =
     let e = c .before .before in
     let n = place t e in
-    (miss-inside (begun t n) (nodes t n) (bracket t (behind t e)) (inside-absent t e (c .enum-told2 .given .1)), opened t n)
+    (miss-inside (begun t n) (nodes t n) (bracket t (behind t e)) (inside-read t e Absent (c .enum-told2 .given .1)), opened t n)
 
 element-returns-9 : (t : ℕ) → element-lts.Need-returns-9 (element-claims t) (element-at t) element.Post
 element-returns-9 t c =
@@ -373,11 +365,11 @@ module _ (t : ℕ) (e : elements-lts.After-element (elements-claims t) (elements
   next-seen : ForestRead Single text₁ from (args .up) so-far ups₁ labels₁ (e .element .result) us₁ ls₁
   next-seen = e .element .ensures .0
 
-  next-found : (end total : ℕ) → e .element .result ≡ To end total → Found Single text₁ from (args .up) so-far ups₁ labels₁ end total us₁ ls₁
-  next-found end total d = to-found Single text₁ from (args .up) so-far ups₁ labels₁ (e .element .result) us₁ ls₁ end total next-seen d
+  next-read : (r : Step) → e .element .result ≡ r → ForestRead Single text₁ from (args .up) so-far ups₁ labels₁ r us₁ ls₁
+  next-read r d = subst (λ (x : Step). ForestRead Single text₁ from (args .up) so-far ups₁ labels₁ x us₁ ls₁) d next-seen
 
-  next-missed : e .element .result ≡ Not → Missed Single text₁ from so-far
-  next-missed d = to-missed Single text₁ from (args .up) so-far ups₁ labels₁ (e .element .result) us₁ ls₁ next-seen d
+  next-began : (r : Step) → e .element .result ≡ r → Began text₁ from ups₁ labels₁ r us₁ ls₁
+  next-began r d = subst (λ (x : Step). Began text₁ from ups₁ labels₁ x us₁ ls₁) d (e .element .ensures .1)
 
 -- it ended at a place, with so many nodes
 
@@ -391,11 +383,9 @@ module _ (t : ℕ) (i : elements-lts.After-next (elements-claims t) (elements-at
   abbrev total₁ : ℕ
   total₁ = i .next .given .0 .1 .0
 
-  next : Found Single (text₁ t answer₁) (from t answer₁) (args t answer₁ .up) (so-far t answer₁) (ups₁ t answer₁) (labels₁ t answer₁) end₁ total₁ (us₁ t answer₁) (ls₁ t answer₁)
-  next = next-found t answer₁ end₁ total₁ (i .next .given .1)
-
-  next-began : opensAt (text₁ t answer₁) (from t answer₁) ≡ true
-  next-began = found-began (text₁ t answer₁) (from t answer₁) (ups₁ t answer₁) (labels₁ t answer₁) _ (us₁ t answer₁) (ls₁ t answer₁) (answer₁ .element .ensures .1) end₁ total₁ (i .next .given .1)
+  next : Found Single (text₁ t answer₁) (from t answer₁) (args t answer₁ .up) (so-far t answer₁) (ups₁ t answer₁) (labels₁ t answer₁) end₁ total₁
+      (us₁ t answer₁) (ls₁ t answer₁)
+  next = next-read t answer₁ (To end₁ total₁) (i .next .given .1)
 
 elements-loop-holds : (t : ℕ) → elements-lts.Need-loop-holds (elements-claims t) (elements-at t) elements.Post elements-Inv-loop elements-μ-loop
 elements-loop-holds t c = (le-refl _, c .before .pre .1, λ r us ls h. h)
@@ -416,8 +406,7 @@ elements-returns : (t : ℕ) → elements-lts.Need-returns (elements-claims t) (
 elements-returns t c =
     let e = c .before .before in
     let d = c .enum-told .given .1 in
-    let o = missed-began (text₁ t e) (from t e) (ups₁ t e) (labels₁ t e) _ (us₁ t e) (ls₁ t e) (e .element .ensures .1) d in
-    round t e .loop .inv .2 Not (us₁ t e) (ls₁ t e) (miss-first (text₁ t e) (from t e) (so-far t e) o (next-missed t e d))
+    round t e .loop .inv .2 Not (us₁ t e) (ls₁ t e) (miss-first (text₁ t e) (from t e) (so-far t e) (next-began t e Not d) (next-read t e Not d))
 
 elements-enum-told-2 : (t : ℕ) → elements-lts.Need-enum-told-2 (elements-claims t) (elements-at t) elements.Post elements-Inv-loop elements-μ-loop
 elements-enum-told-2 t c = search needs
@@ -426,8 +415,7 @@ elements-returns-2 : (t : ℕ) → elements-lts.Need-returns-2 (elements-claims 
 elements-returns-2 t c =
     let e = c .before .before in
     let i = round t e .loop .inv in
-    let b = none-began (text₁ t e) (from t e) (ups₁ t e) (labels₁ t e) _ (us₁ t e) (ls₁ t e) (e .element .ensures .1) (c .enum-told2 .given .1) in
-    i .2 (To (from t e) (so-far t e)) (us₁ t e) (ls₁ t e) (found-none (args t e .up) (i .1) b)
+    i .2 (To (from t e) (so-far t e)) (us₁ t e) (ls₁ t e) (found-none (args t e .up) (i .1) (next-began t e Absent (c .enum-told2 .given .1)))
 
 elements-enum-known-next : (t : ℕ) → elements-lts.Need-enum-known-next (elements-claims t) (elements-at t) elements.Post elements-Inv-loop elements-μ-loop
 elements-enum-known-next t c = search needs
@@ -442,10 +430,12 @@ elements-loop-less t c =
 elements-loop-again : (t : ℕ) → elements-lts.Need-loop-again (elements-claims t) (elements-at t) elements.Post elements-Inv-loop elements-μ-loop
 elements-loop-again t c =
     let i = c .before in
-    let v = round t (answer₁ t i) .loop .inv in
+    let e = answer₁ t i in
+    let v = round t e .loop .inv in
     let a = v .0 in
     let b = next t i .forward in
-    (omega (arith, a, b), readable-after (v .1) (next t i), λ r us ls h. v .2 r us ls (then-more (v .1) (next t i) (next-began t i) r us ls h))
+    let o = next-began t e (To (end₁ t i) (total₁ t i)) (i .next .given .1) in
+    (omega (arith, a, b), readable-after (v .1) (next t i), λ r us ls h. v .2 r us ls (then-more (v .1) (next t i) o r us ls h))
 
 pub +element+elements-spec : {M : Type 1} → statement M
 +element+elements-spec = close μ-element μ-elements (λ t. element-lts.spec (element-claims t)
