@@ -2,7 +2,7 @@
 -- first, or those after it, is to miss them all.
 use mathlib.Core.Path.{_≡_, refl, sym, ap, _∙_, subst}
 use mathlib.Core.Bool.{true, false}
-use mathlib.Core.List.{List, _++_, map}
+use mathlib.Core.List.{List, [], _++_, map}
 use Prim.Native.Nat.{ℕ, _+_, _<_}
 use native.Mathlib.Nat.{le-refl}
 use native.Mathlib.Omega.{arith}
@@ -13,30 +13,31 @@ use Rattle.meaning.specs.ReadOff.{NodeRecord}
 use Rattle.meaning.specs.Xml.{Forest, no-element, element, count, allNameable, forestText, forestRecords}
 use Rattle.meaning.proofs.Tests.{not-yes}
 use Rattle.theory.specs.Xml.{opens}
+use Rattle.lent.specs.Putting.{Put}
 use Rattle.lent.proofs.Stores.{put-none, put-same, put-then}
 use Rattle.xmlreader.specs.declared.Step.{Step}
-use Rattle.xmlreader.specs.declared.Step.the-variants.{To, Not}
+use Rattle.xmlreader.specs.declared.Step.the-variants.{To, Absent, Not}
 use Rattle.xmlreader.specs.Reading.{opensAt, Single, Ended, Readable, Found, Missed, ForestRead}
 use Rattle.xmlreader.proofs.Bytes.{opens-left}
 use Rattle.xmlreader.proofs.Forests.{one, nameable-first, nameable-both, count-none, count-first, first-text, one-some, one-split, first-records}
 use Rattle.xmlreader.proofs.Found.{single-is, put-count}
 
-pub found-none : {text : List ℕ} {at nodes : ℕ} {ups labels : List ℕ} (up : ℕ) → Readable text at nodes ups labels → opensAt text at ≡ false
-    → Found Ended text at up nodes ups labels at nodes ups labels
-found-none {text} {at} {nodes} {ups} {labels} up readable f =
+pub found-none : {text : List ℕ} {at nodes : ℕ} {ups labels us ls : List ℕ} (up : ℕ) → Readable text at nodes ups labels
+    → (opensAt text at ≡ false) × (us ≡ ups) × (ls ≡ labels) → Found Ended text at up nodes ups labels at nodes us ls
+found-none {text} {at} {nodes} {ups} {labels} up readable b =
     let n = readable .few in
     let u = readable .long-ups in
     let l = readable .long-labels in
     record {
       forest = no-element;
-      sort = not-yes (sym (opens-left text at) ∙ f);
+      sort = not-yes (sym (opens-left text at) ∙ b .0);
       is = unfold forestText in refl;
       nameable = unfold allNameable in refl;
       forward = le-refl _;
       within = readable .within;
       few = n;
-      put-ups = unfold forestRecords in put-none ups nodes (omega arith);
-      put-labels = unfold forestRecords in put-none labels nodes (omega arith);
+      put-ups = unfold forestRecords in subst (λ (x : List ℕ). Put ups nodes [] nodes x) (sym (b .1)) (put-none ups nodes (omega arith));
+      put-labels = unfold forestRecords in subst (λ (x : List ℕ). Put labels nodes [] nodes x) (sym (b .2)) (put-none labels nodes (omega arith));
     }
 
 -- to miss those that follow, where an element starts, is to miss them by the first
@@ -136,4 +137,5 @@ module _ {text : List ℕ} {at up nodes : ℕ} {ups labels : List ℕ} (readable
   pub then-more : opensAt text at ≡ true → (r : Step) (us′ ls′ : List ℕ) → ForestRead Ended text end up total us ls r us′ ls′
       → ForestRead Ended text at up nodes ups labels r us′ ls′
   then-more o (To end′ total′) us′ ls′ h = found-more end′ total′ us′ ls′ h
+  then-more o Absent us′ ls′ h = miss-more o h
   then-more o Not us′ ls′ h = miss-more o h

@@ -1,6 +1,6 @@
--- What the reader's answers say: one element is an element alone, an answer is a finding or a miss by its case, and the nodes are counted by what was put,
--- since each element puts one parent and one label.
-use mathlib.Core.Path.{_≡_, refl, ap, _∙_, subst}
+-- What the reader's answers say: one element is an element alone, and the nodes are counted by what was put, since each element puts one parent and one
+-- label.
+use mathlib.Core.Path.{_≡_, refl, ap, _∙_}
 use mathlib.Core.List.{List, [], _∷_, _++_, map}
 use Prim.Native.Nat.{ℕ, _+_, _<_}
 use native.Mathlib.Omega.{arith}
@@ -12,9 +12,7 @@ use Rattle.meaning.specs.Xml.{Forest, no-element, element, count, allNameable, 
 use Rattle.meaning.proofs.XmlTrees.{records-length}
 use Rattle.lent.specs.Putting.{Put}
 use Rattle.lent.proofs.Stores.{put-text}
-use Rattle.xmlreader.specs.declared.Step.{Step}
-use Rattle.xmlreader.specs.declared.Step.the-variants.{To, Not}
-use Rattle.xmlreader.specs.Reading.{Single, Found, Missed, ForestRead}
+use Rattle.xmlreader.specs.Reading.{Single, Missed}
 use Rattle.xmlreader.proofs.Forests.{one}
 
 -- ---- one element
@@ -31,15 +29,6 @@ pub missed-one : (text : List ℕ) (at nodes : ℕ)
 missed-one text at nodes m no-element q k e y = absurd k
 missed-one text at nodes m (element l c no-element) q k e y = m l c q e y
 missed-one text at nodes m (element l c (element i d s)) q k e y = absurd k
-
--- ---- by the answer
-
-module _ (P : Forest → List ℕ → Type 0) (text : List ℕ) (at up nodes : ℕ) (ups labels : List ℕ) (r : Step) (ups′ labels′ : List ℕ) where
-  pub to-found : (end total : ℕ) → ForestRead P text at up nodes ups labels r ups′ labels′ → r ≡ To end total → Found P text at up nodes ups labels end total ups′ labels′
-  to-found end total h e = subst (λ (s : Step). ForestRead P text at up nodes ups labels s ups′ labels′) e h
-
-  pub to-missed : ForestRead P text at up nodes ups labels r ups′ labels′ → r ≡ Not → Missed P text at nodes
-  to-missed h e = subst (λ (s : Step). ForestRead P text at up nodes ups labels s ups′ labels′) e h
 
 -- ---- what is put
 

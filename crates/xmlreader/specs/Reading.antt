@@ -1,7 +1,7 @@
 -- What the reader has found at a place of the text: elements under a node, with their parents and labels behind those that were there, or that none of
 -- the sort asked for stand there, unless they are too many.
 use mathlib.Core.Path.{_≡_}
-use mathlib.Core.Bool.{Bool}
+use mathlib.Core.Bool.{Bool, true, false}
 use mathlib.Core.List.{List, _++_, map}
 use Prim.Native.Nat.{ℕ, _+_, _*_, _≤_, _<_}
 use lib.Dec.{eqb}
@@ -12,7 +12,7 @@ use Rattle.meaning.specs.Xml.{Forest, no-element, element, count, allNameable, 
 use Rattle.lent.specs.Putting.{Put}
 use Rattle.theory.specs.Xml.{isName, opens}
 use Rattle.xmlreader.specs.declared.Step.{Step}
-use Rattle.xmlreader.specs.declared.Step.the-variants.{To, Not}
+use Rattle.xmlreader.specs.declared.Step.the-variants.{To, Absent, Not}
 
 -- ---- bytes at a place; past the end there is 0, which is none of these
 
@@ -62,7 +62,14 @@ Missed P text at nodes = (w : Forest) (q : List ℕ) → P w q → drop at text 
 
 abbrev pub ForestRead : (Forest → List ℕ → Type 0) → List ℕ → ℕ → ℕ → ℕ → List ℕ → List ℕ → Step → List ℕ → List ℕ → Type 0
 ForestRead P text at up nodes ups labels (To end total) ups′ labels′ = Found P text at up nodes ups labels end total ups′ labels′
+ForestRead P text at up nodes ups labels Absent ups′ labels′ = Missed P text at nodes
 ForestRead P text at up nodes ups labels Not ups′ labels′ = Missed P text at nodes
+
+-- whether an element starts there; where none does nothing was put
+abbrev pub Began : List ℕ → ℕ → List ℕ → List ℕ → Step → List ℕ → List ℕ → Type 0
+Began text at ups labels (To end total) ups′ labels′ = opensAt text at ≡ true
+Began text at ups labels Absent ups′ labels′ = (opensAt text at ≡ false) × (ups′ ≡ ups) × (labels′ ≡ labels)
+Began text at ups labels Not ups′ labels′ = opensAt text at ≡ true
 
 -- ---- the records that are written
 

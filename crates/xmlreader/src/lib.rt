@@ -6,7 +6,7 @@ ghost use lib.ListN.{length};
 ghost use Rattle.meaning.specs.Results.{fillWrote};
 ghost use Rattle.lent.specs.Filling.{AnswerOf};
 ghost use Rattle.theory.specs.Xml.{isName, labelNamed, readXml};
-ghost use Rattle.xmlreader.specs.Reading.{opensAt, emptyAt, closesAt, Single, Ended, Readable, ForestRead, NodesWritten};
+ghost use Rattle.xmlreader.specs.Reading.{opensAt, emptyAt, closesAt, Single, Ended, Readable, ForestRead, Began, NodesWritten};
 use lent::Answer;
 use lent::byte_at;
 
@@ -14,6 +14,8 @@ use lent::byte_at;
 enum Step {
     // The place after what was read, and how many nodes there are by then.
     To(usize, usize),
+    // No element starts there.
+    Absent,
     // What stands there is not of the form, or has too many nodes.
     Not,
 }
@@ -71,7 +73,7 @@ fn closes(text: &[u8], at: usize, name: u8) -> bool
     byte_at(text, at + 3) == b'>'
 }
 
-// One element under the node `up`, and all that is inside it.
+// One element under the node `up`, and all that is inside it. That none starts there is an answer of its own, so that nobody asks before.
 fn element(
     text: &[u8],
     at: usize,
@@ -82,9 +84,10 @@ fn element(
 ) -> Step
     requires { ⌜ Readable (now text) at nodes (now ups) (now labels) ⌝ }
     ensures { λ r. ⌜ ForestRead Single (now (text .entry)) at up nodes (now (ups .entry)) (now (labels .entry)) r (now (ups .exit)) (now (labels .exit)) ⌝ }
+    ensures began { λ r. ⌜ Began (now (text .entry)) at (now (ups .entry)) (now (labels .entry)) r (now (ups .exit)) (now (labels .exit)) ⌝ }
 {
     if !opens(text, at) {
-        return Step::Not;
+        return Step::Absent;
     }
     if 64 <= nodes {
         return Step::Not;
@@ -102,6 +105,8 @@ fn element(
     let inside = elements(text, at + 3, nodes as u8, nodes + 1, ups, labels);
     match inside {
         Step::Not => Step::Not,
+        // Never answered by `elements`; if it were, it would be a miss.
+        Step::Absent => Step::Not,
         Step::To(end, count) => {
             if count == nodes + 1 {
                 return Step::Not;
@@ -114,7 +119,7 @@ fn element(
     }
 }
 
-// As many elements as follow, under the node `up`.
+// As many elements as follow, under the node `up`. A loop, since a call for each of them would hand its answer back through all before it.
 fn elements(
     text: &[u8],
     at: usize,
@@ -126,13 +131,22 @@ fn elements(
     requires { ⌜ Readable (now text) at nodes (now ups) (now labels) ⌝ }
     ensures { λ r. ⌜ ForestRead Ended (now (text .entry)) at up nodes (now (ups .entry)) (now (labels .entry)) r (now (ups .exit)) (now (labels .exit)) ⌝ }
 {
-    if !opens(text, at) {
-        return Step::To(at, nodes);
-    }
-    let first = element(text, at, up, nodes, ups, labels);
-    match first {
-        Step::Not => Step::Not,
-        Step::To(end, count) => elements(text, end, up, count, ups, labels),
+    let mut place = at;
+    let mut count = nodes;
+    loop {
+        let next = element(text, place, up, count, ups, labels);
+        match next {
+            Step::Not => {
+                return Step::Not;
+            }
+            Step::Absent => {
+                return Step::To(place, count);
+            }
+            Step::To(end, total) => {
+                place = end;
+                count = total;
+            }
+        }
     }
 }
 
@@ -164,6 +178,7 @@ pub fn read(text: &[u8], nodes: &mut [u8]) -> Answer
     let outermost = element(text, 0, 0, 1, &mut ups, &mut labels);
     match outermost {
         Step::Not => Answer::Refused(16),
+        Step::Absent => Answer::Refused(16),
         Step::To(end, count) => {
             if end != text.len() {
                 return Answer::Refused(16);

@@ -1,19 +1,20 @@
--- `element` and `elements` find what stands at a place, or miss it. Both go forward in the text: `elements` asks `element` at the same place and itself
--- behind an element, and `element` asks `elements` three bytes on. The places of the code are named first, with what is known there.
-use mathlib.Core.Path.{_≡_, refl, sym, _∙_}
+-- `element` and `elements` find what stands at a place, or miss it. Both go forward in the text: `elements` asks `element` at its place and then behind each
+-- element, and `element` asks `elements` three bytes on. The places of the code are named first, with what is known there.
+use mathlib.Core.Path.{_≡_, refl, sym, _∙_, subst}
 use mathlib.Core.Bool.{true}
 use mathlib.Core.List.{List}
 use Prim.Native.Nat.{ℕ, _+_, _-_, _*_, _≤_, _<_}
+use native.Mathlib.Nat.{le-refl}
 use native.Mathlib.Omega.{arith}
 use lib.ListN.{length, getD, set, length-set}
 use borrow.Author.Tests.{not-true, not-false}
 use borrow.Author.Needs.{needs}
 use borrow.Fn.Kinds.{In}
 use borrow.Fn.PlainCycle.{Measures, is, falls, and}
-use Rattle.xmlreader.specs.declared.Step.the-variants.{To, Not}
-use Rattle.xmlreader.specs.Reading.{opensAt, closesAt, Single, Ended, Readable, Found, Missed, ForestRead}
+use Rattle.xmlreader.specs.declared.Step.{Step}
+use Rattle.xmlreader.specs.declared.Step.the-variants.{To, Absent, Not}
+use Rattle.xmlreader.specs.Reading.{opensAt, closesAt, Single, Ended, Readable, Found, ForestRead, Began}
 use Rattle.xmlreader.proofs.Bytes.{Started, started, byte-there, name-some, empty-within, closes-within}
-use Rattle.xmlreader.proofs.Found.{to-found, to-missed}
 use Rattle.xmlreader.proofs.Single.{miss-start, miss-many, miss-neither, miss-inside, miss-empty, miss-close, found-leaf, found-around}
 use Rattle.xmlreader.proofs.Following.{found-none, miss-first, forward, readable-after, then-more}
 use Rattle.xmlreader.proofs.element.Reads as element
@@ -66,7 +67,7 @@ element-claims t = (
 )
 
 abbrev elements-claims : ℕ → elements-lts.Claims
-elements-claims t = (opens-reads.Asked, opens-reads.Learnt, element-below t, element.Post, elements-below t, elements.Post)
+elements-claims t = (element-below t, element.Post)
 
 -- ---- places of `element`: the name is read
 
@@ -101,10 +102,11 @@ module _ (t : ℕ) (n : element-lts.After-label-named (element-claims t) (elemen
   few : nodes < 64
   few = n .before .before .if2 .left
 
+  opened : opensAt text at ≡ true
+  opened = let o = n .before .before .before in sym (o .before .opens .ensures) ∙ not-false _ (o .if1 .left)
+
   begun : Started text at name label
-  begun =
-      let o = n .before .before .before in
-      started text at name label (sym (o .before .opens .ensures) ∙ not-false _ (o .if1 .left)) (n .before .byte-at .ensures) (n .label-named .ensures)
+  begun = started text at name label opened (n .before .byte-at .ensures) (n .label-named .ensures)
 
 -- > behind the name
 
@@ -139,12 +141,8 @@ module _ (t : ℕ) (e : element-lts.After-elements (element-claims t) (element-a
   abbrev ls₀ : List ℕ
   ls₀ = set (labels t place) (nodes t place) (label t place)
 
-  inside-found : (end total : ℕ) → e .elements .result ≡ To end total
-      → Found Ended (text t place) (at t place + 3) (nodes t place) (nodes t place + 1) us₀ ls₀ end total us ls
-  inside-found end total d = to-found Ended (text t place) (at t place + 3) (nodes t place) (nodes t place + 1) us₀ ls₀ (e .elements .result) us ls end total (e .elements .ensures) d
-
-  inside-missed : e .elements .result ≡ Not → Missed Ended (text t place) (at t place + 3) (nodes t place + 1)
-  inside-missed d = to-missed Ended (text t place) (at t place + 3) (nodes t place) (nodes t place + 1) us₀ ls₀ (e .elements .result) us ls (e .elements .ensures) d
+  inside-read : (r : Step) → e .elements .result ≡ r → ForestRead Ended (text t place) (at t place + 3) (nodes t place) (nodes t place + 1) us₀ ls₀ r us ls
+  inside-read r d = subst (λ (x : Step). ForestRead Ended (text t place) (at t place + 3) (nodes t place) (nodes t place + 1) us₀ ls₀ x us ls) d (e .elements .ensures)
 
 -- it ended at a place, with so many nodes
 
@@ -162,7 +160,7 @@ module _ (t : ℕ) (i : element-lts.After-inside (element-claims t) (element-at 
   total = i .inside .given .0 .1 .0
 
   inside : Found Ended (text t outer) (at t outer + 3) (nodes t outer) (nodes t outer + 1) (us₀ t answer) (ls₀ t answer) end total (us t answer) (ls t answer)
-  inside = inside-found t answer end total (i .inside .given .1)
+  inside = inside-read t answer (To end total) (i .inside .given .1)
 
 -- there were some, and the end of the element is asked for
 
@@ -182,12 +180,14 @@ element-opens-requires t c κs = search needs
 element-returns : (t : ℕ) → element-lts.Need-returns (element-claims t) (element-at t) element.Post
 element-returns t c =
     let s = c .before .before .before in
-    miss-start (s .args .text .now) (s .args .at) (s .args .nodes) (sym (c .before .opens .ensures) ∙ not-true _ (c .if1 .taken))
+    let f = sym (c .before .opens .ensures) ∙ not-true _ (c .if1 .taken) in
+    (miss-start (s .args .text .now) (s .args .at) (s .args .nodes) f, (f, refl, refl))
 
 element-returns-2 : (t : ℕ) → element-lts.Need-returns-2 (element-claims t) (element-at t) element.Post
 element-returns-2 t c =
     let s = c .before .before .before .before in
-    miss-many (s .args .text .now) (s .args .at) (s .args .nodes) (c .if2 .taken)
+    let o = sym (c .before .before .opens .ensures) ∙ not-false _ (c .before .if1 .left) in
+    (miss-many (s .args .text .now) (s .args .at) (s .args .nodes) (c .if2 .taken), o)
 
 element-add-byte-at : (t : ℕ) → element-lts.Need-add-byte-at (element-claims t) (element-at t) element.Post
 element-add-byte-at t c =
@@ -225,7 +225,7 @@ element-add-t21 t c = let l = few t (c .before .before) in omega (arith, l)
 element-returns-3 : (t : ℕ) → element-lts.Need-returns-3 (element-claims t) (element-at t) element.Post
 element-returns-3 t c =
     let n = c .before .before in
-    found-leaf (begun t n) (start t n .args .up) (readable t n) (few t n) (sym (c .before .is-empty .ensures) ∙ c .if3 .taken)
+    (found-leaf (begun t n) (start t n .args .up) (readable t n) (few t n) (sym (c .before .is-empty .ensures) ∙ c .if3 .taken), opened t n)
 
 element-add-byte-at-2 : (t : ℕ) → element-lts.Need-add-byte-at-2 (element-claims t) (element-at t) element.Post
 element-add-byte-at-2 t c = let l = begun t (c .before .before) .within in omega (arith, l)
@@ -236,7 +236,8 @@ element-byte-at-requires-2 t c κs = search needs
 element-returns-4 : (t : ℕ) → element-lts.Need-returns-4 (element-claims t) (element-at t) element.Post
 element-returns-4 t c =
     let n = c .before .before .before .before in
-    miss-neither (begun t n) (nodes t n) (sym (c .before .before .before .is-empty .ensures) ∙ c .before .before .if3 .left) (λ h. c .if4 .taken (c .before .byte-at2 .ensures ∙ h))
+    let e = sym (c .before .before .before .is-empty .ensures) ∙ c .before .before .if3 .left in
+    (miss-neither (begun t n) (nodes t n) e (λ h. c .if4 .taken (c .before .byte-at2 .ensures ∙ h)), opened t n)
 
 element-add-elements : (t : ℕ) → element-lts.Need-add-elements (element-claims t) (element-at t) element.Post
 element-add-elements t c = let l = three t c in omega (arith, l)
@@ -267,6 +268,9 @@ element-elements-requires t c κs =
 element-enum-told : (t : ℕ) → element-lts.Need-enum-told (element-claims t) (element-at t) element.Post
 element-enum-told t c = search needs
 
+element-enum-told-2 : (t : ℕ) → element-lts.Need-enum-told-2 (element-claims t) (element-at t) element.Post
+element-enum-told-2 t c = search needs
+
 element-enum-known-inside : (t : ℕ) → element-lts.Need-enum-known-inside (element-claims t) (element-at t) element.Post
 element-enum-known-inside t c = search needs
 
@@ -277,7 +281,7 @@ element-returns-5 : (t : ℕ) → element-lts.Need-returns-5 (element-claims t) 
 element-returns-5 t c =
     let i = c .before .before in
     let n = outer t i in
-    miss-empty (begun t n) (nodes t n) (bracket t (behind t (answer t i))) (inside t i) (c .if5 .taken)
+    (miss-empty (begun t n) (nodes t n) (bracket t (behind t (answer t i))) (inside t i) (c .if5 .taken), opened t n)
 
 element-closes-requires : (t : ℕ) → element-lts.Need-closes-requires (element-claims t) (element-at t) element.Post
 element-closes-requires t c κs = search needs
@@ -286,7 +290,7 @@ element-returns-6 : (t : ℕ) → element-lts.Need-returns-6 (element-claims t) 
 element-returns-6 t c =
     let i = ended t (c .before) in
     let n = outer t i in
-    miss-close (begun t n) (nodes t n) (bracket t (behind t (answer t i))) (inside t i) (sym (closes-seen t (c .before)) ∙ not-true _ (c .if6 .taken))
+    (miss-close (begun t n) (nodes t n) (bracket t (behind t (answer t i))) (inside t i) (sym (closes-seen t (c .before)) ∙ not-true _ (c .if6 .taken)), opened t n)
 
 element-add-t27 : (t : ℕ) → element-lts.Need-add-t27 (element-claims t) (element-at t) element.Post
 element-add-t27 t c =
@@ -298,33 +302,59 @@ element-add-t27 t c =
 element-returns-7 : (t : ℕ) → element-lts.Need-returns-7 (element-claims t) (element-at t) element.Post
 element-returns-7 t c =
     let e = c .before .before in
-    miss-inside (begun t (place t e)) (nodes t (place t e)) (bracket t (behind t e)) (inside-missed t e (c .enum-told .given .1))
+    let n = place t e in
+    (miss-inside (begun t n) (nodes t n) (bracket t (behind t e)) (inside-read t e Not (c .enum-told .given .1)), opened t n)
 
 element-returns-8 : (t : ℕ) → element-lts.Need-returns-8 (element-claims t) (element-at t) element.Post
 element-returns-8 t c =
+    let e = c .before .before in
+    let n = place t e in
+    (miss-inside (begun t n) (nodes t n) (bracket t (behind t e)) (inside-read t e Absent (c .enum-told2 .given .1)), opened t n)
+
+element-returns-9 : (t : ℕ) → element-lts.Need-returns-9 (element-claims t) (element-at t) element.Post
+element-returns-9 t c =
     let a = c .before in
     let i = ended t a in
     let n = outer t i in
-    found-around (begun t n) (start t n .args .up) (readable t n) (few t n) (bracket t (behind t (answer t i))) (inside t i) (some-inside t a)
-    (sym (closes-seen t a) ∙ not-false _ (c .if6 .left))
+    let e = sym (closes-seen t a) ∙ not-false _ (c .if6 .left) in
+    (found-around (begun t n) (start t n .args .up) (readable t n) (few t n) (bracket t (behind t (answer t i))) (inside t i) (some-inside t a) e, opened t n)
 
--- ---- places of `elements`: an element starts
+-- ---- places of `elements`: what is read from a place in the round is read from the start
 
-module _ (t : ℕ) (o : elements-lts.Else1 (elements-claims t) (elements-at t) elements.Post) where
-  abbrev all : elements-lts.Start (elements-claims t) (elements-at t) elements.Post
-  all = o .before .before .before
+abbrev elements-Inv-loop : elements-lts.InvT-loop
+elements-Inv-loop text at up nodes ups₀ labels₀ at₀ nodes₀ ups labels place count =
+    (at ≤ place) × Readable text place count ups labels
+    × ((r : Step) (us ls : List ℕ) → ForestRead Ended text place up count ups labels r us ls → ForestRead Ended text at up nodes ups₀ labels₀ r us ls)
 
-  opened : opensAt (all .args .text .now) (all .args .at) ≡ true
-  opened = sym (o .before .opens .ensures) ∙ not-false _ (o .if1 .left)
+abbrev elements-μ-loop : elements-lts.MeasureT-loop
+elements-μ-loop text at up nodes ups₀ labels₀ at₀ nodes₀ ups labels place count = length text - place
 
--- and is read
+-- the next one is read
 
-module _ (t : ℕ) (e : elements-lts.After-element (elements-claims t) (elements-at t) elements.Post) where
-  abbrev there : elements-lts.Else1 (elements-claims t) (elements-at t) elements.Post
-  there = e .before .before .before
+module _ (t : ℕ) (e : elements-lts.After-element (elements-claims t) (elements-at t) elements.Post elements-Inv-loop elements-μ-loop) where
+  abbrev round : elements-lts.At-loop (elements-claims t) (elements-at t) elements.Post elements-Inv-loop elements-μ-loop
+  round = e .before .before .before
 
-  abbrev args : elements-lts.Args (elements-claims t) (elements-at t) elements.Post (all t there .κs)
-  args = all t there .args
+  abbrev all : elements-lts.Start (elements-claims t) (elements-at t) elements.Post elements-Inv-loop elements-μ-loop
+  all = round .before .before
+
+  abbrev args : elements-lts.Args (elements-claims t) (elements-at t) elements.Post elements-Inv-loop elements-μ-loop (all .κs)
+  args = all .args
+
+  abbrev text₁ : List ℕ
+  text₁ = args .text .now
+
+  abbrev from : ℕ
+  from = round .loop .place
+
+  abbrev so-far : ℕ
+  so-far = round .loop .count
+
+  abbrev ups₁ : List ℕ
+  ups₁ = round .loop .ups
+
+  abbrev labels₁ : List ℕ
+  labels₁ = round .loop .labels
 
   abbrev us₁ : List ℕ
   us₁ = e .element .last .1 .1 .1 .1 .0
@@ -332,84 +362,80 @@ module _ (t : ℕ) (e : elements-lts.After-element (elements-claims t) (elements
   abbrev ls₁ : List ℕ
   ls₁ = e .element .last .1 .1 .1 .1 .1 .0
 
-  first-found : (end total : ℕ) → e .element .result ≡ To end total
-      → Found Single (args .text .now) (args .at) (args .up) (args .nodes) (args .ups .now) (args .labels .now) end total us₁ ls₁
-  first-found end total d =
-      to-found Single (args .text .now) (args .at) (args .up) (args .nodes) (args .ups .now) (args .labels .now) (e .element .result) us₁ ls₁ end total (e .element .ensures) d
+  next-seen : ForestRead Single text₁ from (args .up) so-far ups₁ labels₁ (e .element .result) us₁ ls₁
+  next-seen = e .element .ensures .0
 
-  first-missed : e .element .result ≡ Not → Missed Single (args .text .now) (args .at) (args .nodes)
-  first-missed d = to-missed Single (args .text .now) (args .at) (args .up) (args .nodes) (args .ups .now) (args .labels .now) (e .element .result) us₁ ls₁ (e .element .ensures) d
+  next-read : (r : Step) → e .element .result ≡ r → ForestRead Single text₁ from (args .up) so-far ups₁ labels₁ r us₁ ls₁
+  next-read r d = subst (λ (x : Step). ForestRead Single text₁ from (args .up) so-far ups₁ labels₁ x us₁ ls₁) d next-seen
+
+  next-began : (r : Step) → e .element .result ≡ r → Began text₁ from ups₁ labels₁ r us₁ ls₁
+  next-began r d = subst (λ (x : Step). Began text₁ from ups₁ labels₁ x us₁ ls₁) d (e .element .ensures .1)
 
 -- it ended at a place, with so many nodes
 
-module _ (t : ℕ) (i : elements-lts.After-first (elements-claims t) (elements-at t) elements.Post) where
-  abbrev answer₁ : elements-lts.After-element (elements-claims t) (elements-at t) elements.Post
+module _ (t : ℕ) (i : elements-lts.After-next (elements-claims t) (elements-at t) elements.Post elements-Inv-loop elements-μ-loop) where
+  abbrev answer₁ : elements-lts.After-element (elements-claims t) (elements-at t) elements.Post elements-Inv-loop elements-μ-loop
   answer₁ = i .before .before
 
   abbrev end₁ : ℕ
-  end₁ = i .first .given .0 .0
+  end₁ = i .next .given .0 .0
 
   abbrev total₁ : ℕ
-  total₁ = i .first .given .0 .1 .0
+  total₁ = i .next .given .0 .1 .0
 
-  first : Found Single (args t answer₁ .text .now) (args t answer₁ .at) (args t answer₁ .up) (args t answer₁ .nodes) (args t answer₁ .ups .now) (args t answer₁ .labels .now) end₁ total₁
+  next : Found Single (text₁ t answer₁) (from t answer₁) (args t answer₁ .up) (so-far t answer₁) (ups₁ t answer₁) (labels₁ t answer₁) end₁ total₁
       (us₁ t answer₁) (ls₁ t answer₁)
-  first = first-found t answer₁ end₁ total₁ (i .first .given .1)
+  next = next-read t answer₁ (To end₁ total₁) (i .next .given .1)
 
--- and those after it are read
+elements-loop-holds : (t : ℕ) → elements-lts.Need-loop-holds (elements-claims t) (elements-at t) elements.Post elements-Inv-loop elements-μ-loop
+elements-loop-holds t c = (le-refl _, c .before .pre .1, λ r us ls h. h)
 
-module _ (t : ℕ) (r : elements-lts.After-elements (elements-claims t) (elements-at t) elements.Post) where
-  abbrev before : elements-lts.After-first (elements-claims t) (elements-at t) elements.Post
-  before = r .before .before .before .before
-
-  abbrev given : elements-lts.Args (elements-claims t) (elements-at t) elements.Post (all t (there t (answer₁ t before)) .κs)
-  given = args t (answer₁ t before)
-
-  others-seen : ForestRead Ended (given .text .now) (end₁ t before) (given .up) (total₁ t before) (us₁ t (answer₁ t before)) (ls₁ t (answer₁ t before)) (r .elements .result)
-      (r .elements .last .1 .1 .1 .1 .0) (r .elements .last .1 .1 .1 .1 .1 .0)
-  others-seen = r .elements .ensures
-
-elements-opens-requires : (t : ℕ) → elements-lts.Need-opens-requires (elements-claims t) (elements-at t) elements.Post
-elements-opens-requires t c κs = search needs
-
-elements-returns : (t : ℕ) → elements-lts.Need-returns (elements-claims t) (elements-at t) elements.Post
-elements-returns t c =
-    let s = c .before .before .before in
-    found-none (s .args .up) (s .pre .1) (sym (c .before .opens .ensures) ∙ not-true _ (c .if1 .taken))
-
-elements-element-requires : (t : ℕ) → elements-lts.Need-element-requires (elements-claims t) (elements-at t) elements.Post
+elements-element-requires : (t : ℕ) → elements-lts.Need-element-requires (elements-claims t) (elements-at t) elements.Post elements-Inv-loop elements-μ-loop
 elements-element-requires t c κs =
-    let s = all t (c .before .before) in
-    let m = s .pre .0 in
-    (omega (arith, m), s .pre .1)
+    let r = c .before .before in
+    let m = r .before .before .pre .0 in
+    let i = r .loop .inv in
+    let l = i .0 in
+    let w = i .1 .within in
+    (omega (arith, m, l, w), i .1)
 
-elements-enum-told : (t : ℕ) → elements-lts.Need-enum-told (elements-claims t) (elements-at t) elements.Post
+elements-enum-told : (t : ℕ) → elements-lts.Need-enum-told (elements-claims t) (elements-at t) elements.Post elements-Inv-loop elements-μ-loop
 elements-enum-told t c = search needs
 
-elements-enum-known-first : (t : ℕ) → elements-lts.Need-enum-known-first (elements-claims t) (elements-at t) elements.Post
-elements-enum-known-first t c = search needs
+elements-returns : (t : ℕ) → elements-lts.Need-returns (elements-claims t) (elements-at t) elements.Post elements-Inv-loop elements-μ-loop
+elements-returns t c =
+    let e = c .before .before in
+    let d = c .enum-told .given .1 in
+    round t e .loop .inv .2 Not (us₁ t e) (ls₁ t e) (miss-first (text₁ t e) (from t e) (so-far t e) (next-began t e Not d) (next-read t e Not d))
 
-elements-elements-requires : (t : ℕ) → elements-lts.Need-elements-requires (elements-claims t) (elements-at t) elements.Post
-elements-elements-requires t c κs =
-    let i = c .before .before .before in
-    let s = all t (there t (answer₁ t i)) in
-    let m = s .pre .0 in
-    let w = forward (s .pre .1) (first t i) in
-    let l = first t i .within in
-    (omega (arith, m, w, l), readable-after (s .pre .1) (first t i))
+elements-enum-told-2 : (t : ℕ) → elements-lts.Need-enum-told-2 (elements-claims t) (elements-at t) elements.Post elements-Inv-loop elements-μ-loop
+elements-enum-told-2 t c = search needs
 
-elements-returns-2 : (t : ℕ) → elements-lts.Need-returns-2 (elements-claims t) (elements-at t) elements.Post
+elements-returns-2 : (t : ℕ) → elements-lts.Need-returns-2 (elements-claims t) (elements-at t) elements.Post elements-Inv-loop elements-μ-loop
 elements-returns-2 t c =
     let e = c .before .before in
-    let o = there t e in
-    let s = all t o in
-    miss-first (s .args .text .now) (s .args .at) (s .args .nodes) (opened t o) (first-missed t e (c .enum-told .given .1))
+    let i = round t e .loop .inv in
+    i .2 (To (from t e) (so-far t e)) (us₁ t e) (ls₁ t e) (found-none (args t e .up) (i .1) (next-began t e Absent (c .enum-told2 .given .1)))
 
-elements-returns-3 : (t : ℕ) → elements-lts.Need-returns-3 (elements-claims t) (elements-at t) elements.Post
-elements-returns-3 t c =
-    let i = before t c in
-    let o = there t (answer₁ t i) in
-    then-more (all t o .pre .1) (first t i) (opened t o) (c .elements .result) _ _ (others-seen t c)
+elements-enum-known-next : (t : ℕ) → elements-lts.Need-enum-known-next (elements-claims t) (elements-at t) elements.Post elements-Inv-loop elements-μ-loop
+elements-enum-known-next t c = search needs
+
+elements-loop-less : (t : ℕ) → elements-lts.Need-loop-less (elements-claims t) (elements-at t) elements.Post elements-Inv-loop elements-μ-loop
+elements-loop-less t c =
+    let i = c .before in
+    let w = forward (round t (answer₁ t i) .loop .inv .1) (next t i) in
+    let l = next t i .within in
+    omega (arith, w, l)
+
+elements-loop-again : (t : ℕ) → elements-lts.Need-loop-again (elements-claims t) (elements-at t) elements.Post elements-Inv-loop elements-μ-loop
+elements-loop-again t c =
+    let i = c .before in
+    let e = answer₁ t i in
+    let v = round t e .loop .inv in
+    let a = v .0 in
+    let b = next t i .forward in
+    let o = next-began t e (To (end₁ t i) (total₁ t i)) (i .next .given .1) in
+    (omega (arith, a, b), readable-after (v .1) (next t i), λ r us ls h. v .2 r us ls (then-more (v .1) (next t i) o r us ls h))
 
 pub +element+elements-spec : {M : Type 1} → statement M
 +element+elements-spec = close μ-element μ-elements (λ t. element-lts.spec (element-claims t)
@@ -436,6 +462,7 @@ pub +element+elements-spec : {M : Type 1} → statement M
     (element-add-elements-2 t)
     (element-elements-requires t)
     (element-enum-told t)
+    (element-enum-told-2 t)
     (element-enum-known-inside t)
     (element-add-if5 t)
     (element-returns-5 t)
@@ -443,15 +470,19 @@ pub +element+elements-spec : {M : Type 1} → statement M
     (element-returns-6 t)
     (element-add-t27 t)
     (element-returns-7 t)
-    (element-returns-8 t))
+    (element-returns-8 t)
+    (element-returns-9 t))
     λ t. elements-lts.spec (elements-claims t)
     (elements-at t)
     elements.Post
-    (elements-opens-requires t)
-    (elements-returns t)
+    elements-Inv-loop
+    elements-μ-loop
+    (elements-loop-holds t)
     (elements-element-requires t)
     (elements-enum-told t)
-    (elements-enum-known-first t)
-    (elements-elements-requires t)
+    (elements-returns t)
+    (elements-enum-told-2 t)
     (elements-returns-2 t)
-    (elements-returns-3 t)
+    (elements-enum-known-next t)
+    (elements-loop-less t)
+    (elements-loop-again t)

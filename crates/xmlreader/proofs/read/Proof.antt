@@ -1,13 +1,13 @@
 -- The room, the outermost element to the end of the text, then its records.
-use mathlib.Core.Path.{_≡_}
+use mathlib.Core.Path.{_≡_, subst}
 use mathlib.Core.List.{List}
 use Prim.Native.Nat.{ℕ, _≤_}
 use native.Mathlib.Omega.{arith}
 use lib.ListN.{length, replicate}
 use borrow.Author.Needs.{needs}
-use Rattle.xmlreader.specs.declared.Step.the-variants.{To, Not}
-use Rattle.xmlreader.specs.Reading.{Single, Found, Missed}
-use Rattle.xmlreader.proofs.Found.{to-found, to-missed}
+use Rattle.xmlreader.specs.declared.Step.{Step}
+use Rattle.xmlreader.specs.declared.Step.the-variants.{To, Absent, Not}
+use Rattle.xmlreader.specs.Reading.{Single, Found, ForestRead}
 use Rattle.xmlreader.proofs.Answers.{start-readable, short, missed-all, bytes-left, room, written}
 use Rattle.xmlreader.proofs.read.Statement.{statement}
 use Rattle.xmlreader.proofs.read.Tie as tie
@@ -36,11 +36,8 @@ module _ (e : tie.After-element) where
   wide : 256 ≤ length buffer
   wide = e .before .before .before .if1 .left
 
-  found : (end total : ℕ) → e .element .result ≡ To end total → Found Single text 0 0 1 blank blank end total us ls
-  found end total d = to-found Single text 0 0 1 blank blank (e .element .result) us ls end total (e .element .ensures) d
-
-  missed : e .element .result ≡ Not → Missed Single text 0 1
-  missed d = to-missed Single text 0 0 1 blank blank (e .element .result) us ls (e .element .ensures) d
+  outermost-read : (r : Step) → e .element .result ≡ r → ForestRead Single text 0 0 1 blank blank r us ls
+  outermost-read r d = subst (λ (x : Step). ForestRead Single text 0 0 1 blank blank x us ls) d (e .element .ensures .0)
 
 -- where it has found one
 
@@ -55,7 +52,7 @@ module _ (o : tie.After-outermost) where
   total = o .outermost .given .0 .1 .0
 
   outermost : Found Single (text answer) 0 0 1 blank blank end total (us answer) (ls answer)
-  outermost = found answer end total (o .outermost .given .1)
+  outermost = outermost-read answer (To end total) (o .outermost .given .1)
 
 -- and no byte is left
 
@@ -70,6 +67,9 @@ element-requires c κs = start-readable _
 
 enum-told : tie.Need-enum-told
 enum-told c = search needs
+
+enum-told-2 : tie.Need-enum-told-2
+enum-told-2 c = search needs
 
 enum-known-outermost : tie.Need-enum-known-outermost
 enum-known-outermost c = search needs
@@ -94,13 +94,18 @@ mul-t13 c =
 returns-3 : tie.Need-returns-3
 returns-3 c =
     let e = c .before .before in
-    missed-all (text e) (buffer e) (wide e) (missed e (c .enum-told .given .1))
+    missed-all (text e) (buffer e) (wide e) (outermost-read e Not (c .enum-told .given .1))
+
+returns-4 : tie.Need-returns-4
+returns-4 c =
+    let e = c .before .before in
+    missed-all (text e) (buffer e) (wide e) (outermost-read e Absent (c .enum-told2 .given .1))
 
 same-length : tie.Need-same-length
 same-length c = search needs
 
-returns-4 : tie.Need-returns-4
-returns-4 c =
+returns-5 : tie.Need-returns-5
+returns-5 c =
     let put = c .before .before in
     let l = put .before .before .before .before in
     let o = l .before .before in
@@ -114,10 +119,12 @@ read-spec =
     returns
     element-requires
     enum-told
+    enum-told-2
     enum-known-outermost
     returns-2
     put-nodes-requires
     mul-t13
     returns-3
+    returns-4
     same-length
-    returns-4)
+    returns-5)
