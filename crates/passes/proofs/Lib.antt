@@ -1,0 +1,6 @@
+pub mod Chain
+mod Taking
+mod Passing
+mod Weights
+mod Final
+mod Document
