@@ -27,13 +27,13 @@ use Rattle.tables.proofs.Labels.{label-has, label-is}
 use Rattle.tables.proofs.Groups as groups
 use Rattle.tables.proofs.Groups.{Twin, One, Two, Order, flip, alone, own, each, turn, embed-in, shared-sharing, shared-least, sharing-same}
 use Rattle.passes.specs.Rows.{In, GroupsOf, WholeGroups, Joins, by-leaf, by-child, by-root, JoinedOf}
-use Rattle.passes.specs.Shares.{shareAt, Source, ShareOf, GroupClash, two-labels, apart, SharedOf}
+use Rattle.sharing.specs.Shares.{shareAt, Source, ShareOf, GroupClash, two-labels, apart, SharedOf}
 use Rattle.passes.proofs.Weights.{bits-le}
 use Rattle.passes.specs.Steps.{weight, SteppedOf, PassRules}
 use Rattle.passes.specs.declared.Groups.{Groups}
-use Rattle.passes.specs.declared.Share.{Share}
-use Rattle.passes.specs.declared.Shares.{Shares}
-use Rattle.passes.specs.declared.Shared.{Shared}
+use Rattle.sharing.specs.declared.Share.{Share}
+use Rattle.sharing.specs.declared.Shares.{Shares}
+use Rattle.sharing.specs.declared.Shared.{Shared}
 use Rattle.passes.specs.declared.Joined.{Joined}
 
 -- the tables that f's groups share

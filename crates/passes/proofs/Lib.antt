@@ -1,6 +1,5 @@
 pub mod Chain
-mod Taking
-mod Passing
+mod Joining
 mod Weights
 mod Final
 mod Document

@@ -1,5 +1,5 @@
 -- What the helpers of a pass compute.
-use mathlib.Core.Bool.{Bool, true, false}
+use mathlib.Core.Bool.{true, false}
 use mathlib.Core.Path.{_≡_}
 use mathlib.Core.Logic.{_≢_, _⊎_}
 use mathlib.Core.List.{List}
@@ -21,11 +21,6 @@ In t x y = Yes (bit (row t x) y)
 -- a row of below by the rules that look at no other row: itself, its children, and all if it is a root
 unfoldable pub firstRow : ℕ → ℕ → ℕ → ℕ → ℕ → ℕ
 firstRow b c roots x n = gained (bit roots x) (bitOr (bitOr b c) (2 ^ x)) (2 ^ n - 1)
-
--- whether two labels, 0 for none, clash
-pub record Clashing (l m : ℕ) (r : Bool) : Type 0 where
-  pub clash : r ≡ true → (l ≢ 0) × (m ≢ 0) × (l ≢ m)
-  pub free : r ≡ false → l ≢ 0 → m ≢ 0 → l ≡ m
 
 -- r has every variable that is in the row of another one
 pub record Grouped (same : List ℕ) (r : ℕ) : Type 0 where

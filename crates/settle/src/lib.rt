@@ -5,11 +5,11 @@ ghost use Rattle.tables.specs.Tables.{Seeded};
 ghost use Prim.Native.Nat.{_≤_};
 ghost use Rattle.settle.specs.Siblings.{Reached, Unlike, Ordered, PassedOn, Parted, OrderOf};
 ghost use Rattle.settle.specs.Settling.{SettledOf};
-use tables::Facts;
-use tables::Settled;
 use passes::chain_rows;
 use passes::grouped;
 use passes::pass_bare;
+use tables::Facts;
+use tables::Settled;
 
 // Each row of t with what the rows of b hold that the same row of a names.
 fn reach(t: [u16; 16], a: [u16; 16], b: [u16; 16]) -> [u16; 16]

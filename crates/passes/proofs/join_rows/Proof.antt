@@ -2,7 +2,7 @@
 use Prim.Native.Nat.{_≤_, _-_}
 use native.Mathlib.Numerals.{add-one-le}
 use borrow.Author.Needs.{needs}
-use Rattle.passes.proofs.Passing.{Joining, joining-none, joining-more, joining-all}
+use Rattle.passes.proofs.Joining.{Joining, joining-none, joining-more, joining-all}
 use Rattle.passes.proofs.join_rows.Statement.{statement}
 use Rattle.passes.proofs.join_rows.Tie as tie
 

@@ -1,4 +1,4 @@
--- `passes::share_rows` meets its contract. The loop over x knows what every row that was passed holds, the loops over y and z what x has taken so
+-- `sharing::share_rows` meets its contract. The loop over x knows what every row that was passed holds, the loops over y and z what x has taken so
 -- far.
 use mathlib.Core.Path.{_≡_, refl, sym, ap, _∙_, subst}
 use mathlib.Core.Bool.{false}
@@ -14,12 +14,11 @@ use Rattle.tables.specs.Tables.{row}
 use Rattle.tables.proofs.Bits.{in-both}
 use Rattle.tables.proofs.Helpers.{doubled}
 use Rattle.tables.proofs.Members.{passed-none, passed-less, next-in, next-named}
-use Rattle.passes.specs.Rows.{Clashing}
-use Rattle.passes.specs.Shares.{two-labels, apart}
-use Rattle.passes.proofs.Taking.{Zs, Ys, grown-none, taking-none, added, z-step, y-step}
-use Rattle.passes.proofs.Passing.{Passing, passing-none, passing-more, share-of, shared-rows, shared-clash}
-use Rattle.passes.proofs.share_rows.Statement.{statement}
-use Rattle.passes.proofs.share_rows.Tie as tie
+use Rattle.sharing.specs.Shares.{Clashing, two-labels, apart}
+use Rattle.sharing.proofs.Taking.{Zs, Ys, grown-none, taking-none, added, z-step, y-step}
+use Rattle.sharing.proofs.Passing.{Passing, passing-none, passing-more, share-of, shared-rows, shared-clash}
+use Rattle.sharing.proofs.share_rows.Statement.{statement}
+use Rattle.sharing.proofs.share_rows.Tie as tie
 
 abbrev Inv-loop2 : tie.InvT-loop2
 Inv-loop2 several n t same shares clash₀ x visits s₀ ys y ly cy py dy zs₀ clash s zs =

@@ -10,9 +10,14 @@ use Rattle.meaning.specs.Finite.{Yes, pick}
 use Rattle.rowbits.specs.Bit.{bit}
 use Rattle.tables.specs.Tables.{row}
 use Rattle.tables.specs.Rows.{gained}
-use Rattle.passes.specs.declared.Share.{Share}
-use Rattle.passes.specs.declared.Shares.{Shares}
-use Rattle.passes.specs.declared.Shared.{Shared}
+use Rattle.sharing.specs.declared.Share.{Share}
+use Rattle.sharing.specs.declared.Shares.{Shares}
+use Rattle.sharing.specs.declared.Shared.{Shared}
+
+-- whether two labels, 0 for none, clash
+pub record Clashing (l m : ℕ) (r : Bool) : Type 0 where
+  pub clash : r ≡ true → (l ≢ 0) × (m ≢ 0) × (l ≢ m)
+  pub free : r ≡ false → l ≢ 0 → m ≢ 0 → l ≡ m
 
 pub record WithRows (s : Share) (c p d l : ℕ) (r : Share) : Type 0 where
   pub child : r .child ≡ bitOr (s .child) c

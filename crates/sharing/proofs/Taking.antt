@@ -15,10 +15,9 @@ use Rattle.tables.specs.Rows.{Lowest, without}
 use Rattle.tables.proofs.Bits.{none-in, or-case, or-l, or-r, in-both, both-in, gained-up, gained-has, gained-case}
 use Rattle.tables.proofs.Tested.{and-yes, yes-and, not-eq, eq-not}
 use Rattle.tables.proofs.Members.{Passed, passed-more, passed-all, next-named}
-use Rattle.passes.specs.Rows.{Clashing}
-use Rattle.passes.specs.Shares.{WithRows, WithGroup, shareAt, Taking, Twin, Taken}
-use Rattle.passes.specs.declared.Share.{Share}
-use Rattle.passes.specs.declared.Shares.{Shares}
+use Rattle.sharing.specs.Shares.{Clashing, WithRows, WithGroup, shareAt, Taking, Twin, Taken}
+use Rattle.sharing.specs.declared.Share.{Share}
+use Rattle.sharing.specs.declared.Shares.{Shares}
 
 -- ---- labels
 

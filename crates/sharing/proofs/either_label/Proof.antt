@@ -1,8 +1,8 @@
--- `passes::either_label` meets its contract: by the two branches.
+-- `sharing::either_label` meets its contract: by the two branches.
 use mathlib.Core.Path.{sym}
 use Rattle.meaning.proofs.Tests.{is-eq, eq-yes, pick-yes, pick-no}
-use Rattle.passes.proofs.either_label.Statement.{statement}
-use Rattle.passes.proofs.either_label.Tie as tie
+use Rattle.sharing.proofs.either_label.Statement.{statement}
+use Rattle.sharing.proofs.either_label.Tie as tie
 
 returns : tie.Need-returns
 returns c = sym (pick-yes _ _ (eq-yes (c .if1 .taken)))
