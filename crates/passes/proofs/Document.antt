@@ -1,4 +1,4 @@
--- A pass that looks at the document node, where it made a clash of a leaf or a label.
+-- A pass that looks at the document node: a leaf or a label on it is a clash.
 use mathlib.Core.Path.{_≡_, refl, sym, _∙_}
 use mathlib.Core.Bool.{Bool, true, false, false≢true, _||_}
 use mathlib.Core.List.{List}

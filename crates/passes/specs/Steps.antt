@@ -1,4 +1,4 @@
--- What a step of settling makes of the tables, with the group of rules of the pass. The rules of siblings are computed table by table (Siblings).
+-- What a step of settling makes of the tables, with the group of rules of the pass. The rules of siblings are computed table by table (settle/specs/Siblings).
 use mathlib.Core.Path.{_≡_}
 use mathlib.Core.Bool.{true, false}
 use mathlib.Core.List.{List}
