@@ -1,11 +1,10 @@
 -- The end of settling: the rules that a pass closed and those of siblings are together all rules, so the tables decide the settled set.
-use mathlib.Core.Path.{_≡_, refl, sym, _∙_, subst}
-use mathlib.Core.Bool.{Bool, true, false, false≢true, _||_}
+use mathlib.Core.Path.{_≡_, subst}
+use mathlib.Core.Bool.{Bool, true, false}
 use mathlib.Core.List.{List}
 use Prim.Native.Nat.{ℕ, _+_, _<_, _≤_}
 use native.Mathlib.Omega.{arith}
 use Rattle.meaning.specs.Constraint.{Fact}
-use Rattle.meaning.specs.Settled.{Clash}
 use Rattle.meaning.specs.ReadOff.{Decides}
 use Rattle.meaning.specs.Finite.{Yes, pick, sum}
 use Rattle.meaning.proofs.Finite.{sum-bound}
@@ -13,12 +12,10 @@ use Rattle.meaning.specs.Closed.{Rules}
 use Rattle.theory.proofs.Closure.{rules-decide}
 use Rattle.tables.specs.Tables.{row, has, Seeded, Ready}
 use Rattle.tables.specs.declared.Facts.{Facts}
-use Rattle.tables.specs.Rows.{LabelOf, onDocument}
 use Rattle.tables.specs.Free.{Bare}
-use Rattle.tables.proofs.Clashes.{free-clash, document-clash, document-bare}
-use Rattle.tables.proofs.Tested.{or-no}
-use Rattle.settle.specs.Steps.{weight, SteppedOf, PassRules, BareRules}
-use Rattle.settle.specs.declared.Stepped.{Stepped}
+use Rattle.tables.proofs.Clashes.{free-clash}
+use Rattle.passes.specs.Steps.{weight, SteppedOf, PassRules}
+use Rattle.passes.specs.declared.Stepped.{Stepped}
 use Rattle.settle.proofs.Sibling.{SiblingRules}
 
 module _ (n : ℕ) (S : List Fact) (f : Facts) (seed : Seeded n S f) (passed : PassRules n f) (bare : Bare (λ φ. Yes (has f φ))) (ordered : SiblingRules n f) where
@@ -35,23 +32,6 @@ module _ (n : ℕ) (S : List Fact) (f : Facts) (seed : Seeded n S f) (passed : P
     decides = decided;
     mirrored = record { parents = seed .parents; ancestors = passed .ancestors; siblings = seed .siblings };
   }
-
--- a pass that looks at the document node
-module _ {n : ℕ} {f : Facts} {r : Stepped} (w : SteppedOf (PassRules n) n f r) (l : ℕ) (o : LabelOf (r .facts .label) (r .facts .root) l) (small : r .facts .leaf < 65536) where
-  abbrev spoilt : Bool
-  spoilt = onDocument (r .facts .root) (r .facts .leaf) (r .facts .root) l
-
-  pub pass-looked : (p : Bool) → p ≡ spoilt → SteppedOf (BareRules n) n f (record { clash = r .clash || p; more = r .more; facts = r .facts })
-  pass-looked p e = record {
-    clashes = λ d S s. by (r .clash) refl d S s;
-    seeded = λ d. w .seeded (or-no (r .clash) p d .0);
-    closed = λ d m S s. record { passed = w .closed (or-no (r .clash) p d .0) m S s; bare = document-bare (r .facts) l o (λ y. false≢true (sym (or-no (r .clash) p d .1) ∙ e ∙ y)) };
-    grown = λ d. w .grown (or-no (r .clash) p d .0);
-  }
-    where
-      by : (c : Bool) → r .clash ≡ c → (c || p) ≡ true → (S : List Fact) → Seeded n S f → Clash n S
-      by true k d S s = w .clashes k S s
-      by false k d S s = document-clash (r .facts) l o n S (w .seeded k S s .sound) small (sym e ∙ d)
 
 pub grew : {G : Facts → Type 0} {n : ℕ} {f : Facts} {r : Stepped} → SteppedOf G n f r → r .clash ≡ false → r .more ≡ true → weight f < weight (r .facts)
 unfolding pick

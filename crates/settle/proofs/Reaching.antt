@@ -20,9 +20,9 @@ use Rattle.tables.specs.Rows.{Up, United, gained}
 use Rattle.tables.proofs.Bits.{or-case, or-l, or-r, or-le, none-in, up-self, up-trans, xor-zero, gained-up, gained-has, gained-case, in-row}
 use Rattle.tables.proofs.Loops.{below-cases, Rowing}
 use Rattle.tables.proofs.Tested.{not-eq, eq-not}
-use Rattle.settle.specs.Rows.{In, Grouped, Path, step, on, ChainOf}
+use Rattle.passes.specs.Rows.{In, Grouped, Path, step, on, ChainOf}
 use Rattle.settle.specs.Siblings.{Reached, Unlike, Groupwise, Ordered, PassedOn, Parted}
-use Rattle.settle.proofs.Chain.{reached-least}
+use Rattle.passes.proofs.Chain.{reached-least}
 
 -- ---- reach
 

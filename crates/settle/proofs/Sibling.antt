@@ -24,9 +24,9 @@ use Rattle.tables.specs.declared.Facts.{Facts}
 use Rattle.tables.proofs.Bits.{in-both, both-in, none-in}
 use Rattle.tables.proofs.Loops.{transposed-columns}
 use Rattle.tables.proofs.Clashes.{crossed-clash, uncrossed-clear}
-use Rattle.settle.specs.Rows.{In}
+use Rattle.passes.specs.Rows.{In}
 use Rattle.settle.specs.Siblings.{Unlike, Groupwise, PassedOn, Parted, OrderOf}
-use Rattle.settle.specs.Steps.{weight, PassRules}
+use Rattle.passes.specs.Steps.{weight, PassRules}
 use Rattle.settle.specs.declared.Order.{Order}
 
 -- the group of rules of siblings; none is above the other

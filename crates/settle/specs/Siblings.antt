@@ -8,7 +8,7 @@ use Rattle.meaning.specs.Constraint.{Fact, child, below, before}
 use Rattle.meaning.specs.Settled.{Settled}
 use Rattle.tables.specs.Tables.{row}
 use Rattle.tables.specs.Rows.{Up, Transposed, Common, Crossed}
-use Rattle.settle.specs.Rows.{In}
+use Rattle.passes.specs.Rows.{In}
 use Rattle.settle.specs.declared.Order.{Order}
 
 -- each row of t with what the rows of b hold that the same row of a names

@@ -11,7 +11,7 @@ use borrow.Author.Needs.{needs}
 use borrow.Author.Tests.{not-true, not-false}
 use Rattle.meaning.specs.Constraint.{Fact}
 use Rattle.tables.specs.Tables.{row, Seeded}
-use Rattle.settle.specs.Steps.{weight, BareRules}
+use Rattle.passes.specs.Steps.{weight, BareRules}
 use Rattle.settle.proofs.Sibling.{Rowed, ordering, passing, ordered-clash, ordered-seeded, ordered-passed, ordered-bare, ordered-closed, both-seeded, both-grew, no-siblings}
 use Rattle.settle.proofs.Ending.{ready, grew, no-less, weight-most}
 use Rattle.settle.proofs.settle.Statement.{statement}

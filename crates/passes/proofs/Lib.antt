@@ -1,0 +1,5 @@
+pub mod Chain
+mod Joining
+mod Weights
+mod Final
+mod Document
