@@ -17,16 +17,18 @@ use Rattle.meaning.proofs.Nodes.{node, tree, size-is, node-at, node-inside, ele
 use Rattle.theory.proofs.AnswerFile.{length-nodeBytes, length-placeBytes}
 use Rattle.tables.specs.declared.Facts.{Facts}
 use Rattle.tables.specs.Tables.{row, has, Columns, Ready}
-use Rattle.readoff.specs.declared.Order.{Order}
-use Rattle.readoff.specs.Rows.{Gathered, isLowest}
+use Rattle.ordering.specs.declared.Order.{Order}
+use Rattle.ordering.specs.Rows.{Gathered, isLowest}
 use Rattle.readoff.specs.Numbering.{elementOf, numbered}
-use Rattle.readoff.specs.Listing.{groups, listed, Listed, Led, placeIn, groupRecord}
+use Rattle.ordering.specs.Listing.{groups, listed, Listed}
+use Rattle.readoff.specs.Nodes.{Led, placeIn, groupRecord}
 use Rattle.readoff.specs.Written.{Recorded, blankAt, placeRecord, FileWritten}
-use Rattle.readoff.proofs.Listing.{length-groups}
+use Rattle.ordering.proofs.Listing.{length-groups}
 use Rattle.readoff.proofs.Numbering.{element-is, numbered-is}
 use Rattle.readoff.proofs.Meaning.{record-is, places-are}
 use Rattle.readoff.proofs.Preceding.{SayBefore}
-use Rattle.readoff.proofs.Layered.{Layered, order-is, tops-are}
+use Rattle.ordering.proofs.Layered.{Layered}
+use Rattle.readoff.proofs.Layers.{order-is, tops-are}
 use Rattle.readoff.proofs.Leading.{led}
 use Rattle.readoff.proofs.Written.{nodeRecord, nodeBytes-at, placeBytes-at, recorded-as}
 

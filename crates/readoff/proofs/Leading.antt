@@ -16,7 +16,7 @@ use Rattle.rowbits.specs.Bit.{bit}
 use Rattle.tables.specs.declared.Facts.{Facts}
 use Rattle.tables.specs.Rows.{Lowest}
 use Rattle.tables.specs.Tables.{row, has, Ready}
-use Rattle.readoff.specs.Listing.{Led}
+use Rattle.readoff.specs.Nodes.{Led}
 use Rattle.readoff.proofs.Meaning.{same-is}
 
 -- ---- of a settled set

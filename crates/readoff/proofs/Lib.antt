@@ -1,10 +1,9 @@
-pub mod Bits
+pub mod Counting
 pub mod Numbering
-pub mod InLine
-pub mod Listing
+pub mod Places
 pub mod Written
 pub mod Meaning
 pub mod Preceding
-pub mod Layered
+pub mod Layers
 pub mod Leading
 pub mod Answer

@@ -22,11 +22,12 @@ use Rattle.tables.specs.declared.Facts.{Facts}
 use Rattle.tables.specs.Rows.{without}
 use Rattle.tables.specs.Tables.{row, has, Columns}
 use Rattle.tables.proofs.Bits.{all-has}
-use Rattle.readoff.specs.Rows.{Gathered, overRow, isLow, isLowest, deep, near}
+use Rattle.ordering.specs.Rows.{Gathered, overRow, isLow, isLowest, deep, near}
 use Rattle.readoff.specs.Numbering.{numbered}
-use Rattle.readoff.specs.Listing.{placeIn, parentIn, nodeIn, groupRecord}
-use Rattle.readoff.proofs.Bits.{and-true, and-turn, bit-meet, bit-without, sum-eq, any-eq, counted, ones-zero, empty}
-use Rattle.readoff.proofs.Listing.{position-eq}
+use Rattle.readoff.specs.Nodes.{placeIn, parentIn, nodeIn, groupRecord}
+use Rattle.ordering.proofs.Bits.{and-true, and-turn, bit-without}
+use Rattle.readoff.proofs.Counting.{bit-meet, sum-eq, any-eq, counted, ones-zero, empty}
+use Rattle.readoff.proofs.Places.{position-eq}
 
 tab-eq : (n : ℕ) (f g : ℕ → ℕ) → ((x : ℕ) → x < n → f x ≡ g x) → tab n f ≡ tab n g
 unfolding tab

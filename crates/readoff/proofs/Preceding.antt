@@ -16,7 +16,7 @@ use Rattle.rowbits.specs.Bit.{bit}
 use Rattle.tables.specs.declared.Facts.{Facts}
 use Rattle.tables.specs.Tables.{row, has, Ready}
 use Rattle.tables.proofs.Bits.{none-in, in-row}
-use Rattle.readoff.specs.Listing.{precedes, Strict}
+use Rattle.ordering.specs.Listing.{precedes, Strict}
 
 -- the rows of `after` say what is before what
 abbrev pub SayBefore : Facts → Type 0

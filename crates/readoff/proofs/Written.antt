@@ -13,12 +13,13 @@ use Rattle.meaning.specs.Finite.{tab}
 use Rattle.meaning.specs.ReadOff.{NodeRecord, blankRecord, nodeBytes, placeBytes}
 use Rattle.tables.specs.Tables.{row}
 use Rattle.ids.specs.declared.Node.{Node}
-use Rattle.readoff.specs.declared.Order.{Order}
-use Rattle.readoff.specs.Rows.{overRow}
-use Rattle.readoff.specs.Listing.{groups, Small, nodeNumbers, parentIn, nodeIn, groupRecord}
+use Rattle.ordering.specs.declared.Order.{Order}
+use Rattle.ordering.specs.Rows.{overRow}
+use Rattle.ordering.specs.Listing.{groups, Small}
+use Rattle.readoff.specs.Nodes.{nodeNumbers, parentIn, nodeIn, groupRecord}
 use Rattle.readoff.specs.Numbering.{numbered}
 use Rattle.readoff.specs.Written.{Recorded, Put, placeRecord}
-use Rattle.readoff.proofs.Listing.{member-at}
+use Rattle.ordering.proofs.Listing.{member-at}
 
 -- ---- one record
 

@@ -1,4 +1,3 @@
-pub mod Rows
 pub mod Numbering
-pub mod Listing
+pub mod Nodes
 pub mod Written

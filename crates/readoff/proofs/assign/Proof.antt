@@ -9,8 +9,10 @@ use Rattle.meaning.proofs.Tests.{not-yes, yes-not}
 use Rattle.rowbits.specs.Bit.{bit}
 use Rattle.tables.specs.Tables.{row}
 use Rattle.readoff.specs.Numbering.{numbered}
-use Rattle.readoff.specs.Listing.{groups, Placed, Led, nodeNumbers, placeIn}
-use Rattle.readoff.proofs.Listing.{length-mapped, place-most, place-led}
+use Rattle.ordering.specs.Listing.{groups, Placed}
+use Rattle.readoff.specs.Nodes.{Led, nodeNumbers, placeIn}
+use Rattle.ordering.proofs.Listing.{length-mapped}
+use Rattle.readoff.proofs.Places.{place-most, place-led}
 use Rattle.readoff.proofs.Numbering.{numbered-fits}
 use Rattle.tables.proofs.Helpers.{pick-on, pick-off}
 use Rattle.readoff.proofs.Written.{assigned-none, assigned-more}

@@ -2,12 +2,14 @@
 use mathlib.Core.Path.{_≡_, ap, _∙_}
 use lib.Bits.{bitAnd}
 use Rattle.meaning.proofs.Tests.{eq-yes, is-eq, yes-not}
-use Rattle.readoff.specs.Rows.{near}
+use Rattle.ordering.specs.Rows.{near}
 use Rattle.readoff.specs.Numbering.{numbered}
-use Rattle.readoff.specs.Listing.{groups, parentIn}
+use Rattle.ordering.specs.Listing.{groups}
+use Rattle.readoff.specs.Nodes.{parentIn}
 use Rattle.readoff.proofs.Numbering.{numbered-fits}
 use Rattle.tables.proofs.Helpers.{pick-on, pick-off}
-use Rattle.readoff.proofs.Listing.{length-mapped, place-most}
+use Rattle.ordering.proofs.Listing.{length-mapped}
+use Rattle.readoff.proofs.Places.{place-most}
 use borrow.Author.Needs.{needs}
 use Rattle.readoff.proofs.parent_of.Statement.{statement}
 use Rattle.readoff.proofs.parent_of.Tie as tie

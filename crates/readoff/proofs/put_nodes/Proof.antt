@@ -5,9 +5,10 @@ use native.Mathlib.Nat.{le-of-lt}
 use native.Mathlib.Omega.{arith}
 use lib.ListN.{length, getD}
 use Rattle.readoff.specs.Numbering.{numbered}
-use Rattle.readoff.specs.Listing.{groups, groupRecord}
+use Rattle.ordering.specs.Listing.{groups}
+use Rattle.readoff.specs.Nodes.{groupRecord}
 use Rattle.readoff.specs.Written.{Recorded}
-use Rattle.readoff.proofs.Listing.{length-mapped, inside-at}
+use Rattle.ordering.proofs.Listing.{length-mapped, inside-at}
 use Rattle.readoff.proofs.Numbering.{numbered-later, numbered-fits}
 use Rattle.readoff.proofs.Written.{recorded-none, recorded-more, recorded-all, group-record}
 use borrow.Author.Needs.{needs}

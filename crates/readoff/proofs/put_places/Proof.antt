@@ -4,7 +4,7 @@ use mathlib.Core.List.{[], _∷_}
 use Prim.Native.Nat.{ℕ, _+_, _≤_, _-_}
 use native.Mathlib.Omega.{arith}
 use Rattle.meaning.specs.ReadOff.{placeBytes}
-use Rattle.readoff.specs.Listing.{nodeNumbers}
+use Rattle.readoff.specs.Nodes.{nodeNumbers}
 use Rattle.readoff.specs.Written.{Recorded, placeRecord}
 use Rattle.readoff.proofs.Written.{recorded-none, recorded-more, recorded-all, number-at}
 use borrow.Author.Needs.{needs}

@@ -11,8 +11,8 @@ use Rattle.tables.specs.Tables.{row, showing, Ready}
 use Rattle.tables.specs.declared.Facts.{Facts}
 use Rattle.readoff.specs.Numbering.{numbered}
 use Rattle.readoff.proofs.Preceding.{SayBefore, says-before, strict}
-use Rattle.readoff.proofs.Layered.{Layered}
-use Rattle.readoff.proofs.Listing.{length-mapped}
+use Rattle.ordering.proofs.Layered.{Layered}
+use Rattle.ordering.proofs.Listing.{length-mapped}
 use Rattle.readoff.proofs.Answer.{Ordered, room-for, groups-led, few-records, file-written}
 use Rattle.readoff.proofs.read_off.Statement.{statement}
 use Rattle.readoff.proofs.read_off.Tie as tie

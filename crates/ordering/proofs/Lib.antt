@@ -1,0 +1,4 @@
+pub mod Bits
+pub mod InLine
+pub mod Listing
+pub mod Layered
