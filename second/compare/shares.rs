@@ -56,7 +56,8 @@ impl Comparison {
             self.round();
             self.round();
             self.path_round();
-            self.xml_round();
+            // They are short.
+            (0..8).for_each(|_| self.xml_round());
         }
         self
     }
