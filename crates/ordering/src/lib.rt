@@ -1,5 +1,5 @@
-// The groups in the order of their nodes: by depth, then siblings in their order and otherwise by lowest variable; the place of each, and of the nearest over one.
-// Functions are `pub` here only because crates are split: each keeps its `requires`, which every caller shows.
+// The groups in the order of their nodes: by depth, then siblings in their order and otherwise by lowest variable; the place of each and of the nearest over
+// one, and the node of a place. Functions are `pub` here only because crates are split: each keeps its `requires`, which every caller shows.
 ghost use mathlib.Core.Path.{_≡_};
 ghost use mathlib.Core.Logic.{_≢_};
 ghost use mathlib.Core.List.{_++_};
@@ -13,7 +13,9 @@ ghost use Rattle.rowbits.specs.Bit.{bit};
 ghost use Rattle.tables.specs.Rows.{without};
 ghost use Rattle.tables.specs.Tables.{row};
 ghost use Rattle.ordering.specs.Rows.{Gathered, overRow, isLowest, inLayer, near};
+ghost use Rattle.ordering.specs.Numbering.{elementOf, numbered};
 ghost use Rattle.ordering.specs.Listing.{groups, Small, Strict, Earliest, inLine, listed, Listed, Placed};
+use ids::Node;
 use ids::Var;
 
 // The groups in the order of their nodes, each by its lowest variable.
@@ -30,7 +32,7 @@ pub fn over(up: u16, down: u16, n: usize) -> u16
     tables::except(up, down) & tables::all(n)
 }
 
-pub fn count(row: u16) -> usize
+fn count(row: u16) -> usize
     ensures { λ r. ⌜ (r ≡ ones row) × (r ≤ 16) ⌝ }
 {
     u32::count_ones(row as u32) as usize
@@ -162,4 +164,22 @@ pub fn nearest(order: Order, over: u16, below: [u16; 16], above: [u16; 16]) -> u
         }
     }
     len
+}
+
+// 1 if a blank element stands next under the document node: unless exactly one group does.
+pub fn element_of(top: u16) -> u8
+    ensures { λ r. ⌜ r ≡ elementOf (ones top) ⌝ }
+{
+    if count(top) == 1 {
+        return 0;
+    }
+    1
+}
+
+// The node of the group at a place of the order, behind the document node and the blank element.
+pub fn node_at(element: u8, place: usize) -> Node
+    requires { ⌜ numbered element place < 256 ⌝ }
+    ensures { λ r. ⌜ r .0 ≡ numbered element place ⌝ }
+{
+    Node((1 + element as usize + place) as u8)
 }

@@ -19,7 +19,7 @@ use Rattle.tables.specs.declared.Facts.{Facts}
 use Rattle.tables.specs.Tables.{row, has, Columns, Ready}
 use Rattle.ordering.specs.declared.Order.{Order}
 use Rattle.ordering.specs.Rows.{Gathered, isLowest}
-use Rattle.readoff.specs.Numbering.{elementOf, numbered}
+use Rattle.ordering.specs.Numbering.{elementOf, numbered}
 use Rattle.ordering.specs.Listing.{groups, listed, Listed}
 use Rattle.readoff.specs.Nodes.{Led, placeIn, groupRecord}
 use Rattle.readoff.specs.Written.{Recorded, blankAt, placeRecord, FileWritten}

@@ -23,7 +23,7 @@ use Rattle.tables.specs.Rows.{without}
 use Rattle.tables.specs.Tables.{row, has, Columns}
 use Rattle.tables.proofs.Bits.{all-has}
 use Rattle.ordering.specs.Rows.{Gathered, overRow, isLow, isLowest, deep, near}
-use Rattle.readoff.specs.Numbering.{numbered}
+use Rattle.ordering.specs.Numbering.{numbered}
 use Rattle.readoff.specs.Nodes.{placeIn, parentIn, nodeIn, groupRecord}
 use Rattle.ordering.proofs.Bits.{and-true, and-turn, bit-without}
 use Rattle.readoff.proofs.Counting.{bit-meet, sum-eq, any-eq, counted, ones-zero, empty}

@@ -4,7 +4,7 @@ use Prim.Native.Nat.{ℕ, _≤_, _<_}
 use native.Mathlib.Omega.{arith}
 use lib.ListN.{length}
 use Rattle.meaning.specs.ReadOff.{FactSet, layer, element, nodeAt}
-use Rattle.readoff.specs.Numbering.{elementOf, numbered}
+use Rattle.ordering.specs.Numbering.{elementOf, numbered}
 
 pub numbered-later : (e i j : ℕ) → i < j → numbered e i < numbered e j
 unfolding numbered

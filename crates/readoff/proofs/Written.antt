@@ -17,7 +17,7 @@ use Rattle.ordering.specs.declared.Order.{Order}
 use Rattle.ordering.specs.Rows.{overRow}
 use Rattle.ordering.specs.Listing.{groups, Small}
 use Rattle.readoff.specs.Nodes.{nodeNumbers, parentIn, nodeIn, groupRecord}
-use Rattle.readoff.specs.Numbering.{numbered}
+use Rattle.ordering.specs.Numbering.{numbered}
 use Rattle.readoff.specs.Written.{Recorded, Put, placeRecord}
 use Rattle.ordering.proofs.Listing.{member-at}
 

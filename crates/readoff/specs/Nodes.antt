@@ -12,7 +12,7 @@ use Rattle.tables.specs.Tables.{row}
 use Rattle.tables.specs.Rows.{Lowest}
 use Rattle.ids.specs.declared.Node.{Node}
 use Rattle.ordering.specs.Rows.{overRow, near}
-use Rattle.readoff.specs.Numbering.{numbered}
+use Rattle.ordering.specs.Numbering.{numbered}
 
 -- of the group of each variable below n that is not root its lowest one is in a list, and no other
 abbrev pub Led : (t u : List ℕ) (root n : ℕ) (gs : List ℕ) → Type 0

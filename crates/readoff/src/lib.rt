@@ -3,37 +3,18 @@
 ghost use mathlib.Core.Path.{_≡_};
 ghost use mathlib.Core.List.{List, [], _∷_};
 ghost use Prim.Native.Nat.{suc, _+_, _*_, _<_, _≤_};
-ghost use lib.Count.{ones};
 ghost use lib.ListN.{length};
 ghost use Rattle.meaning.specs.Constraint.{Fact};
 ghost use Rattle.meaning.specs.Finite.{tab};
 ghost use Rattle.tables.specs.Tables.{showing, Ready};
 ghost use Rattle.tables.specs.declared.Facts.{Facts};
+ghost use Rattle.ordering.specs.Numbering.{numbered};
 ghost use Rattle.ordering.specs.Listing.{groups, Small};
-ghost use Rattle.readoff.specs.Numbering.{elementOf, numbered};
 ghost use Rattle.readoff.specs.Nodes.{Led, nodeNumbers, placeIn, parentIn, groupRecord};
 ghost use Rattle.readoff.specs.Written.{Recorded, Put, blankAt, placeRecord, WrittenOf};
 use ids::Node;
 use ids::Var;
 use ordering::Order;
-
-// 1 if a blank element stands next under the document node: unless exactly one group does.
-fn element_of(top: u16) -> u8
-    ensures { λ r. ⌜ r ≡ elementOf (ones top) ⌝ }
-{
-    if ordering::count(top) == 1 {
-        return 0;
-    }
-    1
-}
-
-// The node of the group at a place of the order, behind the document node and the blank element.
-fn node_at(element: u8, place: usize) -> Node
-    requires { ⌜ numbered element place < 256 ⌝ }
-    ensures { λ r. ⌜ r .0 ≡ numbered element place ⌝ }
-{
-    Node((1 + element as usize + place) as u8)
-}
 
 // The parent of a group, where these variables are over it. Next under the document node that is the blank element, node 1, or else node 0.
 fn parent_of(
@@ -50,7 +31,7 @@ fn parent_of(
     if over & lows == 0 {
         return Node(element);
     }
-    node_at(element, ordering::nearest(order, over, below, above))
+    ordering::node_at(element, ordering::nearest(order, over, below, above))
 }
 
 // The node of each variable: the document node, or that of the lowest of its group.
@@ -77,7 +58,7 @@ fn assign(
         let down = below[x];
         let low = tables::lowest(up & down);
         let place = at[low];
-        nodes[x] = node_at(element, place as usize);
+        nodes[x] = ordering::node_at(element, place as usize);
     }
     nodes
 }
@@ -148,7 +129,7 @@ fn put_nodes(
             above,
             element,
         );
-        put_node(answer, node_at(element, i), parent, l);
+        put_node(answer, ordering::node_at(element, i), parent, l);
     }
 }
 
@@ -180,11 +161,11 @@ pub fn read_off(
     let layer = ordering::layers(below, above, low, n);
     let order = ordering::in_order(layer, after, n);
     let top = layer[0];
-    let element = element_of(top);
+    let element = ordering::element_of(top);
     put_front(answer, element);
     put_nodes(answer, order, below, above, label, low, element, n);
     let len = order.len;
-    let size = node_at(element, len);
+    let size = ordering::node_at(element, len);
     let first = size.0 as usize;
     let nodes = assign(order, below, above, root, element, n);
     put_places(answer, first, nodes, n);

@@ -8,7 +8,7 @@ use Rattle.meaning.specs.Finite.{Yes, tab, position}
 use Rattle.meaning.proofs.Tests.{not-yes, yes-not}
 use Rattle.rowbits.specs.Bit.{bit}
 use Rattle.tables.specs.Tables.{row}
-use Rattle.readoff.specs.Numbering.{numbered}
+use Rattle.ordering.specs.Numbering.{numbered}
 use Rattle.ordering.specs.Listing.{groups, Placed}
 use Rattle.readoff.specs.Nodes.{Led, nodeNumbers, placeIn}
 use Rattle.ordering.proofs.Listing.{length-mapped}

@@ -3,7 +3,7 @@ use mathlib.Core.Path.{_≡_, ap, _∙_}
 use lib.Bits.{bitAnd}
 use Rattle.meaning.proofs.Tests.{eq-yes, is-eq, yes-not}
 use Rattle.ordering.specs.Rows.{near}
-use Rattle.readoff.specs.Numbering.{numbered}
+use Rattle.ordering.specs.Numbering.{numbered}
 use Rattle.ordering.specs.Listing.{groups}
 use Rattle.readoff.specs.Nodes.{parentIn}
 use Rattle.readoff.proofs.Numbering.{numbered-fits}

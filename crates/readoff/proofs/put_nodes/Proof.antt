@@ -4,7 +4,7 @@ use Prim.Native.Nat.{_<_, _≤_, _-_}
 use native.Mathlib.Nat.{le-of-lt}
 use native.Mathlib.Omega.{arith}
 use lib.ListN.{length, getD}
-use Rattle.readoff.specs.Numbering.{numbered}
+use Rattle.ordering.specs.Numbering.{numbered}
 use Rattle.ordering.specs.Listing.{groups}
 use Rattle.readoff.specs.Nodes.{groupRecord}
 use Rattle.readoff.specs.Written.{Recorded}

@@ -9,7 +9,7 @@ use borrow.Author.Needs.{needs}
 use Rattle.meaning.specs.Constraint.{Fact}
 use Rattle.tables.specs.Tables.{row, showing, Ready}
 use Rattle.tables.specs.declared.Facts.{Facts}
-use Rattle.readoff.specs.Numbering.{numbered}
+use Rattle.ordering.specs.Numbering.{numbered}
 use Rattle.readoff.proofs.Preceding.{SayBefore, says-before, strict}
 use Rattle.ordering.proofs.Layered.{Layered}
 use Rattle.ordering.proofs.Listing.{length-mapped}

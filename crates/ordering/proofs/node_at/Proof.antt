@@ -1,8 +1,8 @@
--- `readoff::node_at` meets its contract.
-use Rattle.readoff.specs.Numbering.{numbered}
+-- `ordering::node_at` meets its contract.
+use Rattle.ordering.specs.Numbering.{numbered}
 use borrow.Author.Needs.{needs}
-use Rattle.readoff.proofs.node_at.Statement.{statement}
-use Rattle.readoff.proofs.node_at.Tie as tie
+use Rattle.ordering.proofs.node_at.Statement.{statement}
+use Rattle.ordering.proofs.node_at.Tie as tie
 
 add-t4 : tie.Need-add-t4
 unfolding numbered

@@ -1,11 +1,11 @@
--- `readoff::element_of` meets its contract.
+-- `ordering::element_of` meets its contract.
 use mathlib.Core.Path.{sym, _∙_}
 use Rattle.meaning.specs.Finite.{one, neg}
 use Rattle.meaning.proofs.Tests.{eq-yes, is-eq, yes-not}
-use Rattle.readoff.specs.Numbering.{elementOf}
+use Rattle.ordering.specs.Numbering.{elementOf}
 use borrow.Author.Needs.{needs}
-use Rattle.readoff.proofs.element_of.Statement.{statement}
-use Rattle.readoff.proofs.element_of.Tie as tie
+use Rattle.ordering.proofs.element_of.Statement.{statement}
+use Rattle.ordering.proofs.element_of.Tie as tie
 
 count-requires : tie.Need-count-requires
 count-requires c κs = search needs
