@@ -117,19 +117,30 @@ fn lines(rng: &mut Rng, lines: usize, steps: usize) -> Vec<u8> {
     text
 }
 
-fn damage(rng: &mut Rng, text: &mut Vec<u8>) {
-    let near = b"/[]:*\n-azsAZ`{ \0\xff";
-    let at = rng.below(text.len());
-    let to = at + rng.below(text.len() - at) + 1;
-    match rng.below(8) {
+// One of seven ways to spoil a text, at a place, up to another or by a byte that means something near there.
+pub fn spoil(rng: &mut Rng, text: &mut Vec<u8>, way: usize, near: &[u8], (at, to): (usize, usize)) {
+    match way {
         0 => text[at] = near[rng.below(near.len())],
         1 => text.insert(at, near[rng.below(near.len())]),
         2 => drop(text.remove(at)),
         3 => drop(text.drain(at..to)),
         4 => text.truncate(at),
         5 => text.extend_from_within(at..to),
-        6 => text.swap(at, to - 1),
-        _ => text.splice(at..at, AXES[rng.below(AXES.len())].bytes()).for_each(drop),
+        _ => text.swap(at, to - 1),
+    }
+}
+
+// A place in a text, and one behind it.
+pub fn span(rng: &mut Rng, text: &[u8]) -> (usize, usize) {
+    let at = rng.below(text.len());
+    (at, at + rng.below(text.len() - at) + 1)
+}
+
+fn damage(rng: &mut Rng, text: &mut Vec<u8>) {
+    let (at, to) = span(rng, text);
+    match rng.below(8) {
+        7 => text.splice(at..at, AXES[rng.below(AXES.len())].bytes()).for_each(drop),
+        way => spoil(rng, text, way, b"/[]:*\n-azsAZ`{ \0\xff", (at, to)),
     }
 }
 

@@ -3,6 +3,7 @@
 use std::hint::black_box;
 
 use crate::cudreth::{cudreth_xml_read, cudreth_xml_write, NODE, NODES_BYTES, PLACE, XML_BYTES};
+use crate::readers::{span, spoil};
 use crate::sets::Rng;
 use crate::{bounded, head, rounds, row, words, xml, Times};
 
@@ -191,23 +192,15 @@ fn damage_nodes(rng: &mut Rng, nodes: &mut Vec<u8>) {
 }
 
 fn damage_text(rng: &mut Rng, text: &mut Vec<u8>) {
-    let near = b"<>/_aZ{@ \n\0\xff";
     let tags = ["<b/>", "<b>", "</b>", "<_/>", "<b></b>", "<b><c/></b>"];
-    let at = rng.below(text.len());
-    let to = at + rng.below(text.len() - at) + 1;
+    let (at, to) = span(rng, text);
     match rng.below(9) {
-        0 => text[at] = near[rng.below(near.len())],
-        1 => text.insert(at, near[rng.below(near.len())]),
-        2 => drop(text.remove(at)),
-        3 => drop(text.drain(at..to)),
-        4 => text.truncate(at),
-        5 => text.extend_from_within(at..to),
-        6 => text.swap(at, to - 1),
-        _ => {
+        7 | 8 => {
             // before a tag, so that it may be the text of another tree
             let at = at + text[at..].iter().position(|&byte| byte == b'<').unwrap_or(0);
             text.splice(at..at, tags[rng.below(tags.len())].bytes()).for_each(drop);
         }
+        way => spoil(rng, text, way, b"<>/_aZ{@ \n\0\xff", (at, to)),
     }
 }
 
