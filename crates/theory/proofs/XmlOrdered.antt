@@ -7,7 +7,7 @@ use native.Mathlib.Nat.{not-suc-le-zero, le-refl}
 use native.Mathlib.Omega.{arith}
 use lib.Dec.{eqb, ltb}
 use Rattle.meaning.specs.Finite.{Yes, _and_, neg, sum}
-use Rattle.meaning.specs.Tree.{Node, Tree, Parent, IsTree}
+use Rattle.meaning.specs.Tree.{Node, Tree, Parent}
 use Rattle.meaning.specs.Xml.{Forest, Element, alone, count, NextChild, Children, IsOrdered}
 use Rattle.meaning.proofs.Tests.{clash, yes-case, pick-yes, pick-no, is-eq, eq-yes, self-eq, is-lt, lt-yes, and-left, and-right, and-both}
 use Rattle.meaning.proofs.Finite.{split-lt}
@@ -19,9 +19,6 @@ pub record Shape (t : Tree) : Type 0 where
   pub two-nodes : 1 < t .size
   pub one-child : (v : Node) → Parent t 0 v → v ≡ 1
   pub smaller : (v : Node) → 0 < v → v < t .size → t .parent v < v
-
-pub tree-shape : {t : Tree} → IsTree t → Shape t
-tree-shape h = record { two-nodes = h .two-nodes; one-child = h .one-child; smaller = h .smaller }
 
 module _ (t : Tree) (h : Shape t) where
   above : (u v : Node) → Parent t u v → u < v
