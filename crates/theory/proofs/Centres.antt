@@ -1,0 +1,291 @@
+-- Centres share the machine. The computed draw keeps its promise, which leaves no other answer (`drawing-keeps, drawing-unique`); and of any answers
+-- that keep it, whatever is drawn, a centre gets what it is owed (`shared-machine`).
+use mathlib.Core.Path.{_≡_, refl, sym, _∙_, ap, subst}
+use mathlib.Core.Logic.{_⊎_, _≢_, _↔_, ⊎-elim}
+use mathlib.Core.Bool.{Bool}
+use mathlib.Core.List.{List, [], _∷_}
+use Prim.Native.Nat.{ℕ, zero, suc, max, _+_, _-_, _≤_, _<_}
+use native.Mathlib.Omega.{arith}
+use native.Mathlib.Nat.{not-suc-le-zero, le-of-suc-le-suc, sub-add-eq-max}
+use lib.Dec.{eqb, leb, ltb}
+use lib.ListN.{length, set, length-set}
+use Rattle.meaning.specs.declared.Centre.{Centre}
+use Rattle.meaning.specs.Finite.{Yes, neg, _and_}
+use Rattle.meaning.specs.Centres.{centreAt, sumOf, claimed, Sound, others, undrawn, drawnByAll, Drawn, draw-granted, draw-refused, withDraw, added, listAfter, NoQuestion, DrawPromise, Draw, Draws, no-draw, one-draw, ByOthers, Grantable, AddedTo, SharedMachine}
+use Rattle.meaning.proofs.Tests.{yes-case, and-left, and-right, and-both, clash, pick-yes, pick-no, pick-either, is-le, le-yes, is-lt, lt-yes, is-eq, eq-yes}
+use Rattle.theory.specs.Centres.{capped, isSound, drawingFrom, drawing}
+
+-- ---- the test is `Sound`
+
+capped-all : (cs : List Centre) → Yes (capped cs) → (i : ℕ) → i < length cs → (centreAt cs i .guarantee ≤ centreAt cs i .cap) × (centreAt cs i .drawn ≤ centreAt cs i .cap)
+unfolding capped
+capped-all [] y i l = absurd (not-suc-le-zero l)
+capped-all (c ∷ cs) y zero l = let b = and-left (capped cs) y in (is-le (and-left _ b), is-le (and-right (leb (c .guarantee) (c .cap)) b))
+capped-all (c ∷ cs) y (suc i) l = capped-all cs (and-right (leb (c .guarantee) (c .cap) and leb (c .drawn) (c .cap)) y) i (le-of-suc-le-suc l)
+
+all-capped : (cs : List Centre) → ((i : ℕ) → i < length cs → (centreAt cs i .guarantee ≤ centreAt cs i .cap) × (centreAt cs i .drawn ≤ centreAt cs i .cap)) → Yes (capped cs)
+unfolding capped
+all-capped [] f = refl
+all-capped (c ∷ cs) f = let h = f 0 (omega arith) in and-both (and-both (le-yes (h .0)) (le-yes (h .1))) (all-capped cs (λ i l. f (suc i) (omega (arith, l))))
+
+pub is-sound : {total : ℕ} {cs : List Centre} → Yes (isSound total cs) → Sound total cs
+unfolding isSound
+is-sound {total} {cs} y = let rest = and-right (leb (length cs) 8) y in let all = capped-all cs (and-left (leb (claimed cs) total) rest) in record {
+  few = is-le (and-left (capped cs and leb (claimed cs) total) y);
+  guarantees = λ i l. all i l .0;
+  amounts = λ i l. all i l .1;
+  shared = is-le (and-right (capped cs) rest);
+}
+
+pub sound-yes : {total : ℕ} {cs : List Centre} → Sound total cs → Yes (isSound total cs)
+unfolding isSound
+sound-yes {cs} s = and-both (le-yes (s .few)) (and-both (all-capped cs (λ i l. (s .guarantees i l, s .amounts i l))) (le-yes (s .shared)))
+
+-- ---- the computed draw
+
+not-le : {x y : ℕ} → ¬ Yes (leb x y) → y < x
+not-le {x} {y} n = let m : ¬ (x ≤ y) = λ l. n (le-yes l) in omega (arith, m)
+
+not-lt : {x y : ℕ} → ¬ Yes (ltb x y) → y ≤ x
+not-lt {x} {y} n = let m : ¬ (x < y) = λ l. n (lt-yes l) in omega (arith, m)
+
+-- which question says no, if one does, and what is then answered
+data Case (total : ℕ) (cs : List Centre) (i amount : ℕ) : Drawn → Type 0 where
+  by-list : ¬ Sound total cs → Case total cs i amount (draw-refused 18)
+  by-centre : length cs ≤ i → Case total cs i amount (draw-refused 18)
+  by-cap : Sound total cs → i < length cs → centreAt cs i .cap < centreAt cs i .drawn + amount → Case total cs i amount (draw-refused 19)
+  by-rest : Sound total cs → i < length cs → centreAt cs i .drawn + amount ≤ centreAt cs i .cap
+      → total < drawnByAll cs + undrawn (others cs i) + amount → Case total cs i amount (draw-refused 20)
+  by-none : NoQuestion total cs i amount → Case total cs i amount draw-granted
+
+asked : (total : ℕ) (cs : List Centre) (i amount : ℕ) → Sound total cs → i < length cs → drawing total cs i amount ≡ drawingFrom total cs i amount
+unfolding drawing
+asked total cs i amount s l = pick-yes _ _ (and-both (sound-yes s) (lt-yes l))
+
+module _ {total : ℕ} {cs : List Centre} {i amount : ℕ} where
+  -- one of them is the case
+  computed-case : Case total cs i amount (drawing total cs i amount)
+  unfolding drawing drawingFrom
+  computed-case =
+      pick-either (Case total cs i amount) (isSound total cs and ltb i (length cs)) _ _
+      (λ y. let s = is-sound (and-left (ltb i (length cs)) y) in let l = is-lt (and-right (isSound total cs) y) in
+      pick-either (Case total cs i amount) (leb (centreAt cs i .drawn + amount) (centreAt cs i .cap)) _ _
+      (λ c. pick-either (Case total cs i amount) (leb (drawnByAll cs + undrawn (others cs i) + amount) total) _ _
+      (λ r. by-none record { is-sound = s; there = l; in-cap = is-le c; in-rest = is-le r }) (λ n. by-rest s l (is-le c) (not-le n)))
+      (λ n. by-cap s l (not-le n)))
+      (λ n. ⊎-elim (λ y. by-centre (not-lt (λ z. n (and-both y z)))) (λ z. by-list (λ s. clash (sound-yes s) z)) (yes-case (isSound total cs)))
+
+  -- a promise leaves no choice
+  promised : {r s : Drawn} {after : List Centre} → DrawPromise total cs i amount r after → Case total cs i amount s → r ≡ s
+  promised p (by-list n) = p .not-sound n
+  promised p (by-centre l) = p .no-centre l
+  promised p (by-cap s l h) = p .past-cap s l h
+  promised p (by-rest s l c h) = p .past-rest s l c h
+  promised p (by-none q) = p .grants q
+
+  pub drawing-unique : {r : Drawn} {after : List Centre} → DrawPromise total cs i amount r after → r ≡ drawing total cs i amount
+  drawing-unique p = promised p computed-case
+
+  pub after-unique : {r : Drawn} {after : List Centre} → DrawPromise total cs i amount r after → after ≡ listAfter (drawing total cs i amount) cs i amount
+  after-unique p = p .list-is ∙ ap (λ (s : Drawn). listAfter s cs i amount) (drawing-unique p)
+
+  pub drawing-keeps : DrawPromise total cs i amount (drawing total cs i amount) (listAfter (drawing total cs i amount) cs i amount)
+  unfolding drawing drawingFrom
+  drawing-keeps = record {
+    not-sound = λ n. pick-no _ _ (λ y. n (is-sound (and-left (ltb i (length cs)) y)));
+    no-centre = λ l. pick-no _ _ (λ y. let k = is-lt {x = i} {y = length cs} (and-right (isSound total cs) y) in omega (arith, l, k));
+    past-cap = λ s l h. asked total cs i amount s l ∙ pick-no _ _ (λ y. let k = is-le {x = centreAt cs i .drawn + amount} {y = centreAt cs i .cap} y in omega (arith, h, k));
+    past-rest = λ s l c h. asked total cs i amount s l ∙ (pick-yes _ _ (le-yes c) ∙ pick-no _ _ (λ y. let k = is-le {x = drawnByAll cs + undrawn (others cs i) + amount} {y = total} y in omega (arith, h, k)));
+    grants = λ q. asked total cs i amount (q .is-sound) (q .there) ∙ (pick-yes _ _ (le-yes (q .in-cap)) ∙ pick-yes _ _ (le-yes (q .in-rest)));
+    list-is = refl;
+  }
+
+-- ---- granted or refused
+
+abbrev IsRefused : Drawn → Type 0
+IsRefused draw-granted = ⊥
+IsRefused (draw-refused q) = Unit {0}
+
+not-granted : {q : ℕ} {A : Type 0} → draw-refused q ≡ draw-granted → A
+not-granted e = absurd (subst IsRefused e tt)
+
+no-question : {total : ℕ} {cs : List Centre} {i amount : ℕ} {r : Drawn} → Case total cs i amount r → r ≡ draw-granted → NoQuestion total cs i amount
+no-question (by-list n) e = not-granted e
+no-question (by-centre l) e = not-granted e
+no-question (by-cap s l h) e = not-granted e
+no-question (by-rest s l c h) e = not-granted e
+no-question (by-none q) e = q
+
+module _ {total : ℕ} {cs after : List Centre} {i amount : ℕ} {r : Drawn} (p : DrawPromise total cs i amount r after) where
+  granted-exactly : (r ≡ draw-granted) ↔ NoQuestion total cs i amount
+  granted-exactly = ((λ e. no-question computed-case (sym (drawing-unique p) ∙ e)), p .grants)
+
+  -- what holds of the list before and, if the draw is granted, of the list with it, holds of the list afterwards
+  either-way : (P : List Centre → Type 0) → P cs → (NoQuestion total cs i amount → P (added cs i amount)) → P after
+  unfolding listAfter
+  either-way P was then = subst P (sym (p .list-is)) (by-answer r refl)
+    where
+      by-answer : (s : Drawn) → r ≡ s → P (listAfter s cs i amount)
+      by-answer draw-granted e = then (granted-exactly .0 e)
+      by-answer (draw-refused q) e = was
+
+-- ---- the list with a draw added
+
+at-added : (cs : List Centre) (i : ℕ) (c : Centre) → i < length cs → centreAt (set cs i c) i ≡ c
+at-added [] i c l = absurd (not-suc-le-zero l)
+at-added (d ∷ cs) zero c l = refl
+at-added (d ∷ cs) (suc i) c l = at-added cs i c (le-of-suc-le-suc l)
+
+at-others : (cs : List Centre) (i j : ℕ) (c : Centre) → j ≢ i → centreAt (set cs i c) j ≡ centreAt cs j
+at-others [] i j c n = refl
+at-others (d ∷ cs) zero zero c n = absurd (n refl)
+at-others (d ∷ cs) zero (suc j) c n = refl
+at-others (d ∷ cs) (suc i) zero c n = refl
+at-others (d ∷ cs) (suc i) (suc j) c n = at-others cs i j c (λ e. n (ap suc e))
+
+added-to : (cs : List Centre) (i amount : ℕ) → i < length cs → AddedTo cs i amount (added cs i amount)
+unfolding added withDraw
+added-to cs i amount l = record {
+  same-length = length-set cs i _;
+  drawn-more = ap (λ (c : Centre). c .drawn) here;
+  same-guarantee = ap (λ (c : Centre). c .guarantee) here;
+  same-cap = ap (λ (c : Centre). c .cap) here;
+  others-same = λ j n. at-others cs i j _ n;
+}
+  where
+    here : centreAt (added cs i amount) i ≡ withDraw (centreAt cs i) amount
+    here = at-added cs i _ l
+
+-- a sum with one record changed
+sum-set : (f : Centre → ℕ) (cs : List Centre) (i : ℕ) (c : Centre) → i < length cs → sumOf f (set cs i c) + f (centreAt cs i) ≡ sumOf f cs + f c
+unfolding sumOf
+sum-set f [] i c l = absurd (not-suc-le-zero l)
+sum-set f (d ∷ cs) zero c l = omega arith
+sum-set f (d ∷ cs) (suc i) c l = let r = sum-set f cs i c (le-of-suc-le-suc l) in omega (arith, r)
+
+claimed-added : (cs : List Centre) (i amount : ℕ) → i < length cs
+    → claimed (added cs i amount) + max (centreAt cs i .guarantee) (centreAt cs i .drawn) ≡ claimed cs + max (centreAt cs i .guarantee) (centreAt cs i .drawn + amount)
+unfolding claimed added withDraw
+claimed-added cs i amount l = sum-set (λ (c : Centre). max (c .guarantee) (c .drawn)) cs i (withDraw (centreAt cs i) amount) l
+
+-- what is claimed is what was drawn and the undrawn guarantees
+claimed-is : (cs : List Centre) → drawnByAll cs + undrawn cs ≡ claimed cs
+unfolding drawnByAll undrawn claimed sumOf
+claimed-is [] = refl
+claimed-is (c ∷ cs) = let m = sub-add-eq-max (c .guarantee) (c .drawn) in let r = claimed-is cs in omega (arith, m, r)
+
+pub claimed-but : (cs : List Centre) (i : ℕ) → i < length cs
+    → drawnByAll cs + undrawn (others cs i) + (centreAt cs i .guarantee - centreAt cs i .drawn) ≡ claimed cs
+unfolding others drawnByAll undrawn claimed sumOf
+claimed-but [] i l = absurd (not-suc-le-zero l)
+claimed-but (c ∷ cs) zero l = let m = sub-add-eq-max (c .guarantee) (c .drawn) in let r = claimed-is cs in omega (arith, m, r)
+claimed-but (c ∷ cs) (suc i) l = let m = sub-add-eq-max (c .guarantee) (c .drawn) in let r = claimed-but cs i (le-of-suc-le-suc l) in omega (arith, m, r)
+
+-- ---- what is owed
+
+sound-added : {total : ℕ} {cs : List Centre} {i amount : ℕ} → NoQuestion total cs i amount → Sound total (added cs i amount)
+sound-added {total} {cs} {i} {amount} q = record {
+  few = subst (λ (k : ℕ). k ≤ 8) (sym (to .same-length)) (s .few);
+  guarantees = λ j l. at-each j (λ c. c .guarantee ≤ c .cap) l
+      (let g = to .same-guarantee in let k = to .same-cap in let h = s .guarantees i (q .there) in omega (arith, g, k, h)) (s .guarantees j);
+  amounts = λ j l. at-each j (λ c. c .drawn ≤ c .cap) l (let d = to .drawn-more in let k = to .same-cap in let h = q .in-cap in omega (arith, d, k, h)) (s .amounts j);
+  shared = let m = claimed-added cs i amount (q .there) in let b = claimed-but cs i (q .there) in
+      let u = sub-add-eq-max (centreAt cs i .guarantee) (centreAt cs i .drawn) in let v = sub-add-eq-max (centreAt cs i .guarantee) (centreAt cs i .drawn + amount) in
+      let t = s .shared in let r = q .in-rest in omega (arith, m, b, u, v, t, r);
+}
+  where
+    s : Sound total cs
+    s = q .is-sound
+
+    to : AddedTo cs i amount (added cs i amount)
+    to = added-to cs i amount (q .there)
+
+    -- at i, or elsewhere as before
+    at-each : (j : ℕ) (P : Centre → Type 0) → j < length (added cs i amount) → P (centreAt (added cs i amount) i) → (j < length cs → P (centreAt cs j)) → P (centreAt (added cs i amount) j)
+    at-each j P l here there =
+        ⊎-elim (λ e. subst (λ (k : ℕ). P (centreAt (added cs i amount) k)) (sym (is-eq e)) here)
+        (λ z. subst P (sym (to .others-same j (λ e. clash (eq-yes e) z))) (there (subst (λ (k : ℕ). j < k) (to .same-length) l)))
+        (yes-case (eqb j i))
+
+granted-iff : {total : ℕ} {cs after : List Centre} {i amount : ℕ} {r : Drawn}
+    → Sound total cs → DrawPromise total cs i amount r after → (r ≡ draw-granted) ↔ Grantable total cs i amount
+granted-iff {total} {cs} {i} {amount} s p = (
+  (λ e. let q = granted-exactly p .0 e in record { there = q .there; cap-holds = q .in-cap; sound-after = sound-added q }),
+  (λ g. p .grants record {
+    is-sound = s;
+    there = g .there;
+    in-cap = g .cap-holds;
+    in-rest = let m = claimed-added cs i amount (g .there) in let b = claimed-but cs i (g .there) in
+        let u = sub-add-eq-max (centreAt cs i .guarantee) (centreAt cs i .drawn) in let v = sub-add-eq-max (centreAt cs i .guarantee) (centreAt cs i .drawn + amount) in
+        let t = g .sound-after .shared in omega (arith, m, b, u, v, t);
+  }),
+)
+
+stays-sound : {total : ℕ} {cs new : List Centre} {ds : List Draw} → Sound total cs → Draws total cs ds new → Sound total new
+stays-sound s no-draw = s
+stays-sound {total} s (one-draw p ds) = stays-sound (either-way p (Sound total) s sound-added) ds
+
+drawn-claimed : (cs : List Centre) → drawnByAll cs ≤ claimed cs
+drawn-claimed cs = let e = claimed-is cs in omega (arith, e)
+
+-- the number of records, guarantees and caps stay
+record Fixed (cs new : List Centre) : Type 0 where
+  pub same-length : length new ≡ length cs
+  pub same-guarantee : (j : ℕ) → centreAt new j .guarantee ≡ centreAt cs j .guarantee
+  pub same-cap : (j : ℕ) → centreAt new j .cap ≡ centreAt cs j .cap
+
+fixed-added : (cs : List Centre) (i amount : ℕ) → i < length cs → Fixed cs (added cs i amount)
+fixed-added cs i amount l = record {
+  same-length = to .same-length;
+  same-guarantee = λ j. ⊎-elim (λ e. subst (λ (k : ℕ). centreAt (added cs i amount) k .guarantee ≡ centreAt cs k .guarantee) (sym (is-eq e)) (to .same-guarantee))
+      (λ z. ap (λ (c : Centre). c .guarantee) (to .others-same j (λ e. clash (eq-yes e) z))) (yes-case (eqb j i));
+  same-cap = λ j. ⊎-elim (λ e. subst (λ (k : ℕ). centreAt (added cs i amount) k .cap ≡ centreAt cs k .cap) (sym (is-eq e)) (to .same-cap))
+      (λ z. ap (λ (c : Centre). c .cap) (to .others-same j (λ e. clash (eq-yes e) z))) (yes-case (eqb j i));
+}
+  where
+    to : AddedTo cs i amount (added cs i amount)
+    to = added-to cs i amount l
+
+stays-fixed : {total : ℕ} {cs new : List Centre} {ds : List Draw} → Draws total cs ds new → Fixed cs new
+stays-fixed no-draw = record { same-length = refl; same-guarantee = λ j. refl; same-cap = λ j. refl }
+stays-fixed {cs} (one-draw {d} p ds) =
+    let a = either-way p (Fixed cs) record { same-length = refl; same-guarantee = λ j. refl; same-cap = λ j. refl } (λ q. fixed-added cs (d .centre) (d .amount) (q .there)) in
+    let b = stays-fixed ds in record {
+      same-length = b .same-length ∙ a .same-length;
+      same-guarantee = λ j. b .same-guarantee j ∙ a .same-guarantee j;
+      same-cap = λ j. b .same-cap j ∙ a .same-cap j;
+    }
+
+others-leave : {total : ℕ} {cs new : List Centre} {ds : List Draw} (i : ℕ) → Draws total cs ds new → ByOthers i ds → centreAt new i ≡ centreAt cs i
+others-leave i no-draw o = refl
+others-leave {cs} i (one-draw {d} p ds) o =
+    others-leave i ds (o .1)
+    ∙ either-way p (λ (new : List Centre). centreAt new i ≡ centreAt cs i) refl (λ q. added-to cs (d .centre) (d .amount) (q .there) .others-same i (λ e. o .0 (sym e)))
+
+within-guarantee : {total : ℕ} {cs : List Centre} {i amount : ℕ} → Sound total cs → i < length cs → centreAt cs i .drawn + amount ≤ centreAt cs i .guarantee → NoQuestion total cs i amount
+within-guarantee {cs} {i} s l h = record {
+  is-sound = s;
+  there = l;
+  in-cap = let g = s .guarantees i l in omega (arith, g, h);
+  in-rest = let b = claimed-but cs i l in let t = s .shared in omega (arith, b, t, h);
+}
+
+up-to-guarantee : {total : ℕ} {cs new after : List Centre} {ds : List Draw} {i amount : ℕ} {r : Drawn} → Sound total cs → i < length cs → Draws total cs ds new
+    → centreAt new i .drawn + amount ≤ centreAt cs i .guarantee → DrawPromise total new i amount r after → r ≡ draw-granted
+up-to-guarantee {i} s l ds h p = let f = stays-fixed ds in let n = f .same-length in let g = f .same-guarantee i in
+    p .grants (within-guarantee (stays-sound s ds) (omega (arith, l, n)) (omega (arith, h, g)))
+
+pub shared-machine : SharedMachine
+unfolding listAfter
+shared-machine = record {
+  granted-exactly = granted-exactly;
+  granted-adds = λ p. subst (AddedTo _ _ _) (sym (p .list-is)) (added-to _ _ _ (granted-exactly p .0 refl .there));
+  refused-keeps = λ p. p .list-is;
+  granted-iff = granted-iff;
+  stays-sound = stays-sound;
+  within-total = λ {new} s ds. let t = stays-sound s ds .shared in let d = drawn-claimed new in omega (arith, t, d);
+  within-cap = λ {i} s l ds. let f = stays-fixed ds in let n = f .same-length in let k = f .same-cap i in
+      let a = stays-sound s ds .amounts i (omega (arith, l, n)) in omega (arith, a, k);
+  up-to-guarantee = up-to-guarantee;
+  whatever-others = λ {i} s l ds o h p. let same = ap (λ (c : Centre). c .drawn) (others-leave i ds o) in up-to-guarantee s l ds (omega (arith, h, same)) p;
+}
