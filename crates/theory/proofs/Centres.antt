@@ -1,8 +1,7 @@
 -- Centres share the machine. The computed draw keeps its promise, which leaves no other answer (`drawing-keeps, drawing-unique`); and of any answers
 -- that keep it, whatever is drawn, a centre gets what it is owed (`shared-machine`).
 use mathlib.Core.Path.{_≡_, refl, sym, _∙_, ap, subst}
-use mathlib.Core.Logic.{_⊎_, _≢_, _↔_, ⊎-elim}
-use mathlib.Core.Bool.{Bool}
+use mathlib.Core.Logic.{_≢_, _↔_, ⊎-elim}
 use mathlib.Core.List.{List, [], _∷_}
 use Prim.Native.Nat.{ℕ, zero, suc, max, _+_, _-_, _≤_, _<_}
 use native.Mathlib.Omega.{arith}
@@ -10,7 +9,7 @@ use native.Mathlib.Nat.{not-suc-le-zero, le-of-suc-le-suc, sub-add-eq-max}
 use lib.Dec.{eqb, leb, ltb}
 use lib.ListN.{length, set, length-set}
 use Rattle.meaning.specs.declared.Centre.{Centre}
-use Rattle.meaning.specs.Finite.{Yes, neg, _and_}
+use Rattle.meaning.specs.Finite.{Yes, _and_}
 use Rattle.meaning.specs.Centres.{centreAt, sumOf, claimed, Sound, others, undrawn, drawnByAll, Drawn, draw-granted, draw-refused, withDraw, added, listAfter, NoQuestion, DrawPromise, Draw, Draws, no-draw, one-draw, ByOthers, Grantable, AddedTo, SharedMachine}
 use Rattle.meaning.proofs.Tests.{yes-case, and-left, and-right, and-both, clash, pick-yes, pick-no, pick-either, is-le, le-yes, is-lt, lt-yes, is-eq, eq-yes}
 use Rattle.theory.specs.Centres.{capped, isSound, drawingFrom, drawing}
@@ -28,18 +27,20 @@ unfolding capped
 all-capped [] f = refl
 all-capped (c ∷ cs) f = let h = f 0 (omega arith) in and-both (and-both (le-yes (h .0)) (le-yes (h .1))) (all-capped cs (λ i l. f (suc i) (omega (arith, l))))
 
-pub is-sound : {total : ℕ} {cs : List Centre} → Yes (isSound total cs) → Sound total cs
-unfolding isSound
-is-sound {total} {cs} y = let rest = and-right (leb (length cs) 8) y in let all = capped-all cs (and-left (leb (claimed cs) total) rest) in record {
-  few = is-le (and-left (capped cs and leb (claimed cs) total) y);
-  guarantees = λ i l. all i l .0;
-  amounts = λ i l. all i l .1;
-  shared = is-le (and-right (capped cs) rest);
-}
+pub made-sound : {total : ℕ} {cs : List Centre} → length cs ≤ 8 → Yes (capped cs) → claimed cs ≤ total → Sound total cs
+made-sound {cs} few y shared = record { few = few; guarantees = λ i l. capped-all cs y i l .0; amounts = λ i l. capped-all cs y i l .1; shared = shared }
 
-pub sound-yes : {total : ℕ} {cs : List Centre} → Sound total cs → Yes (isSound total cs)
+pub sound-capped : {total : ℕ} {cs : List Centre} → Sound total cs → Yes (capped cs)
+sound-capped {cs} s = all-capped cs (λ i l. (s .guarantees i l, s .amounts i l))
+
+is-sound : {total : ℕ} {cs : List Centre} → Yes (isSound total cs) → Sound total cs
 unfolding isSound
-sound-yes {cs} s = and-both (le-yes (s .few)) (and-both (all-capped cs (λ i l. (s .guarantees i l, s .amounts i l))) (le-yes (s .shared)))
+is-sound {total} {cs} y = let rest = and-right (leb (length cs) 8) y in
+    made-sound (is-le (and-left (capped cs and leb (claimed cs) total) y)) (and-left (leb (claimed cs) total) rest) (is-le (and-right (capped cs) rest))
+
+sound-yes : {total : ℕ} {cs : List Centre} → Sound total cs → Yes (isSound total cs)
+unfolding isSound
+sound-yes s = and-both (le-yes (s .few)) (and-both (sound-capped s) (le-yes (s .shared)))
 
 -- ---- the computed draw
 
@@ -50,7 +51,7 @@ not-lt : {x y : ℕ} → ¬ Yes (ltb x y) → y ≤ x
 not-lt {x} {y} n = let m : ¬ (x < y) = λ l. n (lt-yes l) in omega (arith, m)
 
 -- which question says no, if one does, and what is then answered
-data Case (total : ℕ) (cs : List Centre) (i amount : ℕ) : Drawn → Type 0 where
+pub data Case (total : ℕ) (cs : List Centre) (i amount : ℕ) : Drawn → Type 0 where
   by-list : ¬ Sound total cs → Case total cs i amount (draw-refused 18)
   by-centre : length cs ≤ i → Case total cs i amount (draw-refused 18)
   by-cap : Sound total cs → i < length cs → centreAt cs i .cap < centreAt cs i .drawn + amount → Case total cs i amount (draw-refused 19)
@@ -64,7 +65,7 @@ asked total cs i amount s l = pick-yes _ _ (and-both (sound-yes s) (lt-yes l))
 
 module _ {total : ℕ} {cs : List Centre} {i amount : ℕ} where
   -- one of them is the case
-  computed-case : Case total cs i amount (drawing total cs i amount)
+  pub computed-case : Case total cs i amount (drawing total cs i amount)
   unfolding drawing drawingFrom
   computed-case =
       pick-either (Case total cs i amount) (isSound total cs and ltb i (length cs)) _ _
