@@ -1,5 +1,6 @@
 pub mod Solved
 pub mod Translated
+pub mod Drawn
 pub mod Told
 pub mod Shuffled
 pub mod Capitals
