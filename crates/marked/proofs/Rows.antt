@@ -2,7 +2,7 @@
 use mathlib.Core.Path.{_≡_, refl, ap, sym, subst, _∙_}
 use mathlib.Core.Logic.{⊎-elim}
 use mathlib.Core.Bool.{Bool, true}
-use mathlib.Core.List.{List, [], _∷_, map, List·Memᴰ, List·Memᴰ·cases-cons, List·Memᴰ·not-nil}
+use mathlib.Core.List.{List, [], _∷_, List·Memᴰ·cases-cons, List·Memᴰ·not-nil}
 use Prim.Native.Nat.{ℕ, _≤_}
 use native.Mathlib.Nat.{le-trans}
 use lib.ListN.{length, replicate, length-replicate}
@@ -79,14 +79,8 @@ only-marked file answer r b e = record {
   only = λ {s} p. marker-promise-unique file answer s b p ∙ e;
 }
 
-row-holds : (r : Row) → computed r ≡ stated r → Holds r
+pub row-holds : (r : Row) → computed r ≡ stated r → Holds r
 unfolding computed stated solver
 row-holds (solving file A room r) e =
     λ buffer l. only-solved A file buffer r (small-bytes file (cc)) (same-room A (judge file) buffer (sample room) (sample-side room (cc) buffer l) ∙ (cc))
 row-holds (marking file answer r) e = only-marked file answer r (small-bytes answer (cc)) (cc)
-
--- ---- the rows of a table
-
-pub rows-hold : (rs : List Row) → map computed rs ≡ map stated rs → (r : Row) → List·Memᴰ r rs → Holds r
-rows-hold [] e r m = absurd (List·Memᴰ·not-nil m)
-rows-hold (s ∷ rs) e r m = ⊎-elim (λ (q : r ≡ s). subst Holds (sym q) (row-holds s (cc))) (λ k. rows-hold rs (cc) r k) (List·Memᴰ·cases-cons m)

@@ -44,3 +44,5 @@ pub mod PathCapitals
 -- trees as XML: a few computed; a tree is one ordered tree, and the records in document order are it
 pub mod XmlCases
 pub mod XmlTrees
+-- centres that share the machine: a few lists, and draws from them
+pub mod CentreCases

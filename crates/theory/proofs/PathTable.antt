@@ -1,8 +1,7 @@
 -- The rows of the table hold of the meaning: the computed reader keeps the promise and the promise leaves no other answer, so it is enough that
 -- computing gives each row's answer.
-use mathlib.Core.Path.{_≡_, ap, sym, subst, _∙_}
-use mathlib.Core.Logic.{⊎-elim}
-use mathlib.Core.List.{List, [], _∷_, map, List·Memᴰ, List·Memᴰ·cases-cons, List·Memᴰ·not-nil}
+use mathlib.Core.Path.{_≡_, ap, subst, _∙_}
+use mathlib.Core.List.{List, List·Memᴰ}
 use Prim.Native.Nat.{ℕ, _≤_}
 use lib.ListN.{length}
 use Rattle.meaning.specs.Results.{Fill, fillWrote}
@@ -10,6 +9,7 @@ use Rattle.meaning.specs.Promises.{PathsPromise}
 use Rattle.meaning.proofs.Tests.{pick-yes, le-yes}
 use Rattle.theory.specs.PathReader.{textPaths, answerOf, readPaths}
 use Rattle.theory.specs.PathTable.{Row, OnlyRead, Holds, table}
+use Rattle.theory.proofs.Rows.{rows-hold}
 use Rattle.theory.proofs.PathComputed.{computed, stated, table-computed}
 use Rattle.theory.proofs.PathPromise.{read-keeps, answer-unique, buffer-unique}
 
@@ -23,20 +23,8 @@ only-read text buffer r e = record {
   only = λ {s} {after} p. (answer-unique text buffer s after p ∙ e, buffer-unique text buffer s after p ∙ ap (λ (k : Fill). fillWrote k buffer) e);
 }
 
-abbrev first-of : Fill → List Fill → Fill
-first-of r [] = r
-first-of r (s ∷ ss) = s
-
-abbrev rest-of : List Fill → List Fill
-rest-of [] = []
-rest-of (s ∷ ss) = ss
-
-rows-hold : (rows : List Row) → map computed rows ≡ map stated rows → (row : Row) → List·Memᴰ row rows → Holds row
-rows-hold [] e row m = absurd (List·Memᴰ·not-nil m)
-rows-hold (row ∷ rows) e this m =
-    let head : computed row ≡ stated row = ap (first-of (stated row)) e in
-    ⊎-elim (λ same. subst Holds (sym same) (λ buffer l. only-read (row .text) buffer (row .answer) (read-in-room (row .text) buffer l ∙ head)))
-    (rows-hold rows (ap rest-of e) this) (List·Memᴰ·cases-cons m)
+row-holds : (row : Row) → computed row ≡ stated row → Holds row
+row-holds row e = λ buffer l. only-read (row .text) buffer (row .answer) (read-in-room (row .text) buffer l ∙ e)
 
 pub table-holds : (row : Row) → List·Memᴰ row table → Holds row
-table-holds = rows-hold table table-computed
+table-holds = rows-hold computed stated Holds row-holds table table-computed

@@ -1,8 +1,7 @@
 -- The rows of the table hold of the meaning: computed writer and reader keep their promises and each promise leaves no other answer, so it is enough
 -- that computing gives each row's answer. Of a buffer both ask only that it is long enough.
-use mathlib.Core.Path.{_≡_, sym, ap, subst, _∙_}
-use mathlib.Core.Logic.{⊎-elim}
-use mathlib.Core.List.{List, [], _∷_, map, List·Memᴰ, List·Memᴰ·cases-cons, List·Memᴰ·not-nil}
+use mathlib.Core.Path.{_≡_, ap, subst, _∙_}
+use mathlib.Core.List.{List, List·Memᴰ}
 use Prim.Native.Nat.{ℕ}
 use native.Mathlib.Omega.{arith}
 use lib.ListN.{replicate, length-replicate}
@@ -12,6 +11,7 @@ use Rattle.meaning.specs.Xml.{WriterPromise, ReaderPromise}
 use Rattle.meaning.proofs.Tests.{pick-yes, le-yes}
 use Rattle.theory.specs.Xml.{writeXml, readXml}
 use Rattle.theory.specs.XmlTable.{Row, to-write, to-read, OnlyAnswer, Holds, table}
+use Rattle.theory.proofs.Rows.{rows-hold}
 use Rattle.theory.proofs.XmlComputed.{computed, stated, table-computed}
 use Rattle.theory.proofs.XmlPromise.{write-alike, write-keeps, write-unique, written-unique, read-keeps, read-unique, read-buffer-unique}
 
@@ -33,18 +33,5 @@ row-holds (to-write nodes r) e =
     λ buffer l. let n = length-replicate {A = ℕ} 512 0 in only-written nodes buffer r (write-alike (judgeNodes nodes) buffer (replicate 512 0) l (omega arith) ∙ e)
 row-holds (to-read text r) e = λ buffer l. only-read text buffer r (pick-yes _ _ (le-yes l) ∙ e)
 
-abbrev first-of : Fill → List Fill → Fill
-first-of r [] = r
-first-of r (s ∷ ss) = s
-
-abbrev rest-of : List Fill → List Fill
-rest-of [] = []
-rest-of (s ∷ ss) = ss
-
-rows-hold : (rows : List Row) → map computed rows ≡ map stated rows → (row : Row) → List·Memᴰ row rows → Holds row
-rows-hold [] e row m = absurd (List·Memᴰ·not-nil m)
-rows-hold (row ∷ rows) e this m =
-    ⊎-elim (λ same. subst Holds (sym same) (row-holds row (ap (first-of (stated row)) e))) (rows-hold rows (ap rest-of e) this) (List·Memᴰ·cases-cons m)
-
 pub table-holds : (row : Row) → List·Memᴰ row table → Holds row
-table-holds = rows-hold table table-computed
+table-holds = rows-hold computed stated Holds row-holds table table-computed
