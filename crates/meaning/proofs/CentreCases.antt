@@ -44,7 +44,20 @@ numbers : (drawnNumber draw-granted ≡ 0) × (drawnNumber (draw-refused 18) ≡
 unfolding drawnNumber told
 numbers = (refl, refl)
 
--- ---- sound, and not
+-- ---- not sound, and sound
+
+one-total-less : ¬ Sound 8 three
+unfolding claimed sumOf
+one-total-less s = let t = s .shared in omega (arith, t)
+
+guarantee-above-cap : ¬ Sound 9 (c 5 4 0 ∷ [])
+guarantee-above-cap s = let g = s .guarantees 0 (omega arith) in omega (arith, g)
+
+amount-above-cap : ¬ Sound 9 (c 0 4 5 ∷ [])
+amount-above-cap s = let d = s .amounts 0 (omega arith) in omega (arith, d)
+
+nine-records : ¬ Sound 9 (c 0 0 0 ∷ c 0 0 0 ∷ c 0 0 0 ∷ c 0 0 0 ∷ c 0 0 0 ∷ c 0 0 0 ∷ c 0 0 0 ∷ c 0 0 0 ∷ c 0 0 0 ∷ [])
+nine-records s = let f = s .few in omega (arith, f)
 
 three-sound : Sound 9 three
 unfolding claimed sumOf
@@ -61,19 +74,6 @@ three-sound = record { few = omega arith; guarantees = in-caps; amounts = below-
     below-caps (suc zero) l = omega arith
     below-caps (suc (suc zero)) l = omega arith
     below-caps (suc (suc (suc i))) l = absurd (omega (arith, l))
-
-one-total-less : ¬ Sound 8 three
-unfolding claimed sumOf
-one-total-less s = let t = s .shared in omega (arith, t)
-
-guarantee-above-cap : ¬ Sound 9 (c 5 4 0 ∷ [])
-guarantee-above-cap s = let g = s .guarantees 0 (omega arith) in omega (arith, g)
-
-amount-above-cap : ¬ Sound 9 (c 0 4 5 ∷ [])
-amount-above-cap s = let d = s .amounts 0 (omega arith) in omega (arith, d)
-
-nine-records : ¬ Sound 9 (c 0 0 0 ∷ c 0 0 0 ∷ c 0 0 0 ∷ c 0 0 0 ∷ c 0 0 0 ∷ c 0 0 0 ∷ c 0 0 0 ∷ c 0 0 0 ∷ c 0 0 0 ∷ [])
-nine-records s = let f = s .few in omega (arith, f)
 
 -- ---- draws: 6 are drawn, and of the guarantees of the others 1 is held back when the second draws
 
