@@ -26,6 +26,28 @@ numberOf (draw-refused q) = q
 abbrev pub questionFrom : ℕ → ℕ → Centre → ℕ → ℕ
 questionFrom sum total c amount = questionOf sum total (c .guarantee) (c .cap) (c .drawn) amount
 
+-- ---- the questions, in order
+
+module _ (claims total guarantee cap drawn amount : ℕ) where
+  abbrev asks : ℕ
+  asks = questionOf claims total guarantee cap drawn amount
+
+  pub asks-18 : total < claims → asks ≡ 18
+  unfolding questionOf
+  asks-18 h = pick-no _ _ (λ y. let l = is-le {x = claims} {y = total} y in omega (arith, h, l))
+
+  pub asks-19 : claims ≤ total → cap < drawn + amount → asks ≡ 19
+  unfolding questionOf
+  asks-19 s h = pick-yes _ _ (le-yes s) ∙ pick-no _ _ (λ y. let l = is-le {x = drawn + amount} {y = cap} y in omega (arith, h, l))
+
+  pub asks-20 : claims ≤ total → drawn + amount ≤ cap → total + (guarantee - drawn) < claims + amount → asks ≡ 20
+  unfolding questionOf
+  asks-20 s c h = pick-yes _ _ (le-yes s) ∙ (pick-yes _ _ (le-yes c) ∙ pick-no _ _ (λ y. let l = is-le {x = claims + amount} {y = total + (guarantee - drawn)} y in omega (arith, h, l)))
+
+  pub asks-none : claims ≤ total → drawn + amount ≤ cap → claims + amount ≤ total + (guarantee - drawn) → asks ≡ 0
+  unfolding questionOf
+  asks-none s c r = pick-yes _ _ (le-yes s) ∙ (pick-yes _ _ (le-yes c) ∙ pick-yes _ _ (le-yes r))
+
 -- ---- from the claims of all
 
 module _ {total : ℕ} {cs : List Centre} (small : total < 2 ^ 32) (few : length cs ≤ 8) where
@@ -38,16 +60,13 @@ module _ {total : ℕ} {cs : List Centre} (small : total < 2 ^ 32) (few : length
   sound-claims s = let e = claims-capped cs (sound-capped s) in let t = s .shared in (e, omega (arith, e, t))
 
   found : (i amount : ℕ) {r : meant.Drawn} → i < length cs → Case total cs i amount r → questionFrom (claims cs) total (centreAt cs i) amount ≡ numberOf r
-  unfolding questionOf numberOf
-  found i amount l (by-list n) = let h = not-sound n in pick-no _ _ (λ y. let k = is-le {x = claims cs} {y = total} y in omega (arith, h, k))
+  unfolding numberOf
+  found i amount l (by-list n) = asks-18 _ _ _ _ _ _ (not-sound n)
   found i amount l (by-centre k) = absurd (omega (arith, l, k))
-  found i amount l (by-cap s _ h) = pick-yes _ _ (le-yes (sound-claims s .1))
-      ∙ pick-no _ _ (λ y. let k = is-le {x = centreAt cs i .drawn + amount} {y = centreAt cs i .cap} y in omega (arith, h, k))
-  found i amount l (by-rest s _ c h) = let e = sound-claims s .0 in let b = claimed-but cs i l in
-      pick-yes _ _ (le-yes (sound-claims s .1)) ∙ (pick-yes _ _ (le-yes c)
-      ∙ pick-no _ _ (λ y. let k = is-le {x = claims cs + amount} {y = total + (centreAt cs i .guarantee - centreAt cs i .drawn)} y in omega (arith, e, b, h, k)))
+  found i amount l (by-cap s _ h) = asks-19 _ _ _ _ _ _ (sound-claims s .1) h
+  found i amount l (by-rest s _ c h) = let e = sound-claims s .0 in let b = claimed-but cs i l in asks-20 _ _ _ _ _ _ (sound-claims s .1) c (omega (arith, e, b, h))
   found i amount l (by-none q) = let e = sound-claims (q .is-sound) .0 in let b = claimed-but cs i l in let r = q .in-rest in
-      pick-yes _ _ (le-yes (sound-claims (q .is-sound) .1)) ∙ (pick-yes _ _ (le-yes (q .in-cap)) ∙ pick-yes _ _ (le-yes {x = claims cs + amount} {y = total + (centreAt cs i .guarantee - centreAt cs i .drawn)} (omega (arith, e, b, r))))
+      asks-none _ _ _ _ _ _ (sound-claims (q .is-sound) .1) (q .in-cap) (omega (arith, e, b, r))
 
 -- ---- when the loop is left
 
@@ -59,7 +78,7 @@ question-found total cs i amount p small over l =
     ap (λ (m : ℕ). questionFrom m total (centreAt cs i) amount) (omega (arith, e, was)) ∙ found small few i amount (inside cs i l) computed-case
   where
     few : length cs ≤ 8
-    few = ⊎-elim (λ y. is-le y) (λ z. let a = looked-none {n = length cs} (λ k. clash (le-yes k) z) in absurd (omega (arith, l, a))) (yes-case (leb (length cs) 8))
+    few = ⊎-elim (λ y. is-le y) (λ z. let m : ¬ (length cs ≤ 8) = λ k. clash (le-yes k) z in let a = looked-none {n = length cs} (omega (arith, m)) in absurd (omega (arith, l, a))) (yes-case (leb (length cs) 8))
 
     past : length cs ≤ p .reached
     past = let a = looked-all few in omega (arith, over, a)

@@ -23,13 +23,13 @@ claims cs = sumOf claimOf cs
 
 -- ---- one record
 
-claim-in : (g k d : ℕ) → g ≤ k → d ≤ k → claim g k d ≡ max g d
+pub claim-in : (g k d : ℕ) → max g d ≤ k → claim g k d ≡ max g d
 unfolding claim
-claim-in g k d p q = pick-yes _ _ (le-yes (max-le {a = g} {b = d} p q))
+claim-in g k d l = pick-yes _ _ (le-yes l)
 
-claim-above : (g k d : ℕ) → ¬ (max g d ≤ k) → claim g k d ≡ 2 ^ 32
+pub claim-above : (g k d : ℕ) → k < max g d → claim g k d ≡ 2 ^ 32
 unfolding claim
-claim-above g k d n = pick-no _ _ (λ y. n (is-le y))
+claim-above g k d h = pick-no _ _ (λ y. let l = is-le {x = max g d} {y = k} y in omega (arith, h, l))
 
 pub claim-small : (g k d : ℕ) → k < 2 ^ 32 → claim g k d ≤ 2 ^ 32
 unfolding claim
@@ -42,17 +42,21 @@ unfolding capped claimed sumOf
 claims-capped [] y = refl
 claims-capped (c ∷ cs) y =
     let b = and-left (capped cs) y in let r = claims-capped cs (and-right (leb (c .guarantee) (c .cap) and leb (c .drawn) (c .cap)) y) in
-    let e = claim-in (c .guarantee) (c .cap) (c .drawn) (is-le (and-left _ b)) (is-le (and-right (leb (c .guarantee) (c .cap)) b)) in omega (arith, e, r)
+    let e = claim-in (c .guarantee) (c .cap) (c .drawn) (max-le {a = c .guarantee} {b = c .drawn} (is-le (and-left _ b)) (is-le (and-right (leb (c .guarantee) (c .cap)) b))) in
+    omega (arith, e, r)
 
 in-cap : (c : Centre) → max (c .guarantee) (c .drawn) ≤ c .cap → Yes (leb (c .guarantee) (c .cap) and leb (c .drawn) (c .cap))
 in-cap c l = and-both (le-yes {x = c .guarantee} {y = c .cap} (omega (arith, l))) (le-yes {x = c .drawn} {y = c .cap} (omega (arith, l)))
+
+above : (c : Centre) → ¬ (max (c .guarantee) (c .drawn) ≤ c .cap) → c .cap < max (c .guarantee) (c .drawn)
+above c n = omega (arith, n)
 
 pub claims-above : (cs : List Centre) → ¬ Yes (capped cs) → 2 ^ 32 ≤ claims cs
 unfolding capped sumOf
 claims-above [] n = absurd (n refl)
 claims-above (c ∷ cs) n =
     ⊎-elim (λ y. let r = claims-above cs (λ z. n (and-both y z)) in omega (arith, r))
-    (λ z. let e = claim-above (c .guarantee) (c .cap) (c .drawn) (λ l. clash (in-cap c l) z) in omega (arith, e))
+    (λ z. let e = claim-above (c .guarantee) (c .cap) (c .drawn) (above c (λ l. clash (in-cap c l) z)) in omega (arith, e))
     (yes-case (leb (c .guarantee) (c .cap) and leb (c .drawn) (c .cap)))
 
 -- ---- the loop
@@ -69,9 +73,9 @@ pub looked-all : {n : ℕ} → n ≤ 8 → lookedAt n ≡ n
 unfolding lookedAt
 looked-all few = pick-yes _ _ (le-yes few)
 
-pub looked-none : {n : ℕ} → ¬ (n ≤ 8) → lookedAt n ≡ 0
+pub looked-none : {n : ℕ} → 8 < n → lookedAt n ≡ 0
 unfolding lookedAt
-looked-none many = pick-no _ _ (λ y. many (is-le y))
+looked-none {n} many = pick-no _ _ (λ y. let l = is-le {x = n} {y = 8} y in omega (arith, many, l))
 
 pub inside : (cs : List Centre) (i : ℕ) → i < lookedAt (length cs) → i < length cs
 inside cs i l = let h = looked-in (length cs) in omega (arith, l, h)
