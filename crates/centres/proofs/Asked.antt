@@ -42,7 +42,8 @@ module _ (claims total guarantee cap drawn amount : ℕ) where
 
   pub asks-20 : claims ≤ total → drawn + amount ≤ cap → total + (guarantee - drawn) < claims + amount → asks ≡ 20
   unfolding questionOf
-  asks-20 s c h = pick-yes _ _ (le-yes s) ∙ (pick-yes _ _ (le-yes c) ∙ pick-no _ _ (λ y. let l = is-le {x = claims + amount} {y = total + (guarantee - drawn)} y in omega (arith, h, l)))
+  asks-20 s c h = pick-yes _ _ (le-yes s) ∙ (pick-yes _ _ (le-yes c) ∙ pick-no _ _
+      (λ y. let l = is-le {x = claims + amount} {y = total + (guarantee - drawn)} y in omega (arith, h, l)))
 
   pub asks-none : claims ≤ total → drawn + amount ≤ cap → claims + amount ≤ total + (guarantee - drawn) → asks ≡ 0
   unfolding questionOf
@@ -71,14 +72,17 @@ module _ {total : ℕ} {cs : List Centre} (small : total < 2 ^ 32) (few : length
 -- ---- when the loop is left
 
 -- the sum is that of all records, if the centre is one that was looked at
-pub question-found : (total : ℕ) (cs : List Centre) (i amount : ℕ) (p : Progress cs) → total < 2 ^ 32 → lookedAt (length cs) ≤ p .reached → i < lookedAt (length cs)
+pub question-found : (total : ℕ) (cs : List Centre) (i amount : ℕ) (p : Progress cs)
+    → total < 2 ^ 32 → lookedAt (length cs) ≤ p .reached → i < lookedAt (length cs)
     → questionFrom (p .sum) total (centreAt cs i) amount ≡ numberOf (drawing total cs i amount)
 unfolding sumOf
 question-found total cs i amount p small over l =
     ap (λ (m : ℕ). questionFrom m total (centreAt cs i) amount) (omega (arith, e, was)) ∙ found small few i amount (inside cs i l) computed-case
   where
     few : length cs ≤ 8
-    few = ⊎-elim (λ y. is-le y) (λ z. let m : ¬ (length cs ≤ 8) = λ k. clash (le-yes k) z in let a = looked-none {n = length cs} (omega (arith, m)) in absurd (omega (arith, l, a))) (yes-case (leb (length cs) 8))
+    few = ⊎-elim (λ y. is-le y)
+        (λ z. let m : ¬ (length cs ≤ 8) = λ k. clash (le-yes k) z in let a = looked-none {n = length cs} (omega (arith, m)) in absurd (omega (arith, l, a)))
+        (yes-case (leb (length cs) 8))
 
     past : length cs ≤ p .reached
     past = let a = looked-all few in omega (arith, over, a)
@@ -92,7 +96,8 @@ question-found total cs i amount p small over l =
 -- a list that is too long, or a centre that is not there
 pub question-missed : (total : ℕ) (cs : List Centre) (i amount : ℕ) → lookedAt (length cs) ≤ i → drawing total cs i amount ≡ draw-refused 18
 question-missed total cs i amount past =
-    ⊎-elim (λ y. let a = looked-all {n = length cs} (is-le y) in drawing-keeps .no-centre (omega (arith, past, a))) (λ z. drawing-keeps .not-sound (λ s. clash (le-yes (s .few)) z)) (yes-case (leb (length cs) 8))
+    ⊎-elim (λ y. let a = looked-all {n = length cs} (is-le y) in drawing-keeps .no-centre (omega (arith, past, a)))
+    (λ z. drawing-keeps .not-sound (λ s. clash (le-yes (s .few)) z)) (yes-case (leb (length cs) 8))
 
 -- ---- the answer and the list afterwards
 

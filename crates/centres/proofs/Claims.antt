@@ -4,7 +4,7 @@ use mathlib.Core.Logic.{⊎-elim}
 use mathlib.Core.List.{List, [], _∷_}
 use Prim.Native.Nat.{ℕ, zero, suc, max, _+_, _*_, _≤_, _<_, _^_}
 use native.Mathlib.Omega.{arith}
-use native.Mathlib.Nat.{not-suc-le-zero, le-of-suc-le-suc, max-le}
+use native.Mathlib.Nat.{not-suc-le-zero, le-of-suc-le-suc}
 use native.Mathlib.Numerals.{add-one}
 use lib.Dec.{leb}
 use lib.ListN.{length, drop}
@@ -33,7 +33,8 @@ claim-above g k d h = pick-no _ _ (λ y. let l = is-le {x = max g d} {y = k} y i
 
 pub claim-small : (g k d : ℕ) → k < 2 ^ 32 → claim g k d ≤ 2 ^ 32
 unfolding claim
-claim-small g k d h = pick-either (λ (m : ℕ). m ≤ 2 ^ 32) (leb (max g d) k) _ _ (λ y. let l = is-le {x = max g d} {y = k} y in omega (arith, l, h)) (λ n. omega arith)
+claim-small g k d h = pick-either (λ (m : ℕ). m ≤ 2 ^ 32) (leb (max g d) k) _ _ (λ y. let l = is-le {x = max g d} {y = k} y in omega (arith, l, h))
+    (λ n. omega arith)
 
 -- ---- all records
 
@@ -42,7 +43,8 @@ unfolding capped claimed sumOf
 claims-capped [] y = refl
 claims-capped (c ∷ cs) y =
     let b = and-left (capped cs) y in let r = claims-capped cs (and-right (leb (c .guarantee) (c .cap) and leb (c .drawn) (c .cap)) y) in
-    let e = claim-in (c .guarantee) (c .cap) (c .drawn) (max-le {a = c .guarantee} {b = c .drawn} (is-le (and-left _ b)) (is-le (and-right (leb (c .guarantee) (c .cap)) b))) in
+    let g : c .guarantee ≤ c .cap = is-le (and-left _ b) in let d : c .drawn ≤ c .cap = is-le (and-right (leb (c .guarantee) (c .cap)) b) in
+    let e = claim-in (c .guarantee) (c .cap) (c .drawn) (omega (arith, g, d)) in
     omega (arith, e, r)
 
 in-cap : (c : Centre) → max (c .guarantee) (c .drawn) ≤ c .cap → Yes (leb (c .guarantee) (c .cap) and leb (c .drawn) (c .cap))
@@ -107,6 +109,6 @@ one-on cs p l fits = record {
   upto = omega (arith, l);
   sums = let on = claims-on cs (p .reached) (inside cs (p .reached) l) in let was = p .sums in
       let next = ap (λ (k : ℕ). claims (drop k cs)) (add-one (p .reached)) in omega (arith, on, was, next);
-  small = let w = claim-small (centreAt cs (p .reached) .guarantee) (centreAt cs (p .reached) .cap) (centreAt cs (p .reached) .drawn) fits in let s = p .small in
+  small = let c = centreAt cs (p .reached) in let w = claim-small (c .guarantee) (c .cap) (c .drawn) fits in let s = p .small in
       omega (arith, w, s);
 }

@@ -134,7 +134,9 @@ pub record SharedMachine : Type 0 where
   pub within-cap : {total : ℕ} {cs new : List Centre} {ds : List Draw} {i : ℕ}
       → Sound total cs → i < length cs → Draws total cs ds new → centreAt new i .drawn ≤ centreAt cs i .cap
   -- "every centre can always draw up to its guarantee, whatever the others did", and whatever it has drawn itself
-  pub up-to-guarantee : {total : ℕ} {cs new after : List Centre} {ds : List Draw} {i amount : ℕ} {r : Drawn} → Sound total cs → i < length cs → Draws total cs ds new
+  pub up-to-guarantee : {total : ℕ} {cs new after : List Centre} {ds : List Draw} {i amount : ℕ} {r : Drawn}
+      → Sound total cs → i < length cs → Draws total cs ds new
       → centreAt new i .drawn + amount ≤ centreAt cs i .guarantee → DrawPromise total new i amount r after → r ≡ draw-granted
-  pub whatever-others : {total : ℕ} {cs new after : List Centre} {ds : List Draw} {i amount : ℕ} {r : Drawn} → Sound total cs → i < length cs → Draws total cs ds new → ByOthers i ds
+  pub whatever-others : {total : ℕ} {cs new after : List Centre} {ds : List Draw} {i amount : ℕ} {r : Drawn}
+      → Sound total cs → i < length cs → Draws total cs ds new → ByOthers i ds
       → centreAt cs i .drawn + amount ≤ centreAt cs i .guarantee → DrawPromise total new i amount r after → r ≡ draw-granted

@@ -5,7 +5,7 @@ use mathlib.Core.Logic.{_≢_, _↔_, ⊎-elim}
 use mathlib.Core.List.{List, [], _∷_}
 use Prim.Native.Nat.{ℕ, zero, suc, max, _+_, _-_, _≤_, _<_}
 use native.Mathlib.Omega.{arith}
-use native.Mathlib.Nat.{not-suc-le-zero, le-of-suc-le-suc, sub-add-eq-max}
+use native.Mathlib.Nat.{not-suc-le-zero, le-of-suc-le-suc}
 use lib.Dec.{eqb, leb, ltb}
 use lib.ListN.{length, set, length-set}
 use Rattle.meaning.specs.declared.Centre.{Centre}
@@ -16,13 +16,17 @@ use Rattle.theory.specs.Centres.{capped, isSound, drawingFrom, drawing}
 
 -- ---- the test is `Sound`
 
-capped-all : (cs : List Centre) → Yes (capped cs) → (i : ℕ) → i < length cs → (centreAt cs i .guarantee ≤ centreAt cs i .cap) × (centreAt cs i .drawn ≤ centreAt cs i .cap)
+-- guarantee and amount are at most the cap
+abbrev InCap : Centre → Type 0
+InCap c = (c .guarantee ≤ c .cap) × (c .drawn ≤ c .cap)
+
+capped-all : (cs : List Centre) → Yes (capped cs) → (i : ℕ) → i < length cs → InCap (centreAt cs i)
 unfolding capped
 capped-all [] y i l = absurd (not-suc-le-zero l)
 capped-all (c ∷ cs) y zero l = let b = and-left (capped cs) y in (is-le (and-left _ b), is-le (and-right (leb (c .guarantee) (c .cap)) b))
 capped-all (c ∷ cs) y (suc i) l = capped-all cs (and-right (leb (c .guarantee) (c .cap) and leb (c .drawn) (c .cap)) y) i (le-of-suc-le-suc l)
 
-all-capped : (cs : List Centre) → ((i : ℕ) → i < length cs → (centreAt cs i .guarantee ≤ centreAt cs i .cap) × (centreAt cs i .drawn ≤ centreAt cs i .cap)) → Yes (capped cs)
+all-capped : (cs : List Centre) → ((i : ℕ) → i < length cs → InCap (centreAt cs i)) → Yes (capped cs)
 unfolding capped
 all-capped [] f = refl
 all-capped (c ∷ cs) f = let h = f 0 (omega arith) in and-both (and-both (le-yes (h .0)) (le-yes (h .1))) (all-capped cs (λ i l. f (suc i) (omega (arith, l))))
@@ -49,6 +53,9 @@ not-le {x} {y} n = let m : ¬ (x ≤ y) = λ l. n (le-yes l) in omega (arith, m)
 
 not-lt : {x y : ℕ} → ¬ Yes (ltb x y) → y ≤ x
 not-lt {x} {y} n = let m : ¬ (x < y) = λ l. n (lt-yes l) in omega (arith, m)
+
+above : {x y : ℕ} → y < x → ¬ Yes (leb x y)
+above {x} {y} h t = let l = is-le {x = x} {y = y} t in omega (arith, h, l)
 
 -- which question says no, if one does, and what is then answered
 pub data Case (total : ℕ) (cs : List Centre) (i amount : ℕ) : Drawn → Type 0 where
@@ -95,8 +102,8 @@ module _ {total : ℕ} {cs : List Centre} {i amount : ℕ} where
   drawing-keeps = record {
     not-sound = λ n. pick-no _ _ (λ y. n (is-sound (and-left (ltb i (length cs)) y)));
     no-centre = λ l. pick-no _ _ (λ y. let k = is-lt {x = i} {y = length cs} (and-right (isSound total cs) y) in omega (arith, l, k));
-    past-cap = λ s l h. asked total cs i amount s l ∙ pick-no _ _ (λ y. let k = is-le {x = centreAt cs i .drawn + amount} {y = centreAt cs i .cap} y in omega (arith, h, k));
-    past-rest = λ s l c h. asked total cs i amount s l ∙ (pick-yes _ _ (le-yes c) ∙ pick-no _ _ (λ y. let k = is-le {x = drawnByAll cs + undrawn (others cs i) + amount} {y = total} y in omega (arith, h, k)));
+    past-cap = λ s l h. asked total cs i amount s l ∙ pick-no _ _ (above h);
+    past-rest = λ s l c h. asked total cs i amount s l ∙ (pick-yes _ _ (le-yes c) ∙ pick-no _ _ (above h));
     grants = λ q. asked total cs i amount (q .is-sound) (q .there) ∙ (pick-yes _ _ (le-yes (q .in-cap)) ∙ pick-yes _ _ (le-yes (q .in-rest)));
     list-is = refl;
   }
@@ -164,23 +171,25 @@ sum-set f [] i c l = absurd (not-suc-le-zero l)
 sum-set f (d ∷ cs) zero c l = omega arith
 sum-set f (d ∷ cs) (suc i) c l = let r = sum-set f cs i c (le-of-suc-le-suc l) in omega (arith, r)
 
-claimed-added : (cs : List Centre) (i amount : ℕ) → i < length cs
-    → claimed (added cs i amount) + max (centreAt cs i .guarantee) (centreAt cs i .drawn) ≡ claimed cs + max (centreAt cs i .guarantee) (centreAt cs i .drawn + amount)
-unfolding claimed added withDraw
-claimed-added cs i amount l = sum-set (λ (c : Centre). max (c .guarantee) (c .drawn)) cs i (withDraw (centreAt cs i) amount) l
-
 -- what is claimed is what was drawn and the undrawn guarantees
 claimed-is : (cs : List Centre) → drawnByAll cs + undrawn cs ≡ claimed cs
 unfolding drawnByAll undrawn claimed sumOf
 claimed-is [] = refl
-claimed-is (c ∷ cs) = let m = sub-add-eq-max (c .guarantee) (c .drawn) in let r = claimed-is cs in omega (arith, m, r)
+claimed-is (c ∷ cs) = let r = claimed-is cs in omega (arith, r)
 
 pub claimed-but : (cs : List Centre) (i : ℕ) → i < length cs
     → drawnByAll cs + undrawn (others cs i) + (centreAt cs i .guarantee - centreAt cs i .drawn) ≡ claimed cs
 unfolding others drawnByAll undrawn claimed sumOf
 claimed-but [] i l = absurd (not-suc-le-zero l)
-claimed-but (c ∷ cs) zero l = let m = sub-add-eq-max (c .guarantee) (c .drawn) in let r = claimed-is cs in omega (arith, m, r)
-claimed-but (c ∷ cs) (suc i) l = let m = sub-add-eq-max (c .guarantee) (c .drawn) in let r = claimed-but cs i (le-of-suc-le-suc l) in omega (arith, m, r)
+claimed-but (c ∷ cs) zero l = let r = claimed-is cs in omega (arith, r)
+claimed-but (c ∷ cs) (suc i) l = let r = claimed-but cs i (le-of-suc-le-suc l) in omega (arith, r)
+
+-- what the list with the draw claims
+claimed-after : (cs : List Centre) (i amount : ℕ) → i < length cs
+    → claimed (added cs i amount) + centreAt cs i .drawn ≡ drawnByAll cs + undrawn (others cs i) + max (centreAt cs i .guarantee) (centreAt cs i .drawn + amount)
+unfolding claimed added withDraw
+claimed-after cs i amount l =
+    let e = sum-set (λ (c : Centre). max (c .guarantee) (c .drawn)) cs i (withDraw (centreAt cs i) amount) l in let b = claimed-but cs i l in omega (arith, e, b)
 
 -- ---- what is owed
 
@@ -189,10 +198,10 @@ sound-added {total} {cs} {i} {amount} q = record {
   few = subst (λ (k : ℕ). k ≤ 8) (sym (to .same-length)) (s .few);
   guarantees = λ j l. at-each j (λ c. c .guarantee ≤ c .cap) l
       (let g = to .same-guarantee in let k = to .same-cap in let h = s .guarantees i (q .there) in omega (arith, g, k, h)) (s .guarantees j);
-  amounts = λ j l. at-each j (λ c. c .drawn ≤ c .cap) l (let d = to .drawn-more in let k = to .same-cap in let h = q .in-cap in omega (arith, d, k, h)) (s .amounts j);
-  shared = let m = claimed-added cs i amount (q .there) in let b = claimed-but cs i (q .there) in
-      let u = sub-add-eq-max (centreAt cs i .guarantee) (centreAt cs i .drawn) in let v = sub-add-eq-max (centreAt cs i .guarantee) (centreAt cs i .drawn + amount) in
-      let t = s .shared in let r = q .in-rest in omega (arith, m, b, u, v, t, r);
+  amounts = λ j l. at-each j (λ c. c .drawn ≤ c .cap) l
+      (let d = to .drawn-more in let k = to .same-cap in let h = q .in-cap in omega (arith, d, k, h)) (s .amounts j);
+  shared = let e = claimed-after cs i amount (q .there) in let b = claimed-but cs i (q .there) in let t = s .shared in let r = q .in-rest in
+      omega (arith, e, b, t, r);
 }
   where
     s : Sound total cs
@@ -202,7 +211,8 @@ sound-added {total} {cs} {i} {amount} q = record {
     to = added-to cs i amount (q .there)
 
     -- at i, or elsewhere as before
-    at-each : (j : ℕ) (P : Centre → Type 0) → j < length (added cs i amount) → P (centreAt (added cs i amount) i) → (j < length cs → P (centreAt cs j)) → P (centreAt (added cs i amount) j)
+    at-each : (j : ℕ) (P : Centre → Type 0) → j < length (added cs i amount)
+        → P (centreAt (added cs i amount) i) → (j < length cs → P (centreAt cs j)) → P (centreAt (added cs i amount) j)
     at-each j P l here there =
         ⊎-elim (λ e. subst (λ (k : ℕ). P (centreAt (added cs i amount) k)) (sym (is-eq e)) here)
         (λ z. subst P (sym (to .others-same j (λ e. clash (eq-yes e) z))) (there (subst (λ (k : ℕ). j < k) (to .same-length) l)))
@@ -216,9 +226,7 @@ granted-iff {total} {cs} {i} {amount} s p = (
     is-sound = s;
     there = g .there;
     in-cap = g .cap-holds;
-    in-rest = let m = claimed-added cs i amount (g .there) in let b = claimed-but cs i (g .there) in
-        let u = sub-add-eq-max (centreAt cs i .guarantee) (centreAt cs i .drawn) in let v = sub-add-eq-max (centreAt cs i .guarantee) (centreAt cs i .drawn + amount) in
-        let t = g .sound-after .shared in omega (arith, m, b, u, v, t);
+    in-rest = let e = claimed-after cs i amount (g .there) in let t = g .sound-after .shared in omega (arith, e, t);
   }),
 )
 
@@ -235,22 +243,28 @@ record Fixed (cs new : List Centre) : Type 0 where
   pub same-guarantee : (j : ℕ) → centreAt new j .guarantee ≡ centreAt cs j .guarantee
   pub same-cap : (j : ℕ) → centreAt new j .cap ≡ centreAt cs j .cap
 
+fixed : (cs : List Centre) → Fixed cs cs
+fixed cs = record { same-length = refl; same-guarantee = λ j. refl; same-cap = λ j. refl }
+
 fixed-added : (cs : List Centre) (i amount : ℕ) → i < length cs → Fixed cs (added cs i amount)
 fixed-added cs i amount l = record {
   same-length = to .same-length;
-  same-guarantee = λ j. ⊎-elim (λ e. subst (λ (k : ℕ). centreAt (added cs i amount) k .guarantee ≡ centreAt cs k .guarantee) (sym (is-eq e)) (to .same-guarantee))
-      (λ z. ap (λ (c : Centre). c .guarantee) (to .others-same j (λ e. clash (eq-yes e) z))) (yes-case (eqb j i));
-  same-cap = λ j. ⊎-elim (λ e. subst (λ (k : ℕ). centreAt (added cs i amount) k .cap ≡ centreAt cs k .cap) (sym (is-eq e)) (to .same-cap))
-      (λ z. ap (λ (c : Centre). c .cap) (to .others-same j (λ e. clash (eq-yes e) z))) (yes-case (eqb j i));
+  same-guarantee = λ j. everywhere j (λ c. c .guarantee) (to .same-guarantee);
+  same-cap = λ j. everywhere j (λ c. c .cap) (to .same-cap);
 }
   where
     to : AddedTo cs i amount (added cs i amount)
     to = added-to cs i amount l
 
+    everywhere : (j : ℕ) (f : Centre → ℕ) → f (centreAt (added cs i amount) i) ≡ f (centreAt cs i) → f (centreAt (added cs i amount) j) ≡ f (centreAt cs j)
+    everywhere j f here =
+        ⊎-elim (λ e. subst (λ (k : ℕ). f (centreAt (added cs i amount) k) ≡ f (centreAt cs k)) (sym (is-eq e)) here)
+        (λ z. ap f (to .others-same j (λ e. clash (eq-yes e) z))) (yes-case (eqb j i))
+
 stays-fixed : {total : ℕ} {cs new : List Centre} {ds : List Draw} → Draws total cs ds new → Fixed cs new
-stays-fixed no-draw = record { same-length = refl; same-guarantee = λ j. refl; same-cap = λ j. refl }
+stays-fixed {cs} no-draw = fixed cs
 stays-fixed {cs} (one-draw {d} p ds) =
-    let a = either-way p (Fixed cs) record { same-length = refl; same-guarantee = λ j. refl; same-cap = λ j. refl } (λ q. fixed-added cs (d .centre) (d .amount) (q .there)) in
+    let a = either-way p (Fixed cs) (fixed cs) (λ q. fixed-added cs (d .centre) (d .amount) (q .there)) in
     let b = stays-fixed ds in record {
       same-length = b .same-length ∙ a .same-length;
       same-guarantee = λ j. b .same-guarantee j ∙ a .same-guarantee j;
@@ -261,9 +275,11 @@ others-leave : {total : ℕ} {cs new : List Centre} {ds : List Draw} (i : ℕ) �
 others-leave i no-draw o = refl
 others-leave {cs} i (one-draw {d} p ds) o =
     others-leave i ds (o .1)
-    ∙ either-way p (λ (new : List Centre). centreAt new i ≡ centreAt cs i) refl (λ q. added-to cs (d .centre) (d .amount) (q .there) .others-same i (λ e. o .0 (sym e)))
+    ∙ either-way p (λ (new : List Centre). centreAt new i ≡ centreAt cs i) refl
+    (λ q. added-to cs (d .centre) (d .amount) (q .there) .others-same i (λ e. o .0 (sym e)))
 
-within-guarantee : {total : ℕ} {cs : List Centre} {i amount : ℕ} → Sound total cs → i < length cs → centreAt cs i .drawn + amount ≤ centreAt cs i .guarantee → NoQuestion total cs i amount
+within-guarantee : {total : ℕ} {cs : List Centre} {i amount : ℕ}
+    → Sound total cs → i < length cs → centreAt cs i .drawn + amount ≤ centreAt cs i .guarantee → NoQuestion total cs i amount
 within-guarantee {cs} {i} s l h = record {
   is-sound = s;
   there = l;
