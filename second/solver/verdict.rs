@@ -1,5 +1,6 @@
-//! What the solver, the marker and the parts that fill a lent buffer answer, and the words for it in the stored files and the examples.
+//! What the solver, the marker, the parts that fill a lent buffer and a draw answer, and the words for it in the stored files and the examples.
 
+use crate::centres::Centre;
 use crate::constraint::KIND_NAMES;
 use crate::Refusal;
 use std::fmt;
@@ -23,6 +24,13 @@ pub enum MarkerVerdict {
 #[derive(Clone, PartialEq, Eq, Debug)]
 pub enum FillVerdict {
     Written(Vec<u8>),
+    Refused(Refusal),
+}
+
+/// Of a draw: the list after it; a refused one leaves the list as it was.
+#[derive(Clone, PartialEq, Eq, Debug)]
+pub enum DrawVerdict {
+    Granted(Vec<Centre>),
     Refused(Refusal),
 }
 
@@ -56,6 +64,24 @@ impl fmt::Display for FillVerdict {
             FillVerdict::Refused(Refusal(question)) => write!(f, "refused {question}"),
         }
     }
+}
+
+impl fmt::Display for DrawVerdict {
+    fn fmt(&self, f: &mut fmt::Formatter) -> fmt::Result {
+        match self {
+            DrawVerdict::Granted(after) => write!(f, "granted {}", list(after)),
+            DrawVerdict::Refused(Refusal(question)) => write!(f, "refused {question}"),
+        }
+    }
+}
+
+/// Guarantee, cap and amount drawn of each centre; an empty list is written as a dash.
+pub fn list(centres: &[Centre]) -> String {
+    if centres.is_empty() {
+        return "-".to_string();
+    }
+    let records = centres.iter().map(|Centre { guarantee, cap, drawn }| format!("({guarantee} {cap} {drawn})"));
+    records.collect::<Vec<_>>().join(" ")
 }
 
 /// Reads what `Display` writes.
