@@ -56,8 +56,8 @@ pub const DRAWS: [&str; 43] = [
 ];
 
 impl Comparison {
-    /// The order of the questions where more than one says no, and what is wrong where it is one thing alone; of 18 also where a later
-    /// question says no too, since a sum far above the total leaves nothing to draw.
+    /// The order of the questions where more than one says no, and what is wrong where it is one thing alone. By numbers also where a later
+    /// question says no too: what is far above 32 bits is above all limits.
     pub fn note_draw(&mut self, session: &Session, centre: usize, amount: u32, wrong: &[(u8, &'static str)]) {
         match wrong {
             [] => self.note_granted(session, centre, amount),
@@ -66,7 +66,7 @@ impl Comparison {
         }
         match wrong {
             [(18, what)] | [(18, what), (19 | 20, _), ..] => self.note_18(session, centre, amount, what),
-            [(19, _)] => self.note_19(session, centre, amount),
+            [(19, _), ..] => self.note_19(session, centre, amount),
             [(20, _)] => self.note_20(session, centre, amount),
             _ => {}
         }

@@ -59,7 +59,7 @@ impl Comparison {
             self.path_round();
             // They are short.
             (0..8).for_each(|_| self.xml_round());
-            (0..8).for_each(|_| self.draw_round());
+            (0..4).for_each(|_| self.draw_round());
         }
         self
     }
