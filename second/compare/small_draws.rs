@@ -15,35 +15,33 @@ const AT_MORE_LIMITS: [u32; 9] = [0, 1, 2, (1 << 31) - 1, 1 << 31, (1 << 31) + 1
 
 impl Comparison {
     pub fn all_small_draws(&mut self) {
-        self.every_draw("every draw from up to 3 centres, numbers up to 2", 0..=3, &[0, 1, 2], 7);
-        self.every_draw("every draw from up to 2 centres, numbers up to 3", 1..=2, &[0, 1, 2, 3], 7);
-        self.every_draw_at_limits("every draw from up to 2 centres at the limits of 32 bits", 1..=2, &AT_LIMITS);
-        self.every_draw_at_limits("every draw from one centre at the limits of 32 bits", 1..=1, &AT_MORE_LIMITS);
+        let up_to = |most: u32| (0..=most).collect::<Vec<u32>>();
+        for (sort, records, most, most_total) in [
+            ("every draw from up to 3 centres, numbers up to 2", 0..=3, 2, 7),
+            ("every draw from up to 2 centres, numbers up to 3", 1..=2, 3, 7),
+            ("every draw from 4 centres, numbers up to 1", 4..=4, 1, 5),
+        ] {
+            self.every_draw(sort, &lists(records, &up_to(most)), &up_to(most_total), &up_to(most + 1));
+        }
+        let few = lists(1..=2, &AT_LIMITS);
+        self.every_draw("every draw from up to 2 centres at the limits of 32 bits", &few, &AT_LIMITS, &AT_LIMITS);
+        let one = lists(1..=1, &AT_MORE_LIMITS);
+        self.every_draw("every draw from one centre at the limits of 32 bits", &one, &AT_MORE_LIMITS, &AT_MORE_LIMITS);
+        // Sums as far above 32 bits as they can be.
+        let equal =
+            lists(1..=1, &AT_LIMITS).into_iter().flat_map(|one| (3..=8).map(move |records| one.repeat(records)));
+        let equal: Vec<Vec<Centre>> = equal.collect();
+        self.every_draw("every draw from 3 to 8 equal centres at these limits", &equal, &AT_LIMITS, &AT_LIMITS);
         self.draws_by_records();
         self.draws_by_centre();
     }
 
-    /// Every list of so many records of these numbers, with every total up to one that is more than enough, by every centre and the number
-    /// behind the last, of every amount up to one above the largest number.
-    fn every_draw(&mut self, sort: &'static str, records: RangeInclusive<usize>, numbers: &[u32], most: u32) {
-        for centres in lists(records, numbers) {
-            for total in 0..=most {
-                let session = Session { centres: centres.clone(), total };
-                for amount in 0..=numbers.len() as u32 {
-                    (0..=centres.len()).for_each(|centre| drop(self.draw(sort, &session, centre, amount)));
-                }
-            }
-        }
-    }
-
-    /// The total and the amount likewise.
-    fn every_draw_at_limits(&mut self, sort: &'static str, records: RangeInclusive<usize>, numbers: &[u32]) {
-        for centres in lists(records, numbers) {
-            for &total in numbers {
-                let session = Session { centres: centres.clone(), total };
-                for &amount in numbers {
-                    (0..=centres.len()).for_each(|centre| drop(self.draw(sort, &session, centre, amount)));
-                }
+    /// By every centre, and by the number behind the last.
+    fn every_draw(&mut self, sort: &'static str, lists: &[Vec<Centre>], totals: &[u32], amounts: &[u32]) {
+        for (centres, &total) in lists.iter().flat_map(|centres| totals.iter().map(move |total| (centres, total))) {
+            let session = Session { centres: centres.clone(), total };
+            for (centre, &amount) in (0..=centres.len()).flat_map(|c| amounts.iter().map(move |amount| (c, amount))) {
+                self.draw(sort, &session, centre, amount);
             }
         }
     }

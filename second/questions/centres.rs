@@ -93,7 +93,7 @@ fn sum_above_total(random: &mut Random, session: &mut Session) -> Option<()> {
 /// In 32 bits the sum would be what it was.
 fn sum_above_total_by_2_to_32(random: &mut Random, session: &mut Session) -> Option<()> {
     let half = 1 << 31;
-    for _ in 0..2 * random.pick(&[1, 2]) {
+    for _ in 0..2 * random.pick(&[1, 2, 4]) {
         let (guarantee, drawn) = random.pick(&[(half, 0), (0, half), (half, half), (half, 1)]);
         session.centres.push(Centre { guarantee, cap: half, drawn });
     }
