@@ -32,6 +32,7 @@ impl Comparison {
             lists(1..=1, &AT_LIMITS).into_iter().flat_map(|one| (3..=8).map(move |records| one.repeat(records)));
         let equal: Vec<Vec<Centre>> = equal.collect();
         self.every_draw("every draw from 3 to 8 equal centres at these limits", &equal, &AT_LIMITS, &AT_LIMITS);
+        self.draws_by_place();
         self.draws_by_records();
         self.draws_by_centre();
     }
@@ -44,6 +45,21 @@ impl Comparison {
                 self.draw(sort, &session, centre, amount);
             }
         }
+    }
+
+    /// One centre unlike the others, at every place of up to 8: each thing that makes a list unsound, and a guarantee that is kept back.
+    fn draws_by_place(&mut self) {
+        const UNLIKE: [[u32; 3]; 5] = [[4, 3, 0], [0, 3, 4], [11, 11, 0], [0, 11, 11], [4, 9, 1]];
+        let of = |[guarantee, cap, drawn]: [u32; 3]| Centre { guarantee, cap, drawn };
+        let with = |records: usize, place: usize, unlike| {
+            let mut centres = vec![of([0, 9, 0]); records];
+            centres[place] = of(unlike);
+            centres
+        };
+        let places = (2..=8).flat_map(|records| (0..records).map(move |place| (records, place)));
+        let lists = places.flat_map(|(records, place)| UNLIKE.map(|unlike| with(records, place, unlike)));
+        let amounts: Vec<u32> = (0..=11).collect();
+        self.every_draw("draws with one centre unlike the others", &lists.collect::<Vec<_>>(), &[10], &amounts);
     }
 
     /// Lists that are sound but for their length, as far as a byte and two bytes count: up to 8 records each centre gets its draw.
