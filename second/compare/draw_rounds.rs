@@ -61,7 +61,7 @@ impl Comparison {
     /// Every question after 18 would say yes to some of these draws.
     fn spoilt(&mut self, session: &Session) {
         const SORT: &str = "draws from sound lists, spoilt in one place";
-        for spoil in SPOILINGS {
+        for (how, spoil) in SPOILINGS {
             let mut spoilt = session.clone();
             if spoil(&mut self.random, &mut spoilt).is_none() {
                 continue;
@@ -70,8 +70,9 @@ impl Comparison {
             self.draws_at_limits(SORT, &spoilt, centre);
             let said = self.draw(SORT, &spoilt, centre, 0);
             if said != DrawVerdict::Refused(Refusal(18)) {
-                disagree(SORT, &format!("{said}\n{}", shown(&spoilt, centre, 0)));
+                disagree(SORT, &format!("{how}: {said}\n{}", shown(&spoilt, centre, 0)));
             }
+            self.draws.note(how);
         }
     }
 

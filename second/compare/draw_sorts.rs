@@ -4,7 +4,7 @@ use crate::draws::{limits, promised};
 use crate::Comparison;
 use questions::centres::Session;
 
-pub const DRAWS: [&str; 43] = [
+pub const DRAWS: [&str; 48] = [
     // Orders of questions: a draw that fails both gets the first.
     "18 before 19",
     "18 before 20",
@@ -50,6 +50,12 @@ pub const DRAWS: [&str; 43] = [
     "20 by the undrawn guarantees of the others alone",
     "20 by what the others have drawn alone",
     "20 by a sum that is not above the total in 32 bits",
+    // A sound list with one thing wrong.
+    "spoilt by a guarantee above its cap",
+    "spoilt by a drawn amount above its cap",
+    "spoilt by a sum above the total",
+    "spoilt by a sum above the total by 2^32 or more",
+    "spoilt by more than 8 records",
     // In turn.
     "a guarantee drawn to its end after the others took what they could",
     "a total drawn to its end",

@@ -68,8 +68,15 @@ pub fn any_session(random: &mut Random) -> Session {
 }
 
 /// One thing that makes a sound list unsound or too long, and nothing else; not every list can have it.
-pub const SPOILINGS: [fn(&mut Random, &mut Session) -> Option<()>; 5] =
-    [guarantee_above_cap, drawn_above_cap, sum_above_total, sum_above_total_by_2_to_32, too_many];
+pub type Spoiling = (&'static str, fn(&mut Random, &mut Session) -> Option<()>);
+
+pub const SPOILINGS: [Spoiling; 5] = [
+    ("spoilt by a guarantee above its cap", guarantee_above_cap),
+    ("spoilt by a drawn amount above its cap", drawn_above_cap),
+    ("spoilt by a sum above the total", sum_above_total),
+    ("spoilt by a sum above the total by 2^32 or more", sum_above_total_by_2_to_32),
+    ("spoilt by more than 8 records", too_many),
+];
 
 fn guarantee_above_cap(random: &mut Random, session: &mut Session) -> Option<()> {
     let centre = some(random, &mut session.centres, |centre| centre.guarantee > centre.drawn)?;
