@@ -202,13 +202,14 @@ pub fn hold_draw(
         let lent = records.lent();
         let result = unsafe { cudreth_draw(lent.as_mut_ptr(), lent.len(), total, centre, amount) };
         if result != draw_number(expected) || !records.changed_only_by(&after) {
+            let front = |list: &[Centre]| format!("{:?}", &list[..list.len().min(20)]);
             return Err(Disagreement(format!(
-                "draw, total {total}, centre {centre}, amount {amount}\ncentres {}\nexpected {expected} = {:#x}\narchive  {:#x}\nlist before, with guards {:?}\nlist after, with guards  {:?}",
+                "draw, total {total}, centre {centre}, amount {amount}\ncentres {}\nexpected {expected} = {:#x}\narchive  {:#x}\nlist before, with guards {}\nlist after, with guards  {}",
                 list(centres),
                 draw_number(expected),
                 result,
-                records.before,
-                records.after,
+                front(&records.before),
+                front(&records.after),
             )));
         }
     }

@@ -49,7 +49,7 @@ impl Comparison {
 
 /// Everything that is wrong with a draw, with the number of its question, in the order in which it is asked: a rule of the comparison's own,
 /// which puts each question whatever the others say. What remains is what is not promised to the others and not drawn by the centre itself.
-pub fn wrong_in_draw(session: &Session, centre: usize, amount: u32) -> Vec<(u8, &'static str)> {
+fn wrong_in_draw(session: &Session, centre: usize, amount: u32) -> Vec<(u8, &'static str)> {
     let Session { centres, total } = session;
     let mut wrong: Vec<_> = wrong_in_list(centres, *total).into_iter().map(|what| (18, what)).collect();
     if centres.len() > 8 {

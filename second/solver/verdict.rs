@@ -75,13 +75,15 @@ impl fmt::Display for DrawVerdict {
     }
 }
 
-/// Guarantee, cap and amount drawn of each centre; an empty list is written as a dash.
+/// Guarantee, cap and amount drawn of each centre; an empty list is written as a dash, and of a long one the front.
 pub fn list(centres: &[Centre]) -> String {
     if centres.is_empty() {
         return "-".to_string();
     }
-    let records = centres.iter().map(|Centre { guarantee, cap, drawn }| format!("({guarantee} {cap} {drawn})"));
-    records.collect::<Vec<_>>().join(" ")
+    let (front, rest) = centres.split_at(centres.len().min(20));
+    let record = |&Centre { guarantee, cap, drawn }: &Centre| format!("({guarantee} {cap} {drawn})");
+    let more = (!rest.is_empty()).then(|| format!("and {} more", rest.len()));
+    front.iter().map(record).chain(more).collect::<Vec<_>>().join(" ")
 }
 
 /// Reads what `Display` writes.
