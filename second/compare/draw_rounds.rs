@@ -28,15 +28,15 @@ impl Comparison {
         }
     }
 
-    /// At, one below and one above each limit of the centre; and amounts that would lead back below it in 32 bits.
+    /// At, one below and one above each limit of the centre; and amounts that in 32 bits would lead back below it.
     fn draws_at_limits(&mut self, sort: &'static str, session: &Session, centre: usize) {
         let mut amounts = vec![0, 1, i128::from(u32::MAX), i128::from(number(&mut self.random))];
         if let Some(Limits { guarantee, cap, remaining }) = limits(session, centre) {
-            let around = [guarantee, cap, remaining, cap + (1 << 32), remaining + (1 << 32)];
-            amounts.extend(around.into_iter().flat_map(|limit| limit - 1..=limit + 1));
-            // Drawn and amount together are 2^32: 0 in 32 bits.
-            let own = session.centres[centre];
-            amounts.extend([0, 1].map(|more| (1 << 32) - i128::from(own.drawn) + more));
+            amounts.extend([guarantee, cap, remaining].into_iter().flat_map(|limit| limit - 1..=limit + 1));
+            // With these what the centre would have drawn, or what all would be promised, is 2^32 or one more.
+            let drawn = i128::from(session.centres[centre].drawn);
+            let promised = i128::from(session.total) - remaining;
+            amounts.extend([drawn, promised].map(|sum| (1 << 32) - sum).into_iter().flat_map(|more| more..=more + 1));
         }
         amounts.sort();
         amounts.dedup();
