@@ -1,8 +1,8 @@
 /*
  * A host program: solves the question of document 01's listing (M10), prints the tree and marks four candidates; solves and marks a question
  * in another order and with other numbers, one of siblings in order, one of the document node, and one with capitals; reads one set as paths
- * and solves it; writes a tree as XML and reads it back; and lists what a refusal can say. What it prints is held to examples/host.stdout. It
- * is C99 and C++; host.rs is the same in Rust.
+ * and solves it; writes a tree as XML and reads it back; solves for three centres with what each may draw; and lists what a refusal can say.
+ * What it prints is held to examples/host.stdout. It is C99 and C++; host.rs is the same in Rust.
  */
 #include <inttypes.h>
 #include <stdbool.h>
@@ -101,26 +101,27 @@ static void print_written(const uint8_t *buffer, size_t length, size_t written)
     printf("%zu bytes written, %zu left as they were\n", written, unchanged - written);
 }
 
+static const uint8_t listing[] = {
+    CUDRETH_ROOT,   1, 0, 0,
+    CUDRETH_CHILD,  1, 2, 0,
+    CUDRETH_BELOW,  0, 2, 0,
+    CUDRETH_DIFFER, 0, 1, 0,
+};
+
 /* M10: solved, and four answers to it marked. */
 static void solve_and_mark(uint8_t *answer)
 {
-    const uint8_t question[] = {
-        CUDRETH_ROOT,   1, 0, 0,
-        CUDRETH_CHILD,  1, 2, 0,
-        CUDRETH_BELOW,  0, 2, 0,
-        CUDRETH_DIFFER, 0, 1, 0,
-    };
     printf("allowance 1: ");
-    print_solved(cudreth_solve(question, sizeof question, answer, CUDRETH_ANSWER_BYTES, 1), answer);
+    print_solved(cudreth_solve(listing, sizeof listing, answer, CUDRETH_ANSWER_BYTES, 1), answer);
     printf("buffer 135: ");
-    print_solved(cudreth_solve(question, sizeof question, answer, CUDRETH_ANSWER_BYTES - 1, 1), answer);
-    uint64_t solved = cudreth_solve(question, sizeof question, answer, CUDRETH_ANSWER_BYTES, UINT32_MAX);
+    print_solved(cudreth_solve(listing, sizeof listing, answer, CUDRETH_ANSWER_BYTES - 1, 1), answer);
+    uint64_t solved = cudreth_solve(listing, sizeof listing, answer, CUDRETH_ANSWER_BYTES, UINT32_MAX);
     print_solved(solved, answer);
     size_t written = cudreth_written(solved);
     print_written(answer, CUDRETH_ANSWER_BYTES, written);
 
     printf("that answer: ");
-    print_marked(cudreth_mark(question, sizeof question, answer, written));
+    print_marked(cudreth_mark(listing, sizeof listing, answer, written));
     const uint8_t wrong[] = {
         CUDRETH_NODE,  0, 0, 0,
         CUDRETH_NODE,  1, 0, 0,
@@ -129,11 +130,11 @@ static void solve_and_mark(uint8_t *answer)
         CUDRETH_PLACE, 2, 1, 0,
     };
     printf("0 and 1 on one node: ");
-    print_marked(cudreth_mark(question, sizeof question, wrong, sizeof wrong));
+    print_marked(cudreth_mark(listing, sizeof listing, wrong, sizeof wrong));
     printf("the last byte lost: ");
-    print_marked(cudreth_mark(question, sizeof question, answer, written - 1));
+    print_marked(cudreth_mark(listing, sizeof listing, answer, written - 1));
     printf("empty files: ");
-    print_marked(cudreth_mark(question, 0, answer, 0));
+    print_marked(cudreth_mark(listing, 0, answer, 0));
 }
 
 /* A question, the same from last record to first, and the same with variables 0 and 1 exchanged. */
@@ -332,6 +333,49 @@ static void write_and_read(uint8_t *answer, uint8_t *text, uint8_t *nodes)
     print_xml(cudreth_xml_write(nodes, cudreth_written(read), text, CUDRETH_XML_BYTES), text);
 }
 
+/* Ten choices for three centres: guarantee, cap, drawn. Of the ten, four are nobody's guarantee. */
+#define SESSION_CENTRES 3
+#define SESSION_TOTAL 10
+static const struct cudreth_centre session[SESSION_CENTRES] = {
+    {2, 6, 0},
+    {3, 5, 0},
+    {1, 10, 0},
+};
+
+static bool draw(struct cudreth_centre *centres, uint32_t total, size_t centre, uint32_t amount)
+{
+    printf("centre %zu draws %" PRIu32 ": ", centre, amount);
+    uint64_t result = cudreth_draw(centres, SESSION_CENTRES, total, centre, amount);
+    if (cudreth_verdict(result) != CUDRETH_GRANTED) {
+        print_refused(cudreth_question(result));
+        return false;
+    }
+    printf("granted, %" PRIu32 " of at most %" PRIu32 "\n", centres[centre].drawn, centres[centre].cap);
+    return true;
+}
+
+/* M10 with what the centre draws as its allowance. Choices that the search does not need are not given back. */
+static void draw_and_solve(struct cudreth_centre *centres, size_t centre, uint32_t amount, uint8_t *answer)
+{
+    if (draw(centres, SESSION_TOTAL, centre, amount))
+        print_solved(cudreth_solve(listing, sizeof listing, answer, CUDRETH_ANSWER_BYTES, amount), answer);
+}
+
+/* Centre 0 takes all four that are nobody's beside its guarantee; 2 and then 1 still get theirs. Then no such centre, and a total too small. */
+static void share_session(struct cudreth_centre *centres, uint8_t *answer)
+{
+    draw_and_solve(centres, 0, 1, answer);
+    draw_and_solve(centres, 0, 5, answer);
+    draw_and_solve(centres, 0, 1, answer);
+    draw_and_solve(centres, 2, 2, answer);
+    draw_and_solve(centres, 2, 1, answer);
+    draw_and_solve(centres, 1, 3, answer);
+    draw_and_solve(centres, 3, 0, answer);
+    printf("of 9, ");
+    draw(centres, SESSION_TOTAL - 1, 0, 0);
+    printf("drawn %" PRIu32 ", %" PRIu32 " and %" PRIu32 "\n", centres[0].drawn, centres[1].drawn, centres[2].drawn);
+}
+
 int main(void)
 {
     printf("version %d\n", CUDRETH_VERSION);
@@ -341,12 +385,14 @@ int main(void)
     uint8_t *records = (uint8_t *)malloc(CUDRETH_RECORDS_BYTES);
     uint8_t *text = (uint8_t *)malloc(CUDRETH_XML_BYTES);
     uint8_t *nodes = (uint8_t *)malloc(CUDRETH_NODES_BYTES);
-    if (!answer || !other || !records || !text || !nodes)
+    struct cudreth_centre *centres = (struct cudreth_centre *)malloc(sizeof session);
+    if (!answer || !other || !records || !text || !nodes || !centres)
         return 1;
     memset(answer, 0xee, CUDRETH_ANSWER_BYTES);
     memset(records, 0xee, CUDRETH_RECORDS_BYTES);
     memset(text, 0xee, CUDRETH_XML_BYTES);
     memset(nodes, 0xee, CUDRETH_NODES_BYTES);
+    memcpy(centres, session, sizeof session);
 
     solve_and_mark(answer);
     solve_shuffled(answer, other);
@@ -355,8 +401,10 @@ int main(void)
     solve_capitals(answer);
     read_and_solve(records, answer);
     write_and_read(answer, text, nodes);
-    for (uint32_t number = CUDRETH_Q_CONSTRAINTS_LONG; number <= CUDRETH_Q_XML_BUFFER; number++)
+    share_session(centres, answer);
+    for (uint32_t number = CUDRETH_Q_CONSTRAINTS_LONG; number <= CUDRETH_Q_REMAINS; number++)
         print_refused(number);
+    free(centres);
     free(nodes);
     free(text);
     free(records);

@@ -4,8 +4,8 @@
 mod cudreth;
 
 use cudreth::{
-    Marked, PathsRead, Solved, Xml, ANSWER_BYTES, BEFORE, BELOW, CHILD, DIFFER, LABEL, NODE, NODES_BYTES, PLACE,
-    RECORDS_BYTES, RECORD_BYTES, ROOT, XML_BYTES,
+    Centre, Drawn, Marked, PathsRead, Solved, Xml, ANSWER_BYTES, BEFORE, BELOW, CHILD, DIFFER, LABEL, NODE,
+    NODES_BYTES, PLACE, RECORDS_BYTES, RECORD_BYTES, ROOT, XML_BYTES,
 };
 
 fn print_answer(answer: &[u8]) {
@@ -215,6 +215,14 @@ const DRAWN: [u8; 12] = [
     NODE, 2, 1, b'a',
 ];
 
+/// Ten choices for three centres. Of the ten, four are nobody's guarantee.
+const SESSION_TOTAL: u32 = 10;
+const SESSION: [Centre; 3] = [
+    Centre { guarantee: 2, cap: 6, drawn: 0 },
+    Centre { guarantee: 3, cap: 5, drawn: 0 },
+    Centre { guarantee: 1, cap: 10, drawn: 0 },
+];
+
 /// M10: solved, and four answers to it marked.
 fn solve_and_mark(answer: &mut [u8]) {
     print!("allowance 1: ");
@@ -341,6 +349,33 @@ fn write_and_read(answer: &mut [u8], text: &mut [u8], nodes: &mut [u8]) {
     print_xml(cudreth::xml_write(&nodes[..written(read)], text), text);
 }
 
+fn draw(centres: &mut [Centre], total: u32, centre: usize, amount: u32) -> bool {
+    print!("centre {} draws {}: ", centre, amount);
+    let drawn = cudreth::draw(centres, total, centre, amount);
+    match drawn {
+        Drawn::Granted => println!("granted, {} of at most {}", centres[centre].drawn, centres[centre].cap),
+        Drawn::Refused { question } => print_refused(question),
+    }
+    drawn == Drawn::Granted
+}
+
+/// M10 with what the centre draws as its allowance. Choices that the search does not need are not given back.
+fn draw_and_solve(centres: &mut [Centre], centre: usize, amount: u32, answer: &mut [u8]) {
+    if draw(centres, SESSION_TOTAL, centre, amount) {
+        print_solved(cudreth::solve(&QUESTION, answer, amount), answer);
+    }
+}
+
+/// Centre 0 takes all four that are nobody's beside its guarantee; 2 and then 1 still get theirs. Then no such centre, and a total too small.
+fn share_session(centres: &mut [Centre], answer: &mut [u8]) {
+    for (centre, amount) in [(0, 1), (0, 5), (0, 1), (2, 2), (2, 1), (1, 3), (3, 0)].iter() {
+        draw_and_solve(centres, *centre, *amount, answer);
+    }
+    print!("of 9, ");
+    draw(centres, SESSION_TOTAL - 1, 0, 0);
+    println!("drawn {}, {} and {}", centres[0].drawn, centres[1].drawn, centres[2].drawn);
+}
+
 fn main() {
     println!("version {}", cudreth::VERSION);
     // Lent from the heap, at their exact lengths, so that a memory checker sees every byte too far.
@@ -348,6 +383,7 @@ fn main() {
     let mut records = vec![0xee; RECORDS_BYTES];
     let mut text = vec![0xee; XML_BYTES];
     let mut nodes = vec![0xee; NODES_BYTES];
+    let mut centres = SESSION.to_vec();
 
     solve_and_mark(&mut answer);
     solve_shuffled(&mut answer);
@@ -356,7 +392,8 @@ fn main() {
     solve_capitals(&mut answer);
     read_and_solve(&mut records, &mut answer);
     write_and_read(&mut answer, &mut text, &mut nodes);
-    for question in cudreth::Q_CONSTRAINTS_LONG..=cudreth::Q_XML_BUFFER {
+    share_session(&mut centres, &mut answer);
+    for question in cudreth::Q_CONSTRAINTS_LONG..=cudreth::Q_REMAINS {
         print_refused(question);
     }
 }

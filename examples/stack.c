@@ -6,6 +6,7 @@
  * cudreth_paths: on the texts of 1,024 bytes that nest deepest or go on longest, and fails if one needs more than CUDRETH_PATHS_STACK.
  * cudreth_xml_write and cudreth_xml_read: on the trees of 64 nodes that are deepest or widest and on their texts, and the reader on texts
  * that nest deeper than a tree may, up to 1 MiB of them; fails if one needs more than CUDRETH_XML_STACK.
+ * cudreth_draw: from the longest list, granted and refused; fails if it needs more than 2 KiB beyond what a thread has in use without it.
  */
 #define _POSIX_C_SOURCE 200809L
 #include <inttypes.h>
@@ -20,6 +21,8 @@
 #define STACK (1024 * 1024)
 /* A text for cudreth_xml_read that no stack has room for, if each <a> takes some. */
 #define LONG_TEXT (1024 * 1024)
+/* What the header says of cudreth_draw. */
+#define DRAW_STACK 2048
 
 static uint8_t stack[STACK] __attribute__((aligned(4096)));
 static uint64_t result;
@@ -31,6 +34,9 @@ static uint8_t text[LONG_TEXT];
 static size_t text_length;
 
 static uint8_t nodes[CUDRETH_NODES_BYTES];
+
+static struct cudreth_centre centres[CUDRETH_CENTRES];
+static uint32_t amount;
 
 static void *solve(void *unused)
 {
@@ -57,6 +63,18 @@ static void *xml_read(void *unused)
 {
     static uint8_t lent[CUDRETH_NODES_BYTES];
     result = cudreth_xml_read(text, text_length, lent, sizeof lent);
+    return unused;
+}
+
+static void *draw(void *unused)
+{
+    result = cudreth_draw(centres, CUDRETH_CENTRES, UINT32_MAX, CUDRETH_CENTRES - 1, amount);
+    return unused;
+}
+
+static void *nothing(void *unused)
+{
+    result = 0;
     return unused;
 }
 
@@ -246,8 +264,21 @@ static int writing_xml(void)
     return within("cudreth_xml_write", most, CUDRETH_XML_STACK);
 }
 
+static int drawing(void)
+{
+    const struct cudreth_centre fresh = {1, 2, 0};
+    size_t own = used(nothing, STACK, 0);
+
+    for (size_t i = 0; i < CUDRETH_CENTRES; i++)
+        centres[i] = fresh;
+    amount = 2;
+    size_t granted = used(draw, STACK, CUDRETH_GRANTED), refused = used(draw, STACK, REFUSED_BY(CUDRETH_Q_CAP));
+    printf("stack of cudreth_draw, bytes with the thread's own: %zu without a draw, %zu granted, %zu refused", own, granted, refused);
+    return within("cudreth_draw", granted > refused ? granted : refused, own + DRAW_STACK);
+}
+
 int main(void)
 {
-    int solved = solving(), paths_read = reading_paths(), xml_written = writing_xml(), xml_was_read = reading_xml();
-    return solved && paths_read && xml_written && xml_was_read ? 0 : 1;
+    int solved = solving(), paths_read = reading_paths(), xml_written = writing_xml(), xml_was_read = reading_xml(), drawn = drawing();
+    return solved && paths_read && xml_written && xml_was_read && drawn ? 0 : 1;
 }

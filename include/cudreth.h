@@ -1,22 +1,23 @@
 /*
- * Cudreth: solves and marks constraints on trees as XPath sees them, writes the constraints of a question set as paths, and writes trees
- * as XML and reads them back.
+ * Cudreth: solves and marks constraints on trees as XPath sees them, writes the constraints of a question set as paths, writes trees as
+ * XML and reads them back, and shares a total of choices among exam centres.
  *
  * Link with libcapi.a (x86-64 Linux), which `rt staticlib capi` writes to target/staticlib/. docs/FORMAT.md says what the bytes mean,
  * examples/host.c is a host program, and cudreth.rs is this file for Rust.
  *
- * All five functions take any bytes of any length and always return: damaged files, texts that are no paths or no tree and buffers that
- * are too short are refused by a number. They have no globals, allocate nothing, print nothing and set no errno, so any number of threads
- * may call them at once. Threads may share what they only read, constraint files, answer files, node records and texts; a lent buffer
- * belongs to the one call that it is lent to until that returns.
+ * All six functions take any bytes of any length, cudreth_draw any records in any number, and always return: damaged files, texts that
+ * are no paths or no tree, buffers that are too short and lists of centres that are not sound are refused by a number. They have no
+ * globals, allocate nothing, print nothing and set no errno, so any number of threads may call them at once. Threads may share what they
+ * only read, constraint files, answer files, node records and texts; a lent buffer or list belongs to the one call that it is lent to until
+ * that returns.
  *
- * cudreth_mark uses about 2 KiB of stack. cudreth_solve recurses once for each alternative that is open, at most 240 deep; give its
- * thread CUDRETH_STACK bytes. cudreth_paths recurses once for each bracket that is open, at most 127 deep; give its thread
+ * cudreth_mark uses about 2 KiB of stack, cudreth_draw no more. cudreth_solve recurses once for each alternative that is open, at most 240
+ * deep; give its thread CUDRETH_STACK bytes. cudreth_paths recurses once for each bracket that is open, at most 127 deep; give its thread
  * CUDRETH_PATHS_STACK bytes. For cudreth_xml_write and cudreth_xml_read CUDRETH_XML_STACK bytes are enough, however many elements stand
- * inside one another. examples/stack.c measures what these four use.
+ * inside one another. examples/stack.c measures what all but cudreth_mark use.
  *
  * Each pointer must be valid for its length and not NULL, also where the length is 0. A lent buffer may not overlap what its call
- * reads. No byte of what is only read is changed.
+ * reads. No byte of what is only read is changed. A list of centres is aligned as struct cudreth_centre is.
  */
 #ifndef CUDRETH_H
 #define CUDRETH_H
@@ -29,7 +30,7 @@ extern "C" {
 #endif
 
 /* Rises with each landing that a host can notice. The archive does not know it: take header and archive from one commit. */
-#define CUDRETH_VERSION 6
+#define CUDRETH_VERSION 7
 
 /* Every record has 4 bytes; a file has no header. */
 #define CUDRETH_RECORD_BYTES 4
@@ -50,6 +51,8 @@ extern "C" {
 #define CUDRETH_XML_BYTES 512
 /* The shortest buffer that may be lent to cudreth_xml_read, and the most it writes: 64 node records. */
 #define CUDRETH_NODES_BYTES 256
+/* The most centres that may share a total; a longer list is refused with 18. */
+#define CUDRETH_CENTRES 8
 /* Stack enough for cudreth_solve. */
 #define CUDRETH_STACK (256 * 1024)
 /* Stack enough for cudreth_paths. */
@@ -76,6 +79,13 @@ enum cudreth_answer_record {
     CUDRETH_PLACE = 2 /* variable, its node, 0 */
 };
 
+/* A centre in the list that is lent to cudreth_draw. */
+struct cudreth_centre {
+    uint32_t guarantee; /* it can always draw up to this */
+    uint32_t cap;       /* and never above this */
+    uint32_t drawn;     /* what it has drawn; the one field that changes */
+};
+
 /* Verdicts of cudreth_solve. */
 #define CUDRETH_TREE 0u  /* a tree was written to the front of the buffer */
 #define CUDRETH_NONE 1u  /* no tree of any size meets the constraints */
@@ -85,7 +95,9 @@ enum cudreth_answer_record {
 #define CUDRETH_UNMET 1u /* some record is not */
 /* Verdict of cudreth_paths, cudreth_xml_write and cudreth_xml_read. */
 #define CUDRETH_WRITTEN 0u /* the records or the text were written to the front of the buffer */
-/* Of all five: a question was answered with no. */
+/* Verdict of cudreth_draw, and then the whole result. */
+#define CUDRETH_GRANTED 0u /* the amount was added to what the centre has drawn */
+/* Of all six: a question was answered with no. */
 #define CUDRETH_REFUSED 3u
 
 /*
@@ -118,7 +130,11 @@ enum cudreth_question_number {
     /* of the text, by cudreth_xml_read alone */
     CUDRETH_Q_XML_FORM = 16,
     /* of the lent buffer, by cudreth_xml_write (CUDRETH_XML_BYTES), before 15, and cudreth_xml_read (CUDRETH_NODES_BYTES), before 16 */
-    CUDRETH_Q_XML_BUFFER = 17
+    CUDRETH_Q_XML_BUFFER = 17,
+    /* of the list of centres and the draw from it, by cudreth_draw alone */
+    CUDRETH_Q_CENTRES = 18, /* also where the list is sound and the centre is not in it */
+    CUDRETH_Q_CAP = 19,
+    CUDRETH_Q_REMAINS = 20
 };
 
 /*
@@ -173,6 +189,20 @@ uint64_t cudreth_xml_write(const uint8_t *nodes, size_t nodes_len, uint8_t *text
  */
 uint64_t cudreth_xml_read(const uint8_t *text, size_t text_len, uint8_t *nodes, size_t nodes_len);
 
+/*
+ * Draws `amount` choices for one of the centres, which are numbered from 0, out of the `total` that they share. The list is sound if no
+ * guarantee and no amount drawn exceeds its cap, and the larger of guarantee and drawn, summed over the centres, is at most `total`. A draw,
+ * one of 0 too, is refused, in this order: with 18 if the list is not sound or has more than CUDRETH_CENTRES records, or if `centre` is not
+ * below `centres_len`; with 19 if it would pass the centre's cap; with 20 if it would pass what remains: `total`, less what all centres have
+ * drawn, less the undrawn guarantees of the others.
+ *
+ * A refused draw changes no record. The verdict CUDRETH_GRANTED adds `amount` to the centre's `drawn` and changes nothing else. So a sound
+ * list stays sound, and from a sound list every centre can always draw up to its guarantee, whatever the others did, and never above its cap.
+ *
+ * The list belongs to one call at a time: threads that draw from one list take turns, by a lock of the host's.
+ */
+uint64_t cudreth_draw(struct cudreth_centre *centres, size_t centres_len, uint32_t total, size_t centre, uint32_t amount);
+
 /* A result is verdict * 2^48 + middle * 2^32 + low; these take it apart. */
 static inline unsigned cudreth_verdict(uint64_t result) { return (unsigned)(result >> 48); }
 
@@ -189,7 +219,7 @@ static inline uint32_t cudreth_unmet_position(uint64_t result) { return (uint32_
 /* CUDRETH_REFUSED: the number of the question, an enum cudreth_question_number. */
 static inline uint32_t cudreth_question(uint64_t result) { return (uint32_t)result; }
 
-/* Why a file, records, a buffer or a text were refused, by the number of the question. */
+/* Why a file, records, a buffer, a text or a draw were refused, by the number of the question. */
 static inline const char *cudreth_question_words(uint32_t question)
 {
     switch (question) {
@@ -210,6 +240,9 @@ static inline const char *cudreth_question_words(uint32_t question)
     case CUDRETH_Q_XML_LABEL: return "a label to be written as XML is neither 0 nor a letter";
     case CUDRETH_Q_XML_FORM: return "the text is not one that a tree of at most 64 nodes, the document node counted, is written as";
     case CUDRETH_Q_XML_BUFFER: return "the lent buffer has less than 512 bytes for XML, or less than 256 for node records";
+    case CUDRETH_Q_CENTRES: return "the list of centres is not sound or has more than 8 records, or there is no such centre";
+    case CUDRETH_Q_CAP: return "the draw would pass the centre's cap";
+    case CUDRETH_Q_REMAINS: return "the draw would pass what remains after the undrawn guarantees of the others";
     default: return "a question that this version does not know";
     }
 }

@@ -1,4 +1,4 @@
-//! Cudreth for a host program in Rust: the five functions of libcapi.a over slices. cudreth.h says more of what they take and answer,
+//! Cudreth for a host program in Rust: the six functions of libcapi.a over slices. cudreth.h says more of what they take and answer,
 //! docs/FORMAT.md what the bytes mean, and examples/host.rs is a host program.
 //!
 //! It is a module of the host, which is linked with the archive:
@@ -18,7 +18,7 @@
 #![allow(dead_code)]
 
 /// Rises with each landing that a host can notice. The archive does not know it: take this file and the archive from one commit.
-pub const VERSION: u32 = 6;
+pub const VERSION: u32 = 7;
 
 /// Every record has 4 bytes; a file has no header.
 pub const RECORD_BYTES: usize = 4;
@@ -40,6 +40,8 @@ pub const RECORDS_BYTES: usize = 1024;
 pub const XML_BYTES: usize = 512;
 /// The shortest buffer that may be lent to `xml_read`, and the most it writes: 64 node records.
 pub const NODES_BYTES: usize = 256;
+/// The most centres that may share a total; a longer list is refused with 18.
+pub const CENTRES: usize = 8;
 /// Stack enough for `solve`.
 pub const STACK: usize = 256 * 1024;
 /// Stack enough for `paths`.
@@ -73,6 +75,18 @@ pub const NODE: u8 = 1;
 /// Variable, its node, 0.
 pub const PLACE: u8 = 2;
 
+/// A centre in the list that is lent to `draw`.
+#[repr(C)]
+#[derive(Clone, Copy, Debug, Default, PartialEq, Eq)]
+pub struct Centre {
+    /// It can always draw up to this.
+    pub guarantee: u32,
+    /// And never above this.
+    pub cap: u32,
+    /// What it has drawn; the one field that changes.
+    pub drawn: u32,
+}
+
 // Verdicts of `cudreth_solve`.
 pub const TREE: u64 = 0;
 pub const NONE: u64 = 1;
@@ -82,7 +96,9 @@ pub const MET: u64 = 0;
 pub const UNMET: u64 = 1;
 // Verdict of `cudreth_paths`, `cudreth_xml_write` and `cudreth_xml_read`.
 pub const WRITTEN: u64 = 0;
-// Of all five.
+// Verdict of `cudreth_draw`, and then the whole result.
+pub const GRANTED: u64 = 0;
+// Of all six.
 pub const REFUSED: u64 = 3;
 
 // The questions by number; each function asks its own in this order, but 17 before 15 and 16. `question_words` says what a refusal by each
@@ -114,6 +130,10 @@ pub const Q_XML_LABEL: u32 = 15;
 pub const Q_XML_FORM: u32 = 16;
 // of the lent buffer, by `xml_write` (`XML_BYTES`), before 15, and `xml_read` (`NODES_BYTES`), before 16:
 pub const Q_XML_BUFFER: u32 = 17;
+// of the list of centres and the draw from it, by `draw` alone (by 18 also where the list is sound and the centre is not in it):
+pub const Q_CENTRES: u32 = 18;
+pub const Q_CAP: u32 = 19;
+pub const Q_REMAINS: u32 = 20;
 
 unsafe extern "C" {
     pub fn cudreth_solve(
@@ -127,6 +147,7 @@ unsafe extern "C" {
     pub fn cudreth_paths(text: *const u8, text_len: usize, records: *mut u8, records_len: usize) -> u64;
     pub fn cudreth_xml_write(nodes: *const u8, nodes_len: usize, text: *mut u8, text_len: usize) -> u64;
     pub fn cudreth_xml_read(text: *const u8, text_len: usize, nodes: *mut u8, nodes_len: usize) -> u64;
+    pub fn cudreth_draw(centres: *mut Centre, centres_len: usize, total: u32, centre: usize, amount: u32) -> u64;
 }
 
 /// What `solve` answers. `count` is the number of alternatives entered.
@@ -168,6 +189,15 @@ pub enum Xml {
     /// The text or the node records were written to the front of the buffer, in so many bytes.
     Written { written: usize },
     /// The question of that number was answered with no.
+    Refused { question: u32 },
+}
+
+/// What `draw` answers.
+#[derive(Clone, Copy, Debug, PartialEq, Eq)]
+pub enum Drawn {
+    /// The amount was added to what the centre has drawn.
+    Granted,
+    /// The question of that number was answered with no; no record has changed.
     Refused { question: u32 },
 }
 
@@ -215,6 +245,16 @@ impl Xml {
         match parts(result) {
             (WRITTEN, written, _) => Xml::Written { written: usize::from(written) },
             (_, _, question) => Xml::Refused { question },
+        }
+    }
+}
+
+impl Drawn {
+    /// The meaning of a result of `cudreth_draw`.
+    pub fn decode(result: u64) -> Drawn {
+        match parts(result) {
+            (GRANTED, _, _) => Drawn::Granted,
+            (_, _, question) => Drawn::Refused { question },
         }
     }
 }
@@ -277,7 +317,22 @@ pub fn xml_read(text: &[u8], nodes: &mut [u8]) -> Xml {
     Xml::decode(unsafe { cudreth_xml_read(text.as_ptr(), text.len(), nodes.as_mut_ptr(), nodes.len()) })
 }
 
-/// Why a file, records, a buffer or a text were refused, by the number of the question.
+/// Draws `amount` choices for one of the centres, which are numbered from 0, out of the `total` that they share. The list is sound if no
+/// guarantee and no amount drawn exceeds its cap, and the larger of guarantee and drawn, summed over the centres, is at most `total`. A draw,
+/// one of 0 too, is refused, in this order: with 18 if the list is not sound or has more than `CENTRES` records, or if `centre` is not below
+/// its length; with 19 if it would pass the centre's cap; with 20 if it would pass what remains: `total`, less what all centres have drawn,
+/// less the undrawn guarantees of the others.
+///
+/// A refused draw changes no record. `Drawn::Granted` adds `amount` to the centre's `drawn` and changes nothing else. So a sound list stays
+/// sound, and from a sound list every centre can always draw up to its guarantee, whatever the others did, and never above its cap.
+///
+/// Threads that draw from one list take turns, as `&mut` asks: the list stands in a `Mutex` of the host's.
+pub fn draw(centres: &mut [Centre], total: u32, centre: usize, amount: u32) -> Drawn {
+    // Safe: as in `solve`; a slice is aligned as its records are.
+    Drawn::decode(unsafe { cudreth_draw(centres.as_mut_ptr(), centres.len(), total, centre, amount) })
+}
+
+/// Why a file, records, a buffer, a text or a draw were refused, by the number of the question.
 pub fn question_words(question: u32) -> &'static str {
     match question {
         Q_CONSTRAINTS_LONG => "the constraint file has more than 1,024 bytes",
@@ -297,6 +352,9 @@ pub fn question_words(question: u32) -> &'static str {
         Q_XML_LABEL => "a label to be written as XML is neither 0 nor a letter",
         Q_XML_FORM => "the text is not one that a tree of at most 64 nodes, the document node counted, is written as",
         Q_XML_BUFFER => "the lent buffer has less than 512 bytes for XML, or less than 256 for node records",
+        Q_CENTRES => "the list of centres is not sound or has more than 8 records, or there is no such centre",
+        Q_CAP => "the draw would pass the centre's cap",
+        Q_REMAINS => "the draw would pass what remains after the undrawn guarantees of the others",
         _ => "a question that this version does not know",
     }
 }

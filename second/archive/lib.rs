@@ -1,13 +1,13 @@
-//! The proved programs behind their C names, held to an expected verdict: the whole 64-bit result, every byte of the lent buffer, the
+//! The proved programs behind their C names, held to an expected verdict: the whole 64-bit result, every byte of the lent buffer or list, the
 //! bytes around it and the bytes of the files.
 
 #[path = "../../include/cudreth.rs"]
 mod cudreth;
 
-use cudreth::{cudreth_mark, cudreth_paths, cudreth_solve, cudreth_xml_read, cudreth_xml_write};
+use cudreth::{cudreth_draw, cudreth_mark, cudreth_paths, cudreth_solve, cudreth_xml_read, cudreth_xml_write, Centre};
 use second::one_pass::NumberOrN;
-use second::verdict::{hex, FillVerdict, MarkerVerdict, SolverVerdict};
-use second::Refusal;
+use second::verdict::{hex, list, DrawVerdict, FillVerdict, MarkerVerdict, SolverVerdict};
+use second::{centres, Refusal};
 
 /// Where and how the archive differs, with the whole input.
 pub struct Disagreement(pub String);
@@ -18,37 +18,63 @@ const WAYS: [Way; 2] = [Way { noise: 0, guard: 64 }, Way { noise: 0xa7, guard: 0
 
 struct Way {
     noise: u8,
+    /// In bytes.
     guard: usize,
 }
 
-/// Lent bytes between guard bytes, as they were before the call and as they are after it.
-struct Lent {
-    before: Vec<u8>,
-    after: Vec<u8>,
+impl Way {
+    fn noise(&self, at: usize) -> u8 {
+        (at as u8).wrapping_mul(29).wrapping_add(self.noise)
+    }
+}
+
+/// Bytes are lent, and records of centres, which have no byte between their fields.
+trait Lendable: Copy + PartialEq {
+    fn noise(at: usize, way: &Way) -> Self;
+}
+
+impl Lendable for u8 {
+    fn noise(at: usize, way: &Way) -> u8 {
+        way.noise(at)
+    }
+}
+
+impl Lendable for Centre {
+    fn noise(at: usize, way: &Way) -> Centre {
+        let field = |number: usize| u32::from_ne_bytes([0, 1, 2, 3].map(|byte| way.noise(12 * at + 4 * number + byte)));
+        Centre { guarantee: field(0), cap: field(1), drawn: field(2) }
+    }
+}
+
+/// What is lent between guards, as it was before the call and as it is after it.
+struct Lent<T> {
+    before: Vec<T>,
+    after: Vec<T>,
+    /// How many go into the guard bytes on either side.
     guard: usize,
 }
 
-impl Lent {
-    fn noise(length: usize, way: &Way) -> Lent {
-        let noise = |at: usize| (at as u8).wrapping_mul(29).wrapping_add(way.noise);
-        let bytes: Vec<u8> = (0..length + 2 * way.guard).map(noise).collect();
-        Lent { before: bytes.clone(), after: bytes, guard: way.guard }
+impl<T: Lendable> Lent<T> {
+    fn noise(length: usize, way: &Way) -> Lent<T> {
+        let guard = way.guard / size_of::<T>();
+        let all: Vec<T> = (0..length + 2 * guard).map(|at| T::noise(at, way)).collect();
+        Lent { before: all.clone(), after: all, guard }
     }
 
-    fn holding(content: &[u8], way: &Way) -> Lent {
+    fn holding(content: &[T], way: &Way) -> Lent<T> {
         let mut lent = Lent::noise(content.len(), way);
-        lent.before[way.guard..][..content.len()].copy_from_slice(content);
+        lent.before[lent.guard..][..content.len()].copy_from_slice(content);
         lent.after.copy_from_slice(&lent.before);
         lent
     }
 
-    fn bytes(&mut self) -> &mut [u8] {
+    fn lent(&mut self) -> &mut [T] {
         let end = self.after.len() - self.guard;
         &mut self.after[self.guard..end]
     }
 
     /// Is all as lent, but for `written` at the front?
-    fn changed_only_by(&self, written: &[u8]) -> bool {
+    fn changed_only_by(&self, written: &[T]) -> bool {
         let mut expected = self.before.clone();
         expected[self.guard..][..written.len()].copy_from_slice(written);
         self.after == expected
@@ -63,7 +89,7 @@ pub fn hold_solver(file: &[u8], buffer: usize, allowance: u32, expected: &Solver
     for way in &WAYS {
         let mut constraints = Lent::holding(file, way);
         let mut answer = Lent::noise(buffer, way);
-        let (file_lent, answer_lent) = (constraints.bytes(), answer.bytes());
+        let (file_lent, answer_lent) = (constraints.lent(), answer.lent());
         let result = unsafe {
             cudreth_solve(file_lent.as_ptr(), file_lent.len(), answer_lent.as_mut_ptr(), answer_lent.len(), allowance)
         };
@@ -87,7 +113,7 @@ pub fn hold_marker(file: &[u8], answer_file: &[u8], expected: &MarkerVerdict) ->
     for way in &WAYS {
         let mut constraints = Lent::holding(file, way);
         let mut answer = Lent::holding(answer_file, way);
-        let (file_lent, answer_lent) = (constraints.bytes(), answer.bytes());
+        let (file_lent, answer_lent) = (constraints.lent(), answer.lent());
         let result =
             unsafe { cudreth_mark(file_lent.as_ptr(), file_lent.len(), answer_lent.as_ptr(), answer_lent.len()) };
         let as_expected =
@@ -137,13 +163,13 @@ fn hold_filling(
     for way in &WAYS {
         let mut read = Lent::holding(input, way);
         let mut filled = Lent::noise(buffer, way);
-        let (read_lent, filled_lent) = (read.bytes(), filled.bytes());
+        let (read_lent, filled_lent) = (read.lent(), filled.lent());
         let result =
             unsafe { filling(read_lent.as_ptr(), read_lent.len(), filled_lent.as_mut_ptr(), filled_lent.len()) };
         let as_expected =
             result == fill_number(expected) && filled.changed_only_by(written) && read.changed_only_by(&[]);
         if !as_expected {
-            let after = filled.bytes();
+            let after = filled.lent();
             let front = &after[..after.len().min(1024)];
             return Err(Disagreement(format!(
                 "{name}, buffer {buffer}\ninput {}\nbytes {}\nexpected {expected} = {:#x}\narchive  {:#x}\nfront of the buffer after {}",
@@ -156,6 +182,44 @@ fn hold_filling(
         }
     }
     Ok(())
+}
+
+/// A draw changes the list in its place.
+pub fn hold_draw(
+    centres: &[centres::Centre],
+    total: u32,
+    centre: usize,
+    amount: u32,
+    expected: &DrawVerdict,
+) -> Result<(), Disagreement> {
+    let before = records_of(centres);
+    let after = match expected {
+        DrawVerdict::Granted(after) => records_of(after),
+        DrawVerdict::Refused(_) => before.clone(),
+    };
+    for way in &WAYS {
+        let mut records = Lent::holding(&before, way);
+        let lent = records.lent();
+        let result = unsafe { cudreth_draw(lent.as_mut_ptr(), lent.len(), total, centre, amount) };
+        if result != draw_number(expected) || !records.changed_only_by(&after) {
+            let front = |list: &[Centre]| format!("{:?}", &list[..list.len().min(20)]);
+            return Err(Disagreement(format!(
+                "draw, total {total}, centre {centre}, amount {amount}\ncentres {}\nexpected {expected} = {:#x}\narchive  {:#x}\nlist before, with guards {}\nlist after, with guards  {}",
+                list(centres),
+                draw_number(expected),
+                result,
+                front(&records.before),
+                front(&records.after),
+            )));
+        }
+    }
+    Ok(())
+}
+
+fn records_of(centres: &[centres::Centre]) -> Vec<Centre> {
+    let record =
+        |centre: &centres::Centre| Centre { guarantee: centre.guarantee, cap: centre.cap, drawn: centre.drawn };
+    centres.iter().map(record).collect()
 }
 
 fn refused(question: u64) -> u64 {
@@ -227,5 +291,12 @@ fn fill_number(verdict: &FillVerdict) -> u64 {
     match verdict {
         FillVerdict::Written(bytes) => number(0, bytes.len() as u64, 0),
         FillVerdict::Refused(Refusal(question)) => number(3, 0, *question as u64),
+    }
+}
+
+fn draw_number(verdict: &DrawVerdict) -> u64 {
+    match verdict {
+        DrawVerdict::Granted(_) => number(0, 0, 0),
+        DrawVerdict::Refused(Refusal(question)) => number(3, 0, *question as u64),
     }
 }

@@ -72,8 +72,11 @@ fn print_again(path: &str) {
             Expected::Marker { answer, .. } => {
                 println!("{name} mark {file} {} {}", hex(&answer), second::mark(&constraints, &answer));
             }
-            // No stored question is set as paths or is of XML.
-            Expected::Paths { .. } | Expected::XmlWriter { .. } | Expected::XmlReader { .. } => println!("{line}"),
+            // No stored question is set as paths, is of XML or is a draw.
+            Expected::Paths { .. }
+            | Expected::XmlWriter { .. }
+            | Expected::XmlReader { .. }
+            | Expected::Draw { .. } => println!("{line}"),
         }
     }
 }
@@ -110,6 +113,10 @@ fn hold(question: &Question) -> Result<(), String> {
         Expected::XmlReader { buffer, verdict } => {
             hold_said("reader of XML", verdict, second::xml_read(file, *buffer))?;
             archive::hold_xml_read(file, *buffer, verdict)
+        }
+        Expected::Draw { centres, total, centre, amount, verdict } => {
+            hold_said("account of a draw", verdict, second::draw(centres, *total, *centre, *amount))?;
+            archive::hold_draw(centres, *total, *centre, *amount, verdict)
         }
     };
     held.map_err(|disagreement| disagreement.0)

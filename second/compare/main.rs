@@ -9,6 +9,9 @@ mod came_up;
 mod capital_paths;
 mod capitals;
 mod document;
+mod draw_rounds;
+mod draw_sorts;
+mod draws;
 mod meaning;
 mod one_pass;
 mod ordered;
@@ -24,6 +27,7 @@ mod shuffled;
 mod small;
 mod small_capitals;
 mod small_document;
+mod small_draws;
 mod small_passes;
 mod small_shuffles;
 mod small_xml_texts;
@@ -37,6 +41,7 @@ use brothers::BROTHERS;
 use came_up::CameUp;
 use capitals::CAPITALS;
 use document::DOCUMENT;
+use draw_sorts::DRAWS;
 use one_pass::PASSES;
 use path_sorts::PathSorts;
 use questions::Random;
@@ -65,6 +70,7 @@ struct Comparison {
     shuffles: CameUp,
     passes: CameUp,
     xml: CameUp,
+    draws: CameUp,
     path_sorts: PathSorts,
     selections: Selections,
     small_trees: SmallTrees,
@@ -85,7 +91,7 @@ fn main() {
         }
     }
     println!(
-        "compare: seed {seed}; all that is small, then random questions, texts and trees on each processor for {seconds} s"
+        "compare: seed {seed}; all that is small, then random questions, texts, trees and draws on each processor for {seconds} s"
     );
     let start = Instant::now();
     shares::compared(seconds, seed).report(start.elapsed());
@@ -110,6 +116,7 @@ impl Comparison {
             shuffles: CameUp::new(&SHUFFLES),
             passes: CameUp::new(&PASSES),
             xml: CameUp::new(&XML),
+            draws: CameUp::new(&DRAWS),
             path_sorts: PathSorts::default(),
             selections: Selections::default(),
             small_trees: SmallTrees::default(),
@@ -182,9 +189,11 @@ impl Comparison {
             .chain([8, 9, 10, 11, 15, 17].map(|question| format!("xml write, refused {question}")))
             .chain([16, 17].map(|question| format!("xml read, refused {question}")))
             .chain(["tree", "none", "spent", "met", "paths written"].map(String::from))
-            .chain(["xml write, written", "xml read, written"].map(String::from));
+            .chain([18, 19, 20].map(|question| format!("draw refused {question}")))
+            .chain(["xml write, written", "xml read, written", "draw granted"].map(String::from));
         let not_seen = must_be_seen.into_iter().find(|verdict| !self.seen.contains_key(verdict));
-        let came_up = [&self.brothers, &self.document, &self.capitals, &self.shuffles, &self.passes, &self.xml];
+        let came_up =
+            [&self.brothers, &self.document, &self.capitals, &self.shuffles, &self.passes, &self.xml, &self.draws];
         let not_seen = not_seen.or_else(|| came_up.into_iter().find_map(CameUp::missing));
         if let Some(sort) = not_seen.or_else(|| self.path_sort_not_seen()) {
             println!("compare: '{sort}' never came up; a longer run is needed");
@@ -201,6 +210,7 @@ impl Comparison {
         println!("compare: shuffled papers: {}", self.shuffles);
         println!("compare: one pass: {}", self.passes);
         println!("compare: trees as XML: {}", self.xml);
+        println!("compare: draws by centres: {}", self.draws);
         let Selections { trees, nones, tree_by_tree } = self.selections;
         println!(
             "compare: paths against definition 2.3: variable 0 selected in {trees} trees found; {nones} times none, and no tree of up to \

@@ -42,7 +42,7 @@ struct Drawn {
 impl Comparison {
     /// One random question and all that is asked about it.
     pub fn round(&mut self) {
-        let Drawn { sort, constraints, tree, assignment } = self.draw();
+        let Drawn { sort, constraints, tree, assignment } = self.random_question();
         let allowance = self.affordable(number_of_variables(&constraints));
         let file = constraint::write(&constraints);
         let verdict = self.solve(sort, &file, LEAST_BUFFER, allowance);
@@ -67,7 +67,7 @@ impl Comparison {
     }
 
     /// A question, and the tree and assignment that it may have been drawn for.
-    fn draw(&mut self) -> Drawn {
+    fn random_question(&mut self) -> Drawn {
         let variables = 1 + self.random.below(16);
         let records = match self.random.below(10) {
             0 => self.random.below(257),

@@ -9,7 +9,7 @@ use std::thread;
 use std::time::{Duration, Instant};
 
 /// What is compared whatever the seed, what takes longest first.
-const PARTS: [fn(&mut Comparison); 13] = [
+const PARTS: [fn(&mut Comparison); 14] = [
     Comparison::all_small_questions,
     Comparison::all_small_shuffles,
     Comparison::all_small_capitals,
@@ -18,6 +18,7 @@ const PARTS: [fn(&mut Comparison); 13] = [
     Comparison::all_small_documents,
     Comparison::all_small_texts_as_trees,
     Comparison::all_small_trees_as_xml,
+    Comparison::all_small_draws,
     Comparison::all_small_passes,
     Comparison::all_small_answers,
     Comparison::xml_limits,
@@ -28,7 +29,7 @@ const PARTS: [fn(&mut Comparison); 13] = [
 /// As deep as on the main thread.
 const STACK_BYTES: usize = 8 << 20;
 
-/// All parts once; then random questions, texts of paths and trees as XML on each processor for so many seconds.
+/// All parts once; then random questions, texts of paths, trees as XML and draws by centres on each processor for so many seconds.
 pub fn compared(seconds: u64, seed: u64) -> Comparison {
     all_ordered_trees();
     let next_part = AtomicUsize::new(0);
@@ -58,6 +59,7 @@ impl Comparison {
             self.path_round();
             // They are short.
             (0..8).for_each(|_| self.xml_round());
+            (0..4).for_each(|_| self.draw_round());
         }
         self
     }
@@ -76,6 +78,7 @@ impl Comparison {
         self.shuffles.add(other.shuffles);
         self.passes.add(other.passes);
         self.xml.add(other.xml);
+        self.draws.add(other.draws);
         add(&mut self.path_sorts, other.path_sorts);
         self.selections.trees += other.selections.trees;
         self.selections.nones += other.selections.nones;

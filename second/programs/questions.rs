@@ -27,6 +27,8 @@ impl Trial {
         let file = &question.file;
         match &question.expected {
             Expected::Marker { answer, verdict } => self.mark(name, file, answer, verdict),
+            // No program draws.
+            Expected::Draw { .. } => {}
             // The programs' own buffers are long enough.
             Expected::Paths { buffer, .. } if *buffer < LEAST_RECORDS_BUFFER => {
                 self.paths(name, file, &second::paths(file, LEAST_RECORDS_BUFFER));

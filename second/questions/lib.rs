@@ -1,6 +1,7 @@
 //! Seeded questions for the comparison and for the stored corpus.
 
 pub mod capitals;
+pub mod centres;
 pub mod document;
 pub mod paths;
 pub mod shuffle;

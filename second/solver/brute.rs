@@ -84,7 +84,7 @@ pub fn trees(nodes: usize, labels: &[u8]) -> Vec<Tree> {
 }
 
 /// Every row of this many letters.
-pub fn words(letters: &[u8], length: usize) -> Vec<Vec<u8>> {
+pub fn words<T: Copy>(letters: &[T], length: usize) -> Vec<Vec<T>> {
     (0..length).fold(vec![Vec::new()], |words, _| {
         words.iter().flat_map(|word| letters.iter().map(|&letter| [word.as_slice(), &[letter]].concat())).collect()
     })

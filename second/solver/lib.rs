@@ -1,9 +1,10 @@
-//! A second solver, marker, reader of paths, and writer and reader of XML, written from documents 01 and 02 and the source papers and from
-//! nothing else, to be held against the proved ones.
+//! A second solver, marker, reader of paths, writer and reader of XML, and draw by centres, written from documents 01 and 02 and the source
+//! papers and from nothing else, to be held against the proved ones.
 //! Facts are kept in sets and closed by repeating the rules; nothing here is clever, so that each line can be read beside its sentence.
 
 pub mod answer;
 pub mod brute;
+pub mod centres;
 pub mod closure;
 pub mod constraint;
 pub mod label;
@@ -17,10 +18,11 @@ pub mod tree;
 pub mod verdict;
 pub mod xml;
 
+use centres::Centre;
 use search::{Outcome, Trace};
-use verdict::{FillVerdict, MarkerVerdict, SolverVerdict};
+use verdict::{DrawVerdict, FillVerdict, MarkerVerdict, SolverVerdict};
 
-/// The number of the question that a file or buffer fails.
+/// The number of the question that a file, buffer or draw fails.
 #[derive(Clone, Copy, PartialEq, Eq, Debug)]
 pub struct Refusal(pub u8);
 
@@ -112,5 +114,13 @@ pub fn xml_read(text: &[u8], buffer_length: usize) -> FillVerdict {
     match xml::read(text) {
         Some(tree) => FillVerdict::Written(answer::write_nodes(&tree)),
         None => FillVerdict::Refused(Refusal(16)),
+    }
+}
+
+/// Question 18, then 19, then 20.
+pub fn draw(centres: &[Centre], total: u32, centre: usize, amount: u32) -> DrawVerdict {
+    match centres::draw(centres, total, centre, amount) {
+        Ok(after) => DrawVerdict::Granted(after),
+        Err(refusal) => DrawVerdict::Refused(refusal),
     }
 }

@@ -1,5 +1,6 @@
-//! What the solver, the marker and the parts that fill a lent buffer answer, and the words for it in the stored files and the examples.
+//! What the solver, the marker, the parts that fill a lent buffer and a draw answer, and the words for it in the stored files and the examples.
 
+use crate::centres::Centre;
 use crate::constraint::KIND_NAMES;
 use crate::Refusal;
 use std::fmt;
@@ -23,6 +24,13 @@ pub enum MarkerVerdict {
 #[derive(Clone, PartialEq, Eq, Debug)]
 pub enum FillVerdict {
     Written(Vec<u8>),
+    Refused(Refusal),
+}
+
+/// Of a draw: the list after it; a refused one leaves the list as it was.
+#[derive(Clone, PartialEq, Eq, Debug)]
+pub enum DrawVerdict {
+    Granted(Vec<Centre>),
     Refused(Refusal),
 }
 
@@ -56,6 +64,26 @@ impl fmt::Display for FillVerdict {
             FillVerdict::Refused(Refusal(question)) => write!(f, "refused {question}"),
         }
     }
+}
+
+impl fmt::Display for DrawVerdict {
+    fn fmt(&self, f: &mut fmt::Formatter) -> fmt::Result {
+        match self {
+            DrawVerdict::Granted(after) => write!(f, "granted {}", list(after)),
+            DrawVerdict::Refused(Refusal(question)) => write!(f, "refused {question}"),
+        }
+    }
+}
+
+/// Guarantee, cap and amount drawn of each centre; an empty list is written as a dash, and of a long one the front.
+pub fn list(centres: &[Centre]) -> String {
+    if centres.is_empty() {
+        return "-".to_string();
+    }
+    let (front, rest) = centres.split_at(centres.len().min(20));
+    let record = |&Centre { guarantee, cap, drawn }: &Centre| format!("({guarantee} {cap} {drawn})");
+    let more = (!rest.is_empty()).then(|| format!("and {} more", rest.len()));
+    front.iter().map(record).chain(more).collect::<Vec<_>>().join(" ")
 }
 
 /// Reads what `Display` writes.

@@ -19,7 +19,12 @@
 //!                             written, then its text as xml or its nodes
 //!     then none 0             what is given to what was written, a question of its own: by the solver to records, by the reader of XML to a
 //!                             text, by its writer to nodes
+//!     total 10                a session total; the records of its centres follow
+//!     centre 2 6 0            guarantee, cap, drawn; the centres are numbered from 0
+//!     draw 0 5                centre, amount: a draw from the list as the draws before it in the question leave it
+//!     gives granted           then what each centre has drawn after it, as drawn 5 0 3; or refused 19, which leaves the list as it was
 
+use crate::session::Session;
 use crate::{Expected, Question};
 use second::constraint::KIND_NAMES;
 use second::verdict::{parse_fill, parse_marker, parse_solver, FillVerdict, SolverVerdict};
@@ -47,6 +52,7 @@ struct Draft {
     answer: Option<Vec<u8>>,
     gives: Option<Gives>,
     then: Option<Gives>,
+    session: Session,
 }
 
 impl Draft {
@@ -60,6 +66,7 @@ impl Draft {
             answer: None,
             gives: None,
             then: None,
+            session: Session::default(),
         }
     }
 }
@@ -88,6 +95,7 @@ pub fn questions(text: &str) -> Result<Vec<Question>, String> {
 fn read_line(draft: &mut Draft, words: &[&str]) -> Option<()> {
     let verdict_in = |words: &[&str]| Some((words.iter().map(|word| word.to_string()).collect(), Vec::new()));
     match words {
+        _ if draft.session.read_line(words).is_some() => {}
         ["buffer", length] => draft.buffer = Some(length.parse().ok()?),
         ["allowance", allowance] => draft.allowance = allowance.parse().ok()?,
         ["answer"] => draft.answer = Some(Vec::new()),
@@ -152,6 +160,9 @@ fn label_of(word: &str) -> Option<u8> {
 
 /// The question and, where the draft says what is given then, that one too.
 fn finish(draft: &Draft) -> Option<Vec<Question>> {
+    if draft.session.has_draws() {
+        return draft.session.questions(&draft.name);
+    }
     let gives = draft.gives.as_ref()?;
     let lent = |least: usize| draft.buffer.unwrap_or(least);
     let first = match (&draft.answer, draft.asked) {

@@ -1,13 +1,15 @@
 //! Questions with a written result: the stored ones, which the second solver made, and the examples, which were worked out by hand.
 
 mod example;
+mod session;
 
 pub use example::questions as examples;
-use second::verdict::{parse_marker, parse_solver, unhex, FillVerdict, MarkerVerdict, SolverVerdict};
+use second::centres::Centre;
+use second::verdict::{parse_marker, parse_solver, unhex, DrawVerdict, FillVerdict, MarkerVerdict, SolverVerdict};
 
 pub struct Question {
     pub name: String,
-    /// The constraint file, the text of paths, the node records or the text of XML.
+    /// The constraint file, the text of paths, the node records or the text of XML; a draw has none.
     pub file: Vec<u8>,
     pub expected: Expected,
 }
@@ -18,6 +20,7 @@ pub enum Expected {
     Paths { buffer: usize, verdict: FillVerdict },
     XmlWriter { buffer: usize, verdict: FillVerdict },
     XmlReader { buffer: usize, verdict: FillVerdict },
+    Draw { centres: Vec<Centre>, total: u32, centre: usize, amount: u32, verdict: DrawVerdict },
 }
 
 /// One question a line: its name, `solve`, constraints, buffer, allowance, verdict; or its name, `mark`, constraints, answer, verdict.
