@@ -1,8 +1,8 @@
--- `merge::to_family` meets its contract: what its helpers ensure.
+-- `siblings::to_family` meets its contract: what its helpers ensure.
 use mathlib.Core.Path.{refl}
 use borrow.Author.Needs.{needs}
-use Rattle.merge.proofs.to_family.Statement.{statement}
-use Rattle.merge.proofs.to_family.Tie as tie
+use Rattle.siblings.proofs.to_family.Statement.{statement}
+use Rattle.siblings.proofs.to_family.Tie as tie
 
 family-requires : tie.Need-family-requires
 family-requires c κs = search needs

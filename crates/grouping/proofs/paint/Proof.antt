@@ -1,10 +1,10 @@
--- `merge::paint` meets its contract: with no label nothing changes; else the rows named are painted but for those that are left.
+-- `grouping::paint` meets its contract: with no label nothing changes; else the rows named are painted but for those that are left.
 use Prim.Native.Nat.{_<_}
 use Rattle.tables.proofs.Members.{passed-less, next-in}
-use Rattle.merge.proofs.Loops.{Painting, painting-none, painting-more, was-painted, none-painted}
+use Rattle.grouping.proofs.Loops.{Painting, painting-none, painting-more, was-painted, none-painted}
 use borrow.Author.Needs.{needs}
-use Rattle.merge.proofs.paint.Statement.{statement}
-use Rattle.merge.proofs.paint.Tie as tie
+use Rattle.grouping.proofs.paint.Statement.{statement}
+use Rattle.grouping.proofs.paint.Tie as tie
 
 abbrev Inv-loop : tie.InvT-loop
 Inv-loop rows l a₀ rest₀ a rest = Painting a₀ rows l a rest

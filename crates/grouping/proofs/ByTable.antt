@@ -16,9 +16,9 @@ use Rattle.tables.specs.Rows.{gained, meets, Union, LabelOf}
 use Rattle.tables.proofs.Bits.{in-both, both-in, gained-up, gained-has, gained-case, meets-in, meets-out}
 use Rattle.tables.proofs.Groups.{Twin, One, Two, own, pair}
 use Rattle.tables.proofs.Wider.{Wide}
-use Rattle.merge.specs.Rows.{In, Painted, Spread}
+use Rattle.grouping.specs.Rows.{In, Painted, Spread}
 use Rattle.meaning.specs.Closed.{Sharing}
-use Rattle.merge.proofs.Glue.{Cut, mid-twin, twin-cases}
+use Rattle.grouping.proofs.Glue.{Cut, mid-twin, twin-cases}
 
 pub columns-spread : (t r : List ℕ) (group along across : ℕ) (t' r' : List ℕ) → Columns t r → Spread t group along across t' → Spread r group across along r' → Columns t' r'
 columns-spread t r group along across t' r' c h k x y lx ly =

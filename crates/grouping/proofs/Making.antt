@@ -27,14 +27,14 @@ use Rattle.tables.proofs.Groups.{Twin, alone, shared-least, sharing-same}
 use Rattle.tables.proofs.Labels.{label-has, label-is}
 use Rattle.tables.proofs.Rises.{rises, raised-out, raised-in, raised-keeps, raised-has, columns-raised}
 use Rattle.tables.proofs.Wider.{Wide}
-use Rattle.merge.specs.declared.Round.{Round}
-use Rattle.merge.specs.Rows.{In, Gap, Painted}
-use Rattle.merge.specs.Merging.{held, waits, Held, Standing, Pending, Through, Grouped, withSiblings, SharesBefore, lacking, UnifiedOf}
-use Rattle.merge.proofs.Glue.{Cut, Glued, Over, Earlier, Later, glued-sharing, glued-apart, glued-bare, glued-siblings, arrived, glued-parent}
-use Rattle.merge.proofs.Reach.{Reach, within, ends, cut, glue}
-use Rattle.merge.proofs.Masks.{reach, union-columns, columns-union}
-use Rattle.merge.proofs.Loops.{RaisedTwice, was-spread}
-use Rattle.merge.proofs.ByTable.{columns-spread, Shares, two-out, two-in, two-over, two-under, one-out, one-in, label-out, label-in}
+use Rattle.grouping.specs.declared.Round.{Round}
+use Rattle.grouping.specs.Rows.{In, Gap, Painted}
+use Rattle.grouping.specs.Grouping.{held, waits, Held, Standing, Pending, Through, Grouped, withSiblings, SharesBefore, lacking, UnifiedOf}
+use Rattle.grouping.proofs.Glue.{Cut, Glued, Over, Earlier, Later, glued-sharing, glued-apart, glued-bare, glued-siblings, arrived, glued-parent}
+use Rattle.grouping.proofs.Reach.{Reach, within, ends, cut, glue}
+use Rattle.grouping.proofs.Masks.{reach, union-columns, columns-union}
+use Rattle.grouping.proofs.Loops.{RaisedTwice, was-spread}
+use Rattle.grouping.proofs.ByTable.{columns-spread, Shares, two-out, two-in, two-over, two-under, one-out, one-in, label-out, label-in}
 
 -- g is f with u glued over w, where the group m has no clash: its parents, its children, what differs from it, and its label are
 -- given to all of it, and it to all of them; before is as it was

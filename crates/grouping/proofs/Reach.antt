@@ -8,7 +8,7 @@ use Rattle.meaning.specs.Constraint.{Fact, below, leaf}
 use Rattle.meaning.specs.Settled.{Settled, chain, leaf-below}
 use Rattle.meaning.specs.Closed.{Within, Inside, Sharing}
 use Rattle.meaning.proofs.Least.{settled-within}
-use Rattle.merge.proofs.Glue.{Cut}
+use Rattle.grouping.proofs.Glue.{Cut}
 
 module _ (P : Fact → Type 0) (X : Var → Type 0) where
   -- x is at or above X, at or below X

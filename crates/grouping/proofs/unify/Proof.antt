@@ -1,4 +1,4 @@
--- `merge::unify` meets its contract: what its helpers ensure is what has to be made (proofs/Making.antt).
+-- `grouping::unify` meets its contract: what its helpers ensure is what has to be made (proofs/Making.antt).
 use Prim.Native.Nat.{_<_}
 use mathlib.Core.Path.{_≡_, refl, sym, _∙_}
 use mir.Val.{Fits}
@@ -6,10 +6,10 @@ use mir.Syntax.{w16}
 use lib.Bits.{bitOr, bitAnd}
 use Rattle.meaning.proofs.Tests.{not-yes}
 use Rattle.tables.specs.Rows.{onDocument}
-use Rattle.merge.proofs.Making.{unify-differs, unify-labels, unify-document, unify-well}
+use Rattle.grouping.proofs.Making.{unify-differs, unify-labels, unify-document, unify-well}
 use borrow.Author.Needs.{needs}
-use Rattle.merge.proofs.unify.Statement.{statement}
-use Rattle.merge.proofs.unify.Tie as tie
+use Rattle.grouping.proofs.unify.Statement.{statement}
+use Rattle.grouping.proofs.unify.Tie as tie
 
 x-small : (c : tie.Start) → c .args .x < 65536
 x-small c = let h : Fits w16 (c .args .x) = search needs in h .fits

@@ -21,10 +21,12 @@ use Rattle.tables.proofs.Bits.{none-in, in-row, or-l, or-r}
 use Rattle.tables.proofs.Groups.{sharing-same, siblings-same}
 use Rattle.tables.proofs.Rises.{rises, raised-out, raised-in, columns-raised}
 use Rattle.tables.proofs.Wider.{Opening, Wider, wide-same, wide-sharing}
-use Rattle.merge.specs.Rows.{In, Kin, own, to-later, to-earlier}
-use Rattle.merge.specs.Merging.{Awaits, held, waits, Held, Pending, Through, Grouped, GivenToFamily}
-use Rattle.merge.proofs.Masks.{union-columns, columns-union}
-use Rattle.merge.proofs.Added.{Across, Added, Adding, added-sharing, added-siblings, added-parents}
+use Rattle.grouping.specs.Rows.{In}
+use Rattle.siblings.specs.Rows.{Kin, own, to-later, to-earlier}
+use Rattle.grouping.specs.Grouping.{Awaits, held, waits, Held, Pending, Through, Grouped}
+use Rattle.siblings.specs.Passing.{GivenToFamily}
+use Rattle.grouping.proofs.Masks.{union-columns, columns-union}
+use Rattle.siblings.proofs.Added.{Across, Added, Adding, added-sharing, added-siblings, added-parents}
 
 -- what comes next: the tables hold what is settled, and where before meets below neither way only the parents have yet to become the same
 pub record Follows (n : ℕ) (T : List Fact) (parents : ℕ) (g : Facts) : Type 0 where

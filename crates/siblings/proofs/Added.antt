@@ -6,7 +6,7 @@ use Prim.Native.Nat.{ℕ}
 use Rattle.meaning.specs.Tree.{Var}
 use Rattle.meaning.specs.Constraint.{Fact, child, below, differ, before, root, leaf, label}
 use Rattle.meaning.specs.Closed.{Sharing, Siblings}
-use Rattle.merge.specs.Merging.{Through}
+use Rattle.grouping.specs.Grouping.{Through}
 
 -- all of A and all of B, either way round
 abbrev pub Across : (A B : Var → Type 0) → Var → Var → Type 0

@@ -9,7 +9,7 @@ use Rattle.meaning.specs.Closed.{Within, Sharing, Siblings}
 use Rattle.tables.specs.Free.{Bare}
 use Rattle.tables.proofs.Groups.{Twin, Two, Shared, Order, flip, alone, pair, each, via, move-left, move-right, shared-sharing, embed}
 use Rattle.tables.proofs.Wider.{Ends, Wide, Mid, wide-chain, wide-cases}
-use Rattle.merge.specs.Merging.{Awaits, held, waits, Through}
+use Rattle.grouping.specs.Grouping.{Awaits, held, waits, Through}
 
 -- where a set of facts can be glued
 pub record Cut (P : Fact → Type 0) (Up Down : Var → Type 0) : Type 0 where

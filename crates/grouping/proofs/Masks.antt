@@ -16,9 +16,9 @@ use Rattle.tables.specs.Tables.{row, has, Columns}
 use Rattle.tables.specs.declared.Facts.{Facts}
 use Rattle.tables.specs.Rows.{meets, Union}
 use Rattle.tables.proofs.Bits.{or-case, or-l, or-r, none-in, meets-in, meets-out, in-row}
-use Rattle.merge.specs.Rows.{In}
-use Rattle.merge.specs.Merging.{Held, Pending}
-use Rattle.merge.proofs.Reach.{Above, Reach}
+use Rattle.grouping.specs.Rows.{In}
+use Rattle.grouping.specs.Grouping.{Held, Pending}
+use Rattle.grouping.proofs.Reach.{Above, Reach}
 
 in-pick : (t : Bool) (w i : ℕ) → In (pick t w 0) i → Yes t × In w i
 unfolding pick

@@ -1,10 +1,10 @@
--- `merge::two_labels` meets its contract: the rows named have no other label but for those that are left.
+-- `grouping::two_labels` meets its contract: the rows named have no other label but for those that are left.
 use Prim.Native.Nat.{_<_}
 use Rattle.tables.proofs.Members.{Passed, passed-none, passed-more, passed-less, next-in, next-named}
-use Rattle.merge.proofs.Loops.{Only, only-one, is-two, is-one, none-two}
+use Rattle.grouping.proofs.Loops.{Only, only-one, is-two, is-one, none-two}
 use borrow.Author.Needs.{needs}
-use Rattle.merge.proofs.two_labels.Statement.{statement}
-use Rattle.merge.proofs.two_labels.Tie as tie
+use Rattle.grouping.proofs.two_labels.Statement.{statement}
+use Rattle.grouping.proofs.two_labels.Tie as tie
 
 abbrev Inv-loop : tie.InvT-loop
 Inv-loop rows l t rest₀ rest = Passed (Only t l) rows rest

@@ -1,10 +1,10 @@
--- `merge::pass_on` meets its contract: with no sibling all is as it was.
+-- `siblings::pass_on` meets its contract: with no sibling all is as it was.
 use mathlib.Core.Path.{refl}
 use mathlib.Core.Logic.{inl, inr}
 use borrow.Author.Needs.{needs}
-use Rattle.merge.proofs.Loops.{none-spread, none-turned}
-use Rattle.merge.proofs.pass_on.Statement.{statement}
-use Rattle.merge.proofs.pass_on.Tie as tie
+use Rattle.siblings.proofs.Loops.{none-spread, none-turned}
+use Rattle.siblings.proofs.pass_on.Statement.{statement}
+use Rattle.siblings.proofs.pass_on.Tie as tie
 
 union-rows-requires : tie.Need-union-rows-requires
 union-rows-requires c κs = search needs

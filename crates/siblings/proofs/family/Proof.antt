@@ -1,10 +1,10 @@
--- `merge::family` meets its contract: what is there is led to from the group, and grows until it leads to nothing else.
+-- `siblings::family` meets its contract: what is there is led to from the group, and grows until it leads to nothing else.
 use mathlib.Core.Path.{sym, _∙_}
 use Prim.Native.Nat.{_-_}
 use borrow.Author.Needs.{needs}
-use Rattle.merge.proofs.Loops.{Relating, relating-none, relating-more, relating-less, related}
-use Rattle.merge.proofs.family.Statement.{statement}
-use Rattle.merge.proofs.family.Tie as tie
+use Rattle.siblings.proofs.Loops.{Relating, relating-none, relating-more, relating-less, related}
+use Rattle.siblings.proofs.family.Statement.{statement}
+use Rattle.siblings.proofs.family.Tie as tie
 
 abbrev Inv-loop : tie.InvT-loop
 Inv-loop before after group all₀ all = Relating before after group all

@@ -1,8 +1,8 @@
--- `merge::spread` meets its contract: a table raised twice (proofs/Loops.antt).
+-- `siblings::spread` meets its contract: a table raised twice (proofs/Loops.antt).
 use borrow.Author.Needs.{needs}
-use Rattle.merge.proofs.Loops.{was-spread}
-use Rattle.merge.proofs.spread.Statement.{statement}
-use Rattle.merge.proofs.spread.Tie as tie
+use Rattle.grouping.proofs.Loops.{was-spread}
+use Rattle.siblings.proofs.spread.Statement.{statement}
+use Rattle.siblings.proofs.spread.Tie as tie
 
 raise-requires : tie.Need-raise-requires
 raise-requires c κs = search needs
