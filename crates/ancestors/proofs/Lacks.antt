@@ -11,7 +11,7 @@ use Rattle.tables.specs.Tables.{row}
 use Rattle.tables.specs.Rows.{Lowest, without}
 use Rattle.tables.proofs.Bits.{or-case, or-l, or-r, none-in, in-row, without-in, without-out}
 use Rattle.tables.proofs.Members.{Passed, passed-none, next-named, passed-more, passed-all}
-use Rattle.joins.specs.Found.{Missing}
+use Rattle.ancestors.specs.Rows.{Missing}
 
 -- what of the row is missing in row i has been gathered
 abbrev pub Gathered : List ℕ → ℕ → ℕ → ℕ → Type 0

@@ -1,4 +1,4 @@
--- `joins::chain_join` meets its contract: the loop has passed no z with a chain join.
+-- `chains::chain_join` meets its contract: the loop has passed no z with a chain join.
 use mathlib.Core.Path.{sym, _∙_}
 use mathlib.Core.Logic.{⊎-elim}
 use Prim.Native.Nat.{_≤_, _-_}
@@ -9,10 +9,11 @@ use mir.Syntax.{w16}
 use borrow.Author.Needs.{needs}
 use Rattle.meaning.specs.FixedSearch.{chain-join}
 use Rattle.tables.specs.declared.Facts.{Facts}
-use Rattle.joins.specs.Found.{joinOf, withBelow}
-use Rattle.joins.proofs.First.{NoneBefore, none-more, none-first, none-loose, none-apart, chain-first}
-use Rattle.joins.proofs.chain_join.Statement.{statement}
-use Rattle.joins.proofs.chain_join.Tie as tie
+use Rattle.stages.specs.Found.{joinOf, withBelow}
+use Rattle.stages.proofs.Stage.{NoneBefore, none-more, none-first}
+use Rattle.chains.proofs.First.{none-loose, none-apart, chain-first}
+use Rattle.chains.proofs.chain_join.Statement.{statement}
+use Rattle.chains.proofs.chain_join.Tie as tie
 
 abbrev Inv-loop : tie.InvT-loop
 Inv-loop n below above vars incomparable loose z₀ z = (z ≤ n) × ((f : Facts) → NoneBefore chain-join n (withBelow below above f) z)

@@ -1,4 +1,4 @@
--- `joins::document_join` meets its contract: the lowest root, its lowest child and the lowest variable left are the first join's.
+-- `ancestors::document_join` meets its contract: the lowest root, its lowest child and the lowest variable left are the first join's.
 use mathlib.Core.Path.{subst}
 use Prim.Native.Nat.{ℕ}
 use native.Mathlib.Nat.{le-refl}
@@ -8,11 +8,12 @@ use Rattle.meaning.specs.FixedSearch.{document-join}
 use Rattle.tables.specs.Tables.{row}
 use Rattle.tables.specs.Rows.{Lowest, without}
 use Rattle.tables.specs.declared.Facts.{Facts}
-use Rattle.joins.specs.Found.{joinOf, withBelow, withDocument}
-use Rattle.joins.proofs.First.{none-first}
-use Rattle.joins.proofs.Document.{none-without-root, none-without-child, none-left, document-first}
-use Rattle.joins.proofs.document_join.Statement.{statement}
-use Rattle.joins.proofs.document_join.Tie as tie
+use Rattle.stages.specs.Found.{joinOf, withBelow}
+use Rattle.ancestors.specs.Rows.{withDocument}
+use Rattle.stages.proofs.Stage.{none-first}
+use Rattle.ancestors.proofs.Document.{none-without-root, none-without-child, none-left, document-first}
+use Rattle.ancestors.proofs.document_join.Statement.{statement}
+use Rattle.ancestors.proofs.document_join.Tie as tie
 
 all-requires : tie.Need-all-requires
 all-requires c κs = search needs

@@ -1,11 +1,11 @@
--- `joins::missing` meets its contract: at every turn it holds what is missing in the rows that were passed.
+-- `ancestors::missing` meets its contract: at every turn it holds what is missing in the rows that were passed.
 use Prim.Native.Nat.{_<_}
 use native.Mathlib.Omega.{arith}
 use Rattle.tables.proofs.Members.{next-in, passed-less}
-use Rattle.joins.proofs.Lacks.{Lacks, lacks-none, lacks-more, lacks-all}
+use Rattle.ancestors.proofs.Lacks.{Lacks, lacks-none, lacks-more, lacks-all}
 use borrow.Author.Needs.{needs}
-use Rattle.joins.proofs.missing.Statement.{statement}
-use Rattle.joins.proofs.missing.Tie as tie
+use Rattle.ancestors.proofs.missing.Statement.{statement}
+use Rattle.ancestors.proofs.missing.Tie as tie
 
 abbrev Inv-loop : tie.InvT-loop
 Inv-loop rows of t a₀ left₀ a left = Lacks t rows of a left

@@ -1,4 +1,4 @@
--- `joins::parent_join` meets its contract: the loop has passed no z with a parent join.
+-- `chains::parent_join` meets its contract: the loop has passed no z with a parent join.
 use mathlib.Core.Path.{subst}
 use mathlib.Core.Logic.{⊎-elim}
 use Prim.Native.Nat.{ℕ, _≤_, _-_}
@@ -7,10 +7,12 @@ use borrow.Author.Needs.{needs}
 use Rattle.meaning.specs.FixedSearch.{parent-join}
 use Rattle.tables.specs.Rows.{Lowest}
 use Rattle.tables.specs.declared.Facts.{Facts}
-use Rattle.joins.specs.Found.{joinOf, withBelow, withParent}
-use Rattle.joins.proofs.First.{NoneBefore, none-more, none-first, none-without-parent, none-without-x, parent-first}
-use Rattle.joins.proofs.parent_join.Statement.{statement}
-use Rattle.joins.proofs.parent_join.Tie as tie
+use Rattle.stages.specs.Found.{joinOf, withBelow}
+use Rattle.chains.specs.Rows.{withParent}
+use Rattle.stages.proofs.Stage.{NoneBefore, none-more, none-first}
+use Rattle.chains.proofs.First.{none-without-parent, none-without-x, parent-first}
+use Rattle.chains.proofs.parent_join.Statement.{statement}
+use Rattle.chains.proofs.parent_join.Tie as tie
 
 abbrev Inv-loop : tie.InvT-loop
 Inv-loop n parent below above vars z₀ z =

@@ -1,10 +1,10 @@
 -- A join is read from the rows of z, x and y. With the parents of z all the same, any of them, y, tells whether x makes a parent join; of
 -- two variables that are incomparable the smaller is found first, so it is the x of a chain join.
-use mathlib.Core.Path.{_≡_, refl, sym, _∙_, subst}
+use mathlib.Core.Path.{_≡_, sym, _∙_, subst}
 use mathlib.Core.Logic.{⊎-elim}
 use mathlib.Core.List.{List}
 use mathlib.Core.Option.{some}
-use Prim.Native.Nat.{ℕ, _+_, _-_, _^_, _<_, _≤_}
+use Prim.Native.Nat.{ℕ, _-_, _^_, _<_, _≤_}
 use native.Mathlib.Nat.{le-trans, le-of-lt}
 use native.Mathlib.Decide.{decLt, ℕ-discrete}
 use native.Mathlib.Omega.{arith}
@@ -14,61 +14,26 @@ use Rattle.meaning.specs.Constraint.{Fact, child, below}
 use Rattle.meaning.specs.Settled.{self-below, chain, one-parent}
 use Rattle.meaning.specs.Finite.{Yes}
 use Rattle.meaning.specs.ReadOff.{FactSet, same}
-use Rattle.meaning.specs.FixedSearch.{JoinKind, parent-join, chain-join, join}
+use Rattle.meaning.specs.FixedSearch.{parent-join, chain-join, join}
 use Rattle.meaning.proofs.Tests.{clash, and-left, and-right, and-both, no-neg, is-lt, lt-yes}
 use Rattle.theory.specs.Search.{isJoin, firstOf}
 use Rattle.rowbits.specs.Bit.{bit}
 use Rattle.tables.specs.Tables.{row, has, Ready}
 use Rattle.tables.specs.Rows.{Gathers, Lowest, meets, without}
 use Rattle.tables.specs.declared.Facts.{Facts}
-use Rattle.tables.proofs.Bits.{none-in, in-both, both-in, or-l, or-r, or-case, all-is, all-has, without-in, without-out, flip-has, flip-not, meets-in, meets-out}
-use Rattle.tables.proofs.Loops.{below-cases}
-use Rattle.joins.specs.Found.{joinOf, Incomparable, StageOf}
-use Rattle.joins.specs.declared.Found.the-variants.{Nothing}
-use Rattle.joins.proofs.Find.{firstOf-is-none, firstOf-is-some}
-
--- no join at a z that was passed
-abbrev pub NoneBefore : JoinKind → ℕ → Facts → ℕ → Type 0
-NoneBefore j n f z = (S : List Fact) → Ready n S f → (k x y : Var) → k < z → x < n → y < n → ¬ Yes (isJoin (has f) j k x y)
-
-pub none-more : (j : JoinKind) (n : ℕ) (f : Facts) (z : ℕ) → NoneBefore j n f z
-    → ((S : List Fact) → Ready n S f → (x y : Var) → x < n → y < n → ¬ Yes (isJoin (has f) j z x y)) → NoneBefore j n f (z + 1)
-none-more j n f z before at S r k x y l hx hy =
-    ⊎-elim (λ e. subst (λ (i : ℕ). ¬ Yes (isJoin (has f) j i x y)) (sym e) (at S r x y hx hy)) (λ m. before S r k x y m hx hy) (below-cases l)
-
-pub none-first : (j : JoinKind) (n : ℕ) (f : Facts) (z : ℕ) → n ≤ z → NoneBefore j n f z → StageOf j n f Nothing
-unfolding joinOf
-none-first j n f z l before S r = sym (firstOf-is-none n (isJoin (has f) j) (join j) (λ k x y hk. before S r k x y (le-trans hk l)))
-
--- the variables, and the members of a row that are variables
-pub var-in : (vars n i : ℕ) → vars ≡ 2 ^ n - 1 → i < n → Yes (bit vars i)
-var-in vars n i e h = subst (λ (k : ℕ). Yes (bit k i)) (sym e) (all-has n i h)
-
-pub var-out : (vars n i : ℕ) → vars ≡ 2 ^ n - 1 → Yes (bit vars i) → i < n
-var-out vars n i e u = all-is n i (subst (λ (k : ℕ). Yes (bit k i)) e u)
-
-pub vars-in : (a vars n i : ℕ) → vars ≡ 2 ^ n - 1 → i < n → Yes (bit a i) → Yes (bit (bitAnd a vars) i)
-vars-in a vars n i e h u = both-in a vars i u (var-in vars n i e h)
-
-pub vars-out : (a vars n i : ℕ) → vars ≡ 2 ^ n - 1 → Yes (bit (bitAnd a vars) i) → Yes (bit a i) × (i < n)
-vars-out a vars n i e u = let q = in-both a vars i u in (q .0, var-out vars n i e (q .1))
+use Rattle.tables.proofs.Bits.{none-in, in-both, both-in, or-l, or-r, or-case, without-in, without-out, flip-has, flip-not, meets-in, meets-out}
+use Rattle.stages.proofs.Find.{firstOf-is-some}
+use Rattle.stages.proofs.Stage.{NoneBefore, var-in, vars-in, vars-out, above-is, below-is}
+use Rattle.chains.specs.Rows.{Incomparable}
 
 module _ (n : ℕ) (small : n ≤ 16) (S : List Fact) (f : Facts) (r : Ready n S f) where
   abbrev h : FactSet
   h = has f
 
-  -- the mirrors say what the tables say
-  pub above-is : (x z : Var) → x < n → z < n → bit (row (f .above) z) x ≡ h (below x z)
-  unfolding has
-  above-is x z hx hz = r .mirrored .ancestors x z (le-trans hx small) (le-trans hz small)
-
+  -- the mirror says what the table says
   parent-is : (y z : Var) → y < n → z < n → bit (row (f .parent) z) y ≡ h (child y z)
   unfolding has
   parent-is y z hy hz = r .mirrored .parents y z (le-trans hy small) (le-trans hz small)
-
-  pub below-is : (x y : Var) → bit (row (f .below) x) y ≡ h (below x y)
-  unfolding has
-  below-is x y = refl
 
   -- what is above one parent is above every other
   any-parent : (x y z k : Var) → Yes (h (child y z)) → Yes (h (child k z)) → Yes (h (below x y)) → Yes (h (below x k))
@@ -87,16 +52,16 @@ module _ (n : ℕ) (small : n ≤ 16) (S : List Fact) (f : Facts) (r : Ready n S
     unfolding isJoin same
     parent-parts u = record {
       parent = and-left _ u;
-      above = above-is x z hx hz ∙ and-left _ (and-right _ u);
-      not-below = λ t. clash (and-both (and-left _ (and-right (h (child y z)) u)) (sym (below-is z x) ∙ t)) (and-left _ (and-right _ (and-right _ u)));
+      above = above-is n small S f r x z hx hz ∙ and-left _ (and-right _ u);
+      not-below = λ t. clash (and-both (and-left _ (and-right (h (child y z)) u)) (sym (below-is n small S f r z x) ∙ t)) (and-left _ (and-right _ (and-right _ u)));
       not-above = λ t. clash t (and-right _ (and-right _ (and-right _ u)));
     }
 
     parts-parent : ParentParts → Yes (isJoin h parent-join z x y)
     unfolding isJoin same
     parts-parent p =
-        and-both (p .parent) (and-both (sym (above-is x z hx hz) ∙ p .above)
-        (and-both (no-neg (λ s. p .not-below (below-is z x ∙ and-right _ s))) (no-neg (p .not-above))))
+        and-both (p .parent) (and-both (sym (above-is n small S f r x z hx hz) ∙ p .above)
+        (and-both (no-neg (λ s. p .not-below (below-is n small S f r z x ∙ and-right _ s))) (no-neg (p .not-above))))
 
     -- ---- a chain join
 
@@ -111,24 +76,24 @@ module _ (n : ℕ) (small : n ≤ 16) (S : List Fact) (f : Facts) (r : Ready n S
     chain-parts u =
         let v = and-right _ u in record {
           ordered = is-lt (and-left _ u);
-          above-x = above-is x z hx hz ∙ and-left _ v;
-          above-y = above-is y z hy hz ∙ and-left _ (and-right _ v);
-          incomparable = λ t. ⊎-elim (λ b. clash (sym (below-is x y) ∙ b) (and-left _ (and-right _ (and-right _ v))))
-              (λ a. clash (sym (above-is y x hy hx) ∙ a) (and-right _ (and-right _ (and-right _ v)))) (or-case _ _ y t);
+          above-x = above-is n small S f r x z hx hz ∙ and-left _ v;
+          above-y = above-is n small S f r y z hy hz ∙ and-left _ (and-right _ v);
+          incomparable = λ t. ⊎-elim (λ b. clash (sym (below-is n small S f r x y) ∙ b) (and-left _ (and-right _ (and-right _ v))))
+              (λ a. clash (sym (above-is n small S f r y x hy hx) ∙ a) (and-right _ (and-right _ (and-right _ v)))) (or-case _ _ y t);
         }
 
     parts-chain : ChainParts → Yes (isJoin h chain-join z x y)
     unfolding isJoin
     parts-chain p =
-        and-both (lt-yes (p .ordered)) (and-both (sym (above-is x z hx hz) ∙ p .above-x) (and-both (sym (above-is y z hy hz) ∙ p .above-y)
-        (and-both (no-neg (λ t. p .incomparable (or-l (row (f .below) x) (row (f .above) x) y (below-is x y ∙ t)))) (no-neg (λ t. p .incomparable (or-r (row (f .below) x) (row (f .above) x) y (above-is y x hy hx ∙ t)))))))
+        and-both (lt-yes (p .ordered)) (and-both (sym (above-is n small S f r x z hx hz) ∙ p .above-x) (and-both (sym (above-is n small S f r y z hy hz) ∙ p .above-y)
+        (and-both (no-neg (λ t. p .incomparable (or-l (row (f .below) x) (row (f .above) x) y (below-is n small S f r x y ∙ t)))) (no-neg (λ t. p .incomparable (or-r (row (f .below) x) (row (f .above) x) y (above-is n small S f r y x hy hx ∙ t)))))))
 
     apart-back : ¬ Yes (bit (bitOr (row (f .below) x) (row (f .above) x)) y) → ¬ Yes (bit (bitOr (row (f .below) y) (row (f .above) y)) x)
-    apart-back p t = p (⊎-elim (λ b. or-r (row (f .below) x) (row (f .above) x) y (above-is y x hy hx ∙ sym (below-is y x) ∙ b))
-        (λ a. or-l (row (f .below) x) (row (f .above) x) y (below-is x y ∙ sym (above-is x y hx hy) ∙ a)) (or-case _ _ x t))
+    apart-back p t = p (⊎-elim (λ b. or-r (row (f .below) x) (row (f .above) x) y (above-is n small S f r y x hy hx ∙ sym (below-is n small S f r y x) ∙ b))
+        (λ a. or-l (row (f .below) x) (row (f .above) x) y (below-is n small S f r x y ∙ sym (above-is n small S f r x y hx hy) ∙ a)) (or-case _ _ x t))
 
   self-together : (x : Var) → x < n → Yes (bit (bitOr (row (f .below) x) (row (f .above) x)) x)
-  self-together x hx = or-l (row (f .below) x) (row (f .above) x) x (below-is x x ∙ r .decides .complete (self-below hx))
+  self-together x hx = or-l (row (f .below) x) (row (f .above) x) x (below-is n small S f r x x ∙ r .decides .complete (self-below hx))
 
 -- ---- the parent joins at z
 

@@ -21,10 +21,11 @@ use Rattle.tables.specs.Tables.{row, has, Ready}
 use Rattle.tables.specs.Rows.{Lowest, without, Blank}
 use Rattle.tables.specs.declared.Facts.{Facts}
 use Rattle.tables.proofs.Bits.{or-l, or-r, or-case, without-in, without-out, none-in}
-use Rattle.joins.specs.Found.{joinOf, Missing, StageOf}
-use Rattle.joins.specs.declared.Found.the-variants.{Nothing}
-use Rattle.joins.proofs.Find.{firstOf-is-none, firstOf-is-some}
-use Rattle.joins.proofs.First.{NoneBefore, vars-in, vars-out, above-is, below-is}
+use Rattle.stages.specs.Found.{joinOf, StageOf}
+use Rattle.ancestors.specs.Rows.{Missing}
+use Rattle.stages.specs.declared.Found.the-variants.{Nothing}
+use Rattle.stages.proofs.Find.{firstOf-is-none, firstOf-is-some}
+use Rattle.stages.proofs.Stage.{NoneBefore, vars-in, vars-out, above-is, below-is}
 
 module _ (n : ℕ) (small : n ≤ 16) (S : List Fact) (f : Facts) (r : Ready n S f) where
   after-is : (x y : Var) → x < n → y < n → bit (row (f .after) y) x ≡ has f (before x y)

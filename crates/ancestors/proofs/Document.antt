@@ -21,8 +21,8 @@ use Rattle.tables.specs.Tables.{row, has, Ready}
 use Rattle.tables.specs.Rows.{Lowest, without}
 use Rattle.tables.specs.declared.Facts.{Facts}
 use Rattle.tables.proofs.Bits.{or-l, or-r, or-case, without-in, without-out}
-use Rattle.joins.proofs.Find.{firstOf-is-some}
-use Rattle.joins.proofs.First.{NoneBefore, var-in, var-out, vars-in, vars-out}
+use Rattle.stages.proofs.Find.{firstOf-is-some}
+use Rattle.stages.proofs.Stage.{NoneBefore, var-in, var-out, vars-in, vars-out}
 
 module _ (n : ℕ) (S : List Fact) (f : Facts) (g : Ready n S f) where
   out : (φ : Fact) → Yes (has f φ) → Settled n S φ

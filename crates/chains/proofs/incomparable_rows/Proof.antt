@@ -1,4 +1,4 @@
--- `joins::incomparable_rows` meets its contract: the loop has changed the rows below x.
+-- `chains::incomparable_rows` meets its contract: the loop has changed the rows below x.
 use mathlib.Core.Path.{refl}
 use Prim.Native.Nat.{_≤_, _-_}
 use native.Mathlib.Nat.{le-trans}
@@ -6,8 +6,8 @@ use lib.Bits.{bitOr, bitXor}
 use borrow.Author.Needs.{needs}
 use Rattle.tables.specs.Tables.{row}
 use Rattle.tables.proofs.Loops.{Rowing, rowing-none, rowing-more}
-use Rattle.joins.proofs.incomparable_rows.Statement.{statement}
-use Rattle.joins.proofs.incomparable_rows.Tie as tie
+use Rattle.chains.proofs.incomparable_rows.Statement.{statement}
+use Rattle.chains.proofs.incomparable_rows.Tie as tie
 
 abbrev Inv-loop : tie.InvT-loop
 Inv-loop u a₀ x₀ a x = (x ≤ 16) × Rowing (λ k v. bitXor (bitOr v (row u k)) 65535) 16 a₀ x a

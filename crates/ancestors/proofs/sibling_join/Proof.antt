@@ -1,4 +1,4 @@
--- `joins::sibling_join` meets its contract: the loop has passed no y with a join of siblings.
+-- `ancestors::sibling_join` meets its contract: the loop has passed no y with a join of siblings.
 use mathlib.Core.Path.{subst}
 use mathlib.Core.Logic.{⊎-elim}
 use Prim.Native.Nat.{ℕ, _≤_, _-_}
@@ -7,11 +7,12 @@ use borrow.Author.Needs.{needs}
 use Rattle.meaning.specs.FixedSearch.{sibling-join}
 use Rattle.tables.specs.Rows.{Lowest}
 use Rattle.tables.specs.declared.Facts.{Facts}
-use Rattle.joins.specs.Found.{joinOf, withBelow, withBefore}
-use Rattle.joins.proofs.First.{NoneBefore, none-more, none-first}
-use Rattle.joins.proofs.Siblings.{none-alone, none-missing, sibling-first, none-ordered}
-use Rattle.joins.proofs.sibling_join.Statement.{statement}
-use Rattle.joins.proofs.sibling_join.Tie as tie
+use Rattle.stages.specs.Found.{joinOf, withBelow}
+use Rattle.ancestors.specs.Rows.{withBefore}
+use Rattle.stages.proofs.Stage.{NoneBefore, none-more, none-first}
+use Rattle.ancestors.proofs.Siblings.{none-alone, none-missing, sibling-first, none-ordered}
+use Rattle.ancestors.proofs.sibling_join.Statement.{statement}
+use Rattle.ancestors.proofs.sibling_join.Tie as tie
 
 abbrev Inv-loop : tie.InvT-loop
 Inv-loop n before after below above vars y₀ y =
