@@ -1,15 +1,15 @@
 use mathlib.Core.Path.{ap}
 use mathlib.Core.List.{List}
 use Prim.Native.Nat.{ℕ}
-use Rattle.xpath.specs.Reading.{rootIn}
-use Rattle.xpath.proofs.Small.{rooted-no, rooted-yes}
+use Rattle.sheet.specs.Bytes.{rootIn}
+use Rattle.sheet.proofs.Small.{rooted-no, rooted-yes}
 use borrow.Author.Needs.{needs}
-use Rattle.xpath.proofs.rooted.Statement.{statement}
-use Rattle.xpath.proofs.rooted.Tie as tie
-use Rattle.xpath.proofs.rooted.Reads as reads
-use Rattle.xpath.proofs.rooted.Lts as lts
-use Rattle.xpath.proofs.number.Reads as number-reads
-use Rattle.xpath.proofs.put.Reads as put-reads
+use Rattle.sheet.proofs.rooted.Statement.{statement}
+use Rattle.sheet.proofs.rooted.Tie as tie
+use Rattle.sheet.proofs.rooted.Reads as reads
+use Rattle.sheet.proofs.rooted.Lts as lts
+use Rattle.sheet.proofs.number.Reads as number-reads
+use Rattle.sheet.proofs.put.Reads as put-reads
 
 element-copy-out-if1 : tie.Need-element-copy-out-if1
 element-copy-out-if1 c = search needs

@@ -5,12 +5,12 @@ use lib.Dec.{eqb, lit<}
 use lib.ListN.{length, drop}
 use Rattle.theory.specs.PathReader.{goesOn}
 use Rattle.axes.proofs.Moves.{byte-inside}
-use Rattle.xpath.proofs.Scan.{goes-on-end, goes-on-open, goes-on-close, goes-on-inside, goes-on-now, goes-on-last, goes-on-next, other-one}
+use Rattle.steps.proofs.Scan.{goes-on-end, goes-on-open, goes-on-close, goes-on-inside, goes-on-now, goes-on-last, goes-on-next, other-one}
 use borrow.Author.Needs.{needs}
-use Rattle.xpath.proofs.goes_on.Statement.{statement}
-use Rattle.xpath.proofs.goes_on.Tie as tie
-use Rattle.xpath.proofs.goes_on.Reads as reads
-use Rattle.xpath.proofs.goes_on.Lts as lts
+use Rattle.steps.proofs.goes_on.Statement.{statement}
+use Rattle.steps.proofs.goes_on.Tie as tie
+use Rattle.steps.proofs.goes_on.Reads as reads
+use Rattle.steps.proofs.goes_on.Lts as lts
 use Rattle.lent.proofs.byte_at.Reads as byte-at-reads
 
 abbrev Inv-loop : tie.InvT-loop

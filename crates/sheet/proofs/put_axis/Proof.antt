@@ -1,10 +1,10 @@
-use Rattle.xpath.proofs.Small.{axis-up, axis-down}
+use Rattle.sheet.proofs.Small.{axis-up, axis-down}
 use borrow.Author.Needs.{needs}
-use Rattle.xpath.proofs.put_axis.Statement.{statement}
-use Rattle.xpath.proofs.put_axis.Tie as tie
-use Rattle.xpath.proofs.put_axis.Reads as reads
-use Rattle.xpath.proofs.put_axis.Lts as lts
-use Rattle.xpath.proofs.put.Reads as put-reads
+use Rattle.sheet.proofs.put_axis.Statement.{statement}
+use Rattle.sheet.proofs.put_axis.Tie as tie
+use Rattle.sheet.proofs.put_axis.Reads as reads
+use Rattle.sheet.proofs.put_axis.Lts as lts
+use Rattle.sheet.proofs.put.Reads as put-reads
 
 put-requires : tie.Need-put-requires
 put-requires c κs = search needs

@@ -1,9 +1,9 @@
-use Rattle.xpath.proofs.Small.{put-full, put-more}
+use Rattle.sheet.proofs.Small.{put-full, put-more}
 use borrow.Author.Needs.{needs}
-use Rattle.xpath.proofs.put.Statement.{statement}
-use Rattle.xpath.proofs.put.Tie as tie
-use Rattle.xpath.proofs.put.Reads as reads
-use Rattle.xpath.proofs.put.Lts as lts
+use Rattle.sheet.proofs.put.Statement.{statement}
+use Rattle.sheet.proofs.put.Tie as tie
+use Rattle.sheet.proofs.put.Reads as reads
+use Rattle.sheet.proofs.put.Lts as lts
 
 element-copy-out-bytes : tie.Need-element-copy-out-bytes
 element-copy-out-bytes c = search needs

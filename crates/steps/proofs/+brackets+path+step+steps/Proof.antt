@@ -6,33 +6,33 @@ use lib.ListN.{length, drop}
 use Rattle.meaning.specs.Paths.{isSmall}
 use Rattle.theory.specs.PathReader.{moveAt}
 use Rattle.axes.proofs.Moves.{byte-inside}
-use Rattle.xpath.proofs.Returns.{above, path-here, path-alone, path-root, steps-bad, steps-one, steps-more, move-some, step-not, step-is, brackets-none, brackets-bad, brackets-open, brackets-more}
-use Rattle.xpath.specs.Reading.{StepsRead, BracketsRead}
+use Rattle.steps.proofs.Returns.{above, path-here, path-alone, path-root, steps-bad, steps-one, steps-more, move-some, step-not, step-is, brackets-none, brackets-bad, brackets-open, brackets-more}
+use Rattle.steps.specs.Reading.{StepsRead, BracketsRead}
 use mathlib.Core.List.{List}
 use borrow.Author.Needs.{needs}
 use Prim.Native.Nat.{ℕ, _+_, _*_, _-_, _≤_, _<_}
 use borrow.Fn.Kinds.{In}
 use borrow.Fn.PlainCycle.{Measures, is, falls, and}
-use Rattle.xpath.proofs.brackets.Reads as brackets
-use Rattle.xpath.proofs.brackets.Kinds as brackets-kinds
-use Rattle.xpath.proofs.+brackets+path+step+steps.Lts-brackets as brackets-lts
-use Rattle.xpath.proofs.path.Reads as path
-use Rattle.xpath.proofs.path.Kinds as path-kinds
-use Rattle.xpath.proofs.+brackets+path+step+steps.Lts-path as path-lts
-use Rattle.xpath.proofs.step.Reads as step
-use Rattle.xpath.proofs.step.Kinds as step-kinds
-use Rattle.xpath.proofs.+brackets+path+step+steps.Lts-step as step-lts
-use Rattle.xpath.proofs.steps.Reads as steps
-use Rattle.xpath.proofs.steps.Kinds as steps-kinds
-use Rattle.xpath.proofs.+brackets+path+step+steps.Lts-steps as steps-lts
+use Rattle.steps.proofs.brackets.Reads as brackets
+use Rattle.steps.proofs.brackets.Kinds as brackets-kinds
+use Rattle.steps.proofs.+brackets+path+step+steps.Lts-brackets as brackets-lts
+use Rattle.steps.proofs.path.Reads as path
+use Rattle.steps.proofs.path.Kinds as path-kinds
+use Rattle.steps.proofs.+brackets+path+step+steps.Lts-path as path-lts
+use Rattle.steps.proofs.step.Reads as step
+use Rattle.steps.proofs.step.Kinds as step-kinds
+use Rattle.steps.proofs.+brackets+path+step+steps.Lts-step as step-lts
+use Rattle.steps.proofs.steps.Reads as steps
+use Rattle.steps.proofs.steps.Kinds as steps-kinds
+use Rattle.steps.proofs.+brackets+path+step+steps.Lts-steps as steps-lts
 use Rattle.lent.proofs.byte_at.Reads as byte-at-reads
 use Rattle.labels.proofs.is_small.Reads as is-small-reads
 use Rattle.axes.proofs.move_at.Reads as move-at-reads
-use Rattle.xpath.proofs.number.Reads as number-reads
-use Rattle.xpath.proofs.put_move.Reads as put-move-reads
-use Rattle.xpath.proofs.rooted.Reads as rooted-reads
-use Rattle.xpath.proofs.+brackets+path+step+steps.{statement}
-use Rattle.xpath.proofs.+brackets+path+step+steps.Tie.{close}
+use Rattle.sheet.proofs.number.Reads as number-reads
+use Rattle.sheet.proofs.put_move.Reads as put-move-reads
+use Rattle.sheet.proofs.rooted.Reads as rooted-reads
+use Rattle.steps.proofs.+brackets+path+step+steps.{statement}
+use Rattle.steps.proofs.+brackets+path+step+steps.Tie.{close}
 
 abbrev μ-brackets : Measures 2 brackets-kinds.ps ℕ
 μ-brackets κs a = 4 * (length (a .0 .now) - a .1 .0)

@@ -8,7 +8,7 @@ use lib.ListN.{set}
 use lib.Seq.{sets}
 use Rattle.meaning.proofs.Tests.{pick-yes, pick-no, lt-yes, is-lt, eq-yes, is-eq}
 use Rattle.axes.specs.declared.Axis.{Axis}
-use Rattle.xpath.specs.Reading.{nextIn, rootIn, bytesIn, numberedIn, putIn, rootedIn, axisIn, moveIn}
+use Rattle.sheet.specs.Bytes.{nextIn, rootIn, bytesIn, numberedIn, putIn, rootedIn, axisIn, moveIn}
 
 module _ (b : List ℕ) where
   pub numbered-yes : nextIn b < 17 → set b 192 (nextIn b + 1) ≡ numberedIn b

@@ -1,13 +1,13 @@
 use mathlib.Core.Path.{sym, ap, _∙_}
 use mathlib.Core.Bool.{Bool}
-use Rattle.xpath.specs.Reading.{endNumber, endNumbered}
+use Rattle.steps.specs.Reading.{endNumber, endNumbered}
 use borrow.Author.Needs.{needs}
-use Rattle.xpath.proofs.end_number.Statement.{statement}
-use Rattle.xpath.proofs.end_number.Tie as tie
-use Rattle.xpath.proofs.end_number.Reads as reads
-use Rattle.xpath.proofs.end_number.Lts as lts
-use Rattle.xpath.proofs.goes_on.Reads as goes-on-reads
-use Rattle.xpath.proofs.number.Reads as number-reads
+use Rattle.steps.proofs.end_number.Statement.{statement}
+use Rattle.steps.proofs.end_number.Tie as tie
+use Rattle.steps.proofs.end_number.Reads as reads
+use Rattle.steps.proofs.end_number.Lts as lts
+use Rattle.steps.proofs.goes_on.Reads as goes-on-reads
+use Rattle.sheet.proofs.number.Reads as number-reads
 
 goes-on-requires : tie.Need-goes-on-requires
 goes-on-requires c κs = search needs

@@ -20,8 +20,9 @@ use Rattle.axes.specs.declared.Axis as code
 use Rattle.axes.specs.declared.Moved.{Moved}
 use Rattle.axes.specs.declared.Moved.the-variants as moved
 use Rattle.axes.specs.Moving.{axisFor, MoveRead}
-use Rattle.xpath.specs.Reading.{nextIn, rootIn, numberedIn, rootedIn, moveIn, Follows, For, ReadTo, PathRead, StepsRead, StepRead, BracketsRead}
-use Rattle.xpath.proofs.Follow.{numbered-follows, rooted-follows, move-follows}
+use Rattle.sheet.specs.Bytes.{nextIn, rootIn, numberedIn, rootedIn, moveIn, Follows, For}
+use Rattle.steps.specs.Reading.{ReadTo, PathRead, StepsRead, StepRead, BracketsRead}
+use Rattle.sheet.proofs.Follow.{numbered-follows, rooted-follows, move-follows}
 
 pub above : {i : ℕ} → (i ≡ 0 → ⊥) → 0 < i
 above {i = zero} f = absurd (f refl)

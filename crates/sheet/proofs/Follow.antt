@@ -20,7 +20,7 @@ use Rattle.theory.proofs.PathFile.{file-length}
 use Rattle.meaning.proofs.PathSheets.{letter-range, rooted-next}
 use Rattle.axes.specs.declared.Axis.{Axis}
 use Rattle.axes.specs.Moving.{axisFor}
-use Rattle.xpath.specs.Reading.{nextIn, rootIn, bytesIn, numberedIn, putIn, rootedIn, axisIn, moveIn, Follows, For}
+use Rattle.sheet.specs.Bytes.{nextIn, rootIn, bytesIn, numberedIn, putIn, rootedIn, axisIn, moveIn, Follows, For}
 
 -- ---- one number more
 

@@ -10,7 +10,7 @@ use lib.Seq.{drop-cons}
 use lib.Dec.{eqb}
 use Rattle.theory.specs.PathReader.{goesOn}
 use Rattle.theory.proofs.PathScan.{goes-on-past, bracket-opens, bracket-closes, goes-on-here}
-use Rattle.xpath.proofs.Returns.{byte-at, byte-no}
+use Rattle.steps.proofs.Returns.{byte-at, byte-no}
 
 pub goes-on-end : (s : List ℕ) (i depth : ℕ) → length s ≤ i → false ≡ goesOn depth (drop i s)
 goes-on-end s i depth h = sym (ap (goesOn depth) (drop-of-length-le s h) ∙ nil depth)
