@@ -1,2 +1,3 @@
+-- What readers above cite stands in Follow.
 pub mod Follow
-pub mod Small
+mod Small

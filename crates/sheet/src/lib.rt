@@ -8,7 +8,7 @@ use axes::Axis;
 // that no bound goes through the readers.
 pub const NEXT: usize = 192;
 
-pub const ROOT: usize = 193;
+const ROOT: usize = 193;
 
 pub const LENGTH: usize = 194;
 

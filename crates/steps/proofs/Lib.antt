@@ -1,3 +1,4 @@
-pub mod Scan
+-- What the readers of lines cite stands in Returns.
+mod Scan
 pub mod Returns
-pub mod EndReturns
+mod EndReturns
