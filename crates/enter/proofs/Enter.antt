@@ -24,8 +24,9 @@ use Rattle.tables.proofs.Rises.{rises, raised-out, raised-in, columns-raised}
 use Rattle.tables.proofs.Tested.{or-yes}
 use Rattle.tables.proofs.Wider.{Opening, Wider, wide-least, wide-rules}
 use Rattle.tables.specs.declared.Settled.{Settled as Result}
-use Rattle.merge.specs.Rows.{In}
-use Rattle.merge.specs.Merging.{Held, MergedOf}
+use Rattle.grouping.specs.Rows.{In}
+use Rattle.grouping.specs.Grouping.{Held}
+use Rattle.merge.specs.Merging.{MergedOf}
 use Rattle.merge.proofs.Entered.{back-tested}
 use Rattle.enter.specs.Entered.{EnteredOf}
 

@@ -1,6 +1,1 @@
-mod Find
-mod First
-mod Siblings
-mod Document
 mod Stages
-mod Lacks

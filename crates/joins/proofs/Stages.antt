@@ -8,10 +8,10 @@ use Rattle.meaning.proofs.Joins.{kindAt}
 use Rattle.theory.specs.Find.{first, orElse}
 use Rattle.theory.specs.Search.{isJoin, firstOf}
 use Rattle.ids.specs.declared.Var.{Var}
-use Rattle.joins.specs.Found.{joinOf}
-use Rattle.joins.specs.declared.Found.{Found}
-use Rattle.joins.specs.declared.Found.the-variants.{Nothing, One}
-use Rattle.joins.specs.declared.JoinKind as coded
+use Rattle.stages.specs.Found.{joinOf}
+use Rattle.stages.specs.declared.Found.{Found}
+use Rattle.stages.specs.declared.Found.the-variants.{Nothing, One}
+use Rattle.stages.specs.declared.JoinKind as coded
 
 module _ (n : ℕ) (h : FactSet) where
   -- the first join of the kind at place i

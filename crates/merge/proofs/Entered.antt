@@ -22,8 +22,10 @@ use Rattle.tables.specs.declared.Facts.{Facts}
 use Rattle.tables.proofs.Clashes.{free-clash, clash-free}
 use Rattle.tables.specs.Free.{Free}
 use Rattle.tables.proofs.Groups.{sharing-same, siblings-same}
-use Rattle.merge.specs.Rows.{In, WithGap}
-use Rattle.merge.specs.Merging.{Awaits, held, waits, Held, Pending, OneElement, MergedOf}
+use Rattle.grouping.specs.Rows.{In}
+use Rattle.merge.specs.Rows.{WithGap}
+use Rattle.grouping.specs.Grouping.{Awaits, held, waits, Held, Pending}
+use Rattle.merge.specs.Merging.{OneElement, MergedOf}
 use Rattle.tables.proofs.Bits.{or-l, or-r, one-has, meets-out, in-row}
 use Rattle.merge.proofs.Loops.{two-case}
 use Rattle.merge.proofs.Rounds.{none-left, narrow}

@@ -20,11 +20,14 @@ use Rattle.tables.specs.declared.Facts.{Facts}
 use Rattle.tables.proofs.Bits.{none-in, in-row}
 use Rattle.tables.proofs.Clashes.{crossed-clash, uncrossed-clear}
 use Rattle.tables.proofs.Rises.{rises, raised-keeps}
-use Rattle.merge.specs.declared.Round.{Round}
-use Rattle.merge.specs.Rows.{In, Gap, Chained, Alike, WithGap, NextOf}
-use Rattle.merge.specs.Merging.{Awaits, held, waits, Held, Pending, OneElement, Grouped, withSiblings, PassedOf, lacking, UnifiedOf, RoundOf}
-use Rattle.merge.proofs.Loops.{none-spread}
-use Rattle.merge.proofs.Passing.{Follows, alone-follows, passed-follows}
+use Rattle.grouping.specs.declared.Round.{Round}
+use Rattle.grouping.specs.Rows.{In, Gap}
+use Rattle.merge.specs.Rows.{Chained, Alike, WithGap, NextOf}
+use Rattle.grouping.specs.Grouping.{Awaits, held, waits, Held, Pending, Grouped, withSiblings, lacking, UnifiedOf}
+use Rattle.siblings.specs.Passing.{PassedOf}
+use Rattle.merge.specs.Merging.{OneElement, RoundOf}
+use Rattle.siblings.proofs.Loops.{none-spread}
+use Rattle.siblings.proofs.Passing.{Follows, alone-follows, passed-follows}
 
 -- ---- what is still apart has to become the same, and nothing else
 

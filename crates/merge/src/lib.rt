@@ -1,13 +1,15 @@
 // Entering below(a, b) where it makes variables the same: their group is merged by rows, then that of its parents, and so on upwards; then the
 // children of the document node.
-ghost use mathlib.Core.Path.{_≡_};
-ghost use mathlib.Core.Bool.{true};
 ghost use Prim.Native.Nat.{_<_, _≤_, _^_};
 ghost use lib.Bits.{bitOr};
-ghost use Rattle.tables.specs.Rows.{Union, LabelOf};
-ghost use Rattle.merge.specs.Rows.{WithGap, GapOf, NextOf, TwoLabels, Painted, Spread, Family};
-ghost use Rattle.merge.specs.Merging.{UnifiedOf, GivenToFamily, PassedOf, RoundOf, Joining, MergedOf};
+ghost use Rattle.tables.specs.Rows.{Union};
+ghost use Rattle.merge.specs.Rows.{WithGap, GapOf, NextOf};
+ghost use Rattle.merge.specs.Merging.{RoundOf, Joining, MergedOf};
+use grouping::Round;
+use grouping::refused;
+use grouping::unify;
 use ids::Var;
+use siblings::pass_on;
 use tables::Facts;
 use tables::Settled;
 
@@ -50,202 +52,6 @@ fn two_with_gap(t: [u16; 16], a: usize, b: usize) -> u16
         return 0;
     }
     rows
-}
-
-// Whether one of the variables named has another label than l.
-fn two_labels(t: [u8; 16], rows: u16, l: u8) -> bool
-    requires { ⌜ LabelOf t rows l ⌝ }
-    ensures { λ r. ⌜ TwoLabels t rows l r ⌝ }
-{
-    if l == 0 {
-        return false;
-    }
-    let mut rest = rows;
-    while rest != 0 {
-        let x = tables::lowest(rest);
-        let v = t[x];
-        if (v != 0) & (v != l) {
-            return true;
-        }
-        rest = tables::rest(rest);
-    }
-    false
-}
-
-// The label l given to each of the variables named.
-fn paint(t: [u8; 16], rows: u16, l: u8) -> [u8; 16]
-    requires { ⌜ LabelOf t rows l ⌝ }
-    ensures { λ r. ⌜ Painted t rows l r ⌝ }
-{
-    let mut a = t;
-    if l == 0 {
-        return a;
-    }
-    let mut rest = rows;
-    while rest != 0 {
-        let x = tables::lowest(rest);
-        a[x] = l;
-        rest = tables::rest(rest);
-    }
-    a
-}
-
-// The tables after a step, the group that was made, and the variables that have yet to become the same: after `unify` the parents of the group.
-struct Round {
-    clash: bool,
-    next: u16,
-    group: u16,
-    facts: Facts,
-}
-
-fn refused(f: Facts) -> Round
-    ensures { λ r. ⌜ r .clash ≡ true ⌝ }
-{
-    Round {
-        clash: true,
-        next: 0,
-        group: 0,
-        facts: f,
-    }
-}
-
-// The variables of x become the same. All that is at or above one of them and at or below one becomes one group, and shares its facts; a
-// leaf at or above x is the same as all below it, so that these join the group. Before is left as it is.
-fn unify(f: Facts, x: u16, lower: u16, upper: u16) -> Round
-    requires { ⌜ Union (f .below) x lower × Union (f .above) x upper ⌝ }
-    ensures { λ r. ⌜ UnifiedOf f x r ⌝ }
-{
-    let below = f.below;
-    let above = f.above;
-    let child = f.child;
-    let parent = f.parent;
-    let differ = f.differ;
-    let before = f.before;
-    let after = f.after;
-    let label = f.label;
-    let down = x | lower;
-    let near = x | upper;
-    let far = tables::union_rows(above, tables::when(tables::meet(near, f.leaf), down));
-    let up = near | far;
-    let group = up & down;
-    let others = tables::union_rows(differ, group);
-    if tables::meet(others, group) {
-        return refused(f);
-    }
-    let shown = tables::label_of(label, group);
-    if two_labels(label, group, shown) {
-        return refused(f);
-    }
-    if tables::on_document(f.root, f.leaf, group, shown) {
-        return refused(f);
-    }
-    let children = tables::union_rows(child, group);
-    let parents = tables::union_rows(parent, group);
-    let new_below = tables::raise(below, up, down);
-    let new_above = tables::raise(above, down, up);
-    let new_child = tables::raise(tables::raise(child, group, children), parents, group);
-    let new_parent = tables::raise(tables::raise(parent, group, parents), children, group);
-    let new_differ = tables::raise(tables::raise(differ, group, others), others, group);
-    let new_label = paint(label, group, shown);
-    let root = tables::gain(tables::meet(f.root, group), f.root, group);
-    let leaf = tables::gain(tables::meet(f.leaf, group), f.leaf, group);
-    Round {
-        clash: false,
-        next: parents,
-        group,
-        facts: Facts {
-            child: new_child,
-            parent: new_parent,
-            below: new_below,
-            above: new_above,
-            differ: new_differ,
-            before,
-            after,
-            root,
-            label: new_label,
-            leaf,
-        },
-    }
-}
-
-// The rows of the group with `along`, and the rows of `across` with the group. `unify` writes this out: the call is not inlined, and each round
-// has to wait for it.
-fn spread(t: [u16; 16], group: u16, along: u16, across: u16) -> [u16; 16]
-    ensures { λ r. ⌜ Spread t group along across r ⌝ }
-{
-    tables::raise(tables::raise(t, group, along), across, group)
-}
-
-// All that a chain of rows of the two tables leads to from the group.
-fn family(before: [u16; 16], after: [u16; 16], group: u16) -> u16
-    ensures { λ r. ⌜ Family before after group r ⌝ }
-{
-    let mut all = group;
-    loop {
-        let later = tables::union_rows(before, all);
-        let earlier = tables::union_rows(after, all);
-        let more = tables::except(later | earlier, all);
-        if more == 0 {
-            return all;
-        }
-        all = all | more;
-    }
-}
-
-// Before chained through the group, and its parents given to its whole family: what is earlier than the group is before what is later, the
-// parents are parents of every member of the family, and so at or above all that is at or below one.
-fn to_family(f: Facts, group: u16, parents: u16, earlier: u16, later: u16) -> Facts
-    ensures { λ r. ⌜ GivenToFamily f group parents earlier later r ⌝ }
-{
-    let below = f.below;
-    let above = f.above;
-    let child = f.child;
-    let parent = f.parent;
-    let differ = f.differ;
-    let before = f.before;
-    let after = f.after;
-    let kin = family(before, after, group);
-    let over = tables::union_rows(above, parents);
-    let under = tables::union_rows(below, kin);
-    let new_before = tables::raise(before, earlier, later);
-    let new_after = tables::raise(after, later, earlier);
-    let new_child = tables::raise(child, parents, kin);
-    let new_parent = tables::raise(parent, kin, parents);
-    let new_below = tables::raise(below, over, under);
-    let new_above = tables::raise(above, under, over);
-    let new_differ = spread(spread(differ, earlier, later, later), parents, kin, kin);
-    let label = f.label;
-    Facts {
-        child: new_child,
-        parent: new_parent,
-        below: new_below,
-        above: new_above,
-        differ: new_differ,
-        before: new_before,
-        after: new_after,
-        root: f.root,
-        label,
-        leaf: f.leaf,
-    }
-}
-
-// The group shares before, and passes on what it has to its siblings, if there are any.
-fn pass_on(f: Facts, group: u16, parents: u16) -> Facts
-    ensures { λ r. ⌜ PassedOf f group parents r ⌝ }
-{
-    let before = f.before;
-    let after = f.after;
-    let later = tables::union_rows(before, group);
-    let earlier = tables::union_rows(after, group);
-    if earlier | later == 0 {
-        return f;
-    }
-    let new_before = spread(before, group, later, earlier);
-    let new_after = spread(after, group, earlier, later);
-    let mut g = f;
-    g.before = new_before;
-    g.after = new_after;
-    to_family(g, group, parents, earlier, later)
 }
 
 // What has to become the same next: the parents, if they are not; else the children of the roots, if these are not. Roots share their children, so

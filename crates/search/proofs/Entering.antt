@@ -13,10 +13,11 @@ use Rattle.theory.proofs.Absent.{first-adds, second-adds}
 use Rattle.theory.proofs.Search.{first-join-found}
 use Rattle.tables.specs.Tables.{has, Ready}
 use Rattle.tables.specs.declared.Facts.{Facts}
-use Rattle.joins.specs.Found.{kindOf, joinOf, FoundOf}
-use Rattle.joins.specs.declared.Found.{Found}
-use Rattle.joins.specs.declared.Found.the-variants.{Nothing, One}
-use Rattle.joins.specs.declared.JoinKind as coded
+use Rattle.stages.specs.Found.{kindOf, joinOf}
+use Rattle.joins.specs.Found.{FoundOf}
+use Rattle.stages.specs.declared.Found.{Found}
+use Rattle.stages.specs.declared.Found.the-variants.{Nothing, One}
+use Rattle.stages.specs.declared.JoinKind as coded
 use Rattle.ids.specs.declared.Var.{Var}
 use Rattle.search.specs.Searching.{fact, Enters, StepOf}
 use Rattle.search.specs.declared.Below.{Below}

@@ -7,8 +7,8 @@ ghost use Rattle.meaning.specs.Constraint.{Fact};
 ghost use Rattle.tables.specs.Tables.{Ready};
 ghost use Rattle.search.specs.Searching.{StepOf, Line, tablesOf, withoutTree, LineOf, SearchedOf};
 use ids::Var;
-use joins::Found;
-use joins::JoinKind;
+use stages::Found;
+use stages::JoinKind;
 use tables::Facts;
 use tables::Settled;
 

@@ -22,7 +22,8 @@ use Rattle.theory.proofs.PathFile.{file-length}
 use Rattle.theory.proofs.PathPromise.{text-form}
 use Rattle.lent.specs.declared.Answer.{Answer}
 use Rattle.lent.specs.declared.Answer.the-variants.{Written, Refused}
-use Rattle.xpath.specs.Reading.{nextIn, bytesIn, Follows, AllRead, LinesRead}
+use Rattle.sheet.specs.Bytes.{nextIn, bytesIn, Follows}
+use Rattle.xpath.specs.Reading.{AllRead, LinesRead}
 use Rattle.lent.specs.Filling.{AnswerOf}
 use Rattle.xpath.proofs.LineReturns.{all-along}
 

@@ -6,8 +6,9 @@ use mathlib.Core.List.{List}
 use Prim.Native.Nat.{ℕ}
 use Rattle.meaning.specs.Constraint.{Fact}
 use Rattle.tables.specs.Rows.{Union}
-use Rattle.merge.specs.Rows.{Gap}
-use Rattle.merge.specs.Merging.{Pending, OneElement, lacking}
+use Rattle.grouping.specs.Rows.{Gap}
+use Rattle.grouping.specs.Grouping.{Pending, lacking}
+use Rattle.merge.specs.Merging.{OneElement}
 use Rattle.merge.proofs.Entered.{ready-top, begun, merged-clash, merged-well}
 use borrow.Author.Needs.{needs}
 use Rattle.merge.proofs.enter_same.Statement.{statement}

@@ -10,11 +10,11 @@ use Rattle.xpath.proofs.line.Tie as tie
 use Rattle.xpath.proofs.line.Reads as reads
 use Rattle.xpath.proofs.line.Lts as lts
 use Rattle.lent.proofs.byte_at.Reads as byte-at-reads
-use Rattle.xpath.proofs.end_steps.Reads as end-steps-reads
+use Rattle.steps.proofs.end_steps.Reads as end-steps-reads
 use Rattle.labels.proofs.is_small.Reads as is-small-reads
-use Rattle.xpath.proofs.number.Reads as number-reads
-use Rattle.xpath.proofs.put.Reads as put-reads
-use Rattle.xpath.proofs.rooted.Reads as rooted-reads
+use Rattle.sheet.proofs.number.Reads as number-reads
+use Rattle.sheet.proofs.put.Reads as put-reads
+use Rattle.sheet.proofs.rooted.Reads as rooted-reads
 
 byte-at-requires : tie.Need-byte-at-requires
 byte-at-requires c κs = search needs

@@ -7,7 +7,7 @@ use lib.Dec.{lit<}
 use lib.ListN.{length}
 use Rattle.xpath.specs.Reading.{LinesRead}
 use Rattle.axes.proofs.Moves.{byte-inside}
-use Rattle.xpath.proofs.Returns.{above}
+use Rattle.steps.proofs.Returns.{above}
 use Rattle.xpath.proofs.LineReturns.{other, lines-end, lines-over, lines-bad, lines-open, lines-more}
 use borrow.Author.Needs.{needs}
 use Rattle.xpath.proofs.lines.Statement.{statement}

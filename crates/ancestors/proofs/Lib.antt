@@ -1,0 +1,3 @@
+mod Lacks
+mod Siblings
+mod Document

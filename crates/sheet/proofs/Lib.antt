@@ -1,0 +1,3 @@
+-- What readers above cite stands in Follow.
+pub mod Follow
+mod Small

@@ -1,0 +1,3 @@
+-- What the stages cite.
+pub mod Find
+pub mod Stage
