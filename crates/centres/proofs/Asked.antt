@@ -10,7 +10,7 @@ use Rattle.meaning.specs.declared.Centre.{Centre}
 use Rattle.meaning.specs.Finite.{pick}
 use Rattle.meaning.specs.Centres as meant
 use Rattle.meaning.specs.Centres.{centreAt, sumOf, claimed, Sound, added, listAfter, draw-granted, draw-refused}
-use Rattle.meaning.proofs.Tests.{yes-case, clash, pick-yes, pick-no, is-le, le-yes}
+use Rattle.meaning.proofs.Tests.{yes-case, clash, pick-yes, pick-no, is-le, le-yes, le-no, no-le}
 use Rattle.theory.specs.Centres.{capped, drawing}
 use Rattle.theory.proofs.Centres.{made-sound, sound-capped, claimed-but, Case, by-list, by-centre, by-cap, by-rest, by-none, computed-case, drawing-keeps}
 use Rattle.centres.specs.declared.Drawn.{Drawn}
@@ -34,16 +34,15 @@ module _ (claims total guarantee cap drawn amount : ℕ) where
 
   pub asks-18 : total < claims → asks ≡ 18
   unfolding questionOf
-  asks-18 h = pick-no _ _ (λ y. let l = is-le {x = claims} {y = total} y in omega (arith, h, l))
+  asks-18 h = pick-no _ _ (le-no h)
 
   pub asks-19 : claims ≤ total → cap < drawn + amount → asks ≡ 19
   unfolding questionOf
-  asks-19 s h = pick-yes _ _ (le-yes s) ∙ pick-no _ _ (λ y. let l = is-le {x = drawn + amount} {y = cap} y in omega (arith, h, l))
+  asks-19 s h = pick-yes _ _ (le-yes s) ∙ pick-no _ _ (le-no h)
 
   pub asks-20 : claims ≤ total → drawn + amount ≤ cap → total + (guarantee - drawn) < claims + amount → asks ≡ 20
   unfolding questionOf
-  asks-20 s c h = pick-yes _ _ (le-yes s) ∙ (pick-yes _ _ (le-yes c) ∙ pick-no _ _
-      (λ y. let l = is-le {x = claims + amount} {y = total + (guarantee - drawn)} y in omega (arith, h, l)))
+  asks-20 s c h = pick-yes _ _ (le-yes s) ∙ (pick-yes _ _ (le-yes c) ∙ pick-no _ _ (le-no h))
 
   pub asks-none : claims ≤ total → drawn + amount ≤ cap → claims + amount ≤ total + (guarantee - drawn) → asks ≡ 0
   unfolding questionOf
@@ -81,7 +80,7 @@ question-found total cs i amount p small over l =
   where
     few : length cs ≤ 8
     few = ⊎-elim (λ y. is-le y)
-        (λ z. let m : ¬ (length cs ≤ 8) = λ k. clash (le-yes k) z in let a = looked-none {n = length cs} (omega (arith, m)) in absurd (omega (arith, l, a)))
+        (λ z. let a = looked-none {n = length cs} (no-le (λ y. clash y z)) in absurd (omega (arith, l, a)))
         (yes-case (leb (length cs) 8))
 
     past : length cs ≤ p .reached

@@ -11,7 +11,7 @@ use lib.ListN.{length, drop}
 use Rattle.meaning.specs.declared.Centre.{Centre}
 use Rattle.meaning.specs.Finite.{Yes, _and_}
 use Rattle.meaning.specs.Centres.{centreAt, sumOf, claimed}
-use Rattle.meaning.proofs.Tests.{yes-case, and-left, and-right, and-both, clash, pick-yes, pick-no, pick-either, is-le, le-yes}
+use Rattle.meaning.proofs.Tests.{yes-case, and-left, and-right, and-both, clash, pick-yes, pick-no, pick-either, is-le, le-yes, le-no}
 use Rattle.theory.specs.Centres.{capped}
 use Rattle.centres.specs.Plain.{lookedAt, claim}
 
@@ -29,7 +29,7 @@ claim-in g k d l = pick-yes _ _ (le-yes l)
 
 pub claim-above : (g k d : ℕ) → k < max g d → claim g k d ≡ 2 ^ 32
 unfolding claim
-claim-above g k d h = pick-no _ _ (λ y. let l = is-le {x = max g d} {y = k} y in omega (arith, h, l))
+claim-above g k d h = pick-no _ _ (le-no h)
 
 pub claim-small : (g k d : ℕ) → k < 2 ^ 32 → claim g k d ≤ 2 ^ 32
 unfolding claim
@@ -77,7 +77,7 @@ looked-all few = pick-yes _ _ (le-yes few)
 
 pub looked-none : {n : ℕ} → 8 < n → lookedAt n ≡ 0
 unfolding lookedAt
-looked-none {n} many = pick-no _ _ (λ y. let l = is-le {x = n} {y = 8} y in omega (arith, many, l))
+looked-none many = pick-no _ _ (le-no many)
 
 pub inside : (cs : List Centre) (i : ℕ) → i < lookedAt (length cs) → i < length cs
 inside cs i l = let h = looked-in (length cs) in omega (arith, l, h)

@@ -11,7 +11,7 @@ use lib.ListN.{length, set, length-set}
 use Rattle.meaning.specs.declared.Centre.{Centre}
 use Rattle.meaning.specs.Finite.{Yes, _and_}
 use Rattle.meaning.specs.Centres.{centreAt, sumOf, claimed, Sound, others, undrawn, drawnByAll, Drawn, draw-granted, draw-refused, withDraw, added, listAfter, NoQuestion, DrawPromise, Draw, Draws, no-draw, one-draw, ByOthers, Grantable, AddedTo, SharedMachine}
-use Rattle.meaning.proofs.Tests.{yes-case, and-left, and-right, and-both, clash, pick-yes, pick-no, pick-either, is-le, le-yes, is-lt, lt-yes, is-eq, eq-yes}
+use Rattle.meaning.proofs.Tests.{yes-case, and-left, and-right, and-both, clash, pick-yes, pick-no, pick-either, is-le, le-yes, le-no, no-le, is-lt, lt-yes, no-lt, is-eq, eq-yes}
 use Rattle.theory.specs.Centres.{capped, isSound, drawingFrom, drawing}
 
 -- ---- the test is `Sound`
@@ -48,15 +48,6 @@ sound-yes s = and-both (le-yes (s .few)) (and-both (sound-capped s) (le-yes (s .
 
 -- ---- the computed draw
 
-not-le : {x y : ℕ} → ¬ Yes (leb x y) → y < x
-not-le {x} {y} n = let m : ¬ (x ≤ y) = λ l. n (le-yes l) in omega (arith, m)
-
-not-lt : {x y : ℕ} → ¬ Yes (ltb x y) → y ≤ x
-not-lt {x} {y} n = let m : ¬ (x < y) = λ l. n (lt-yes l) in omega (arith, m)
-
-above : {x y : ℕ} → y < x → ¬ Yes (leb x y)
-above {x} {y} h t = let l = is-le {x = x} {y = y} t in omega (arith, h, l)
-
 -- which question says no, if one does, and what is then answered
 pub data Case (total : ℕ) (cs : List Centre) (i amount : ℕ) : Drawn → Type 0 where
   by-list : ¬ Sound total cs → Case total cs i amount (draw-refused 18)
@@ -79,9 +70,9 @@ module _ {total : ℕ} {cs : List Centre} {i amount : ℕ} where
       (λ y. let s = is-sound (and-left (ltb i (length cs)) y) in let l = is-lt (and-right (isSound total cs) y) in
       pick-either (Case total cs i amount) (leb (centreAt cs i .drawn + amount) (centreAt cs i .cap)) _ _
       (λ c. pick-either (Case total cs i amount) (leb (drawnByAll cs + undrawn (others cs i) + amount) total) _ _
-      (λ r. by-none record { is-sound = s; there = l; in-cap = is-le c; in-rest = is-le r }) (λ n. by-rest s l (is-le c) (not-le n)))
-      (λ n. by-cap s l (not-le n)))
-      (λ n. ⊎-elim (λ y. by-centre (not-lt (λ z. n (and-both y z)))) (λ z. by-list (λ s. clash (sound-yes s) z)) (yes-case (isSound total cs)))
+      (λ r. by-none record { is-sound = s; there = l; in-cap = is-le c; in-rest = is-le r }) (λ n. by-rest s l (is-le c) (no-le n)))
+      (λ n. by-cap s l (no-le n)))
+      (λ n. ⊎-elim (λ y. by-centre (no-lt (λ z. n (and-both y z)))) (λ z. by-list (λ s. clash (sound-yes s) z)) (yes-case (isSound total cs)))
 
   -- a promise leaves no choice
   promised : {r s : Drawn} {after : List Centre} → DrawPromise total cs i amount r after → Case total cs i amount s → r ≡ s
@@ -102,8 +93,8 @@ module _ {total : ℕ} {cs : List Centre} {i amount : ℕ} where
   drawing-keeps = record {
     not-sound = λ n. pick-no _ _ (λ y. n (is-sound (and-left (ltb i (length cs)) y)));
     no-centre = λ l. pick-no _ _ (λ y. let k = is-lt {x = i} {y = length cs} (and-right (isSound total cs) y) in omega (arith, l, k));
-    past-cap = λ s l h. asked total cs i amount s l ∙ pick-no _ _ (above h);
-    past-rest = λ s l c h. asked total cs i amount s l ∙ (pick-yes _ _ (le-yes c) ∙ pick-no _ _ (above h));
+    past-cap = λ s l h. asked total cs i amount s l ∙ pick-no _ _ (le-no h);
+    past-rest = λ s l c h. asked total cs i amount s l ∙ (pick-yes _ _ (le-yes c) ∙ pick-no _ _ (le-no h));
     grants = λ q. asked total cs i amount (q .is-sound) (q .there) ∙ (pick-yes _ _ (le-yes (q .in-cap)) ∙ pick-yes _ _ (le-yes (q .in-rest)));
     list-is = refl;
   }
