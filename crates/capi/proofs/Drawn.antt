@@ -21,7 +21,8 @@ number-is (draw-refused q) = refl
 
 -- what `draw` says and its number are what C is told
 pub draws-from : (total : ℕ) (cs : List Centre) (i amount : ℕ) {d : Drawn} {after : List Centre} {k : ℕ}
-    → (d ≡ answerOf (drawing total cs i amount)) × (after ≡ listAfter (drawing total cs i amount) cs i amount) → k ≡ drawnAs d → DrawsFrom total cs i amount k after
+    → (d ≡ answerOf (drawing total cs i amount)) × (after ≡ listAfter (drawing total cs i amount) cs i amount) → k ≡ drawnAs d
+    → DrawsFrom total cs i amount k after
 draws-from total cs i amount said e = record {
   number = e ∙ (ap drawnAs (said .0) ∙ number-is (drawing total cs i amount));
   list = said .1;
@@ -35,4 +36,5 @@ zero-granted (draw-refused q) e = absurd (omega (arith, e))
 
 pub told-granted : {total : ℕ} {cs after : List Centre} {i amount k : ℕ} → DrawsFrom total cs i amount k after → (k ≡ 0) ↔ NoQuestion total cs i amount
 unfolding drawnNumber told
-told-granted d = let iff = shared-machine .granted-exactly (d .promise) in ((λ z. iff .0 (zero-granted _ (sym (d .number) ∙ z))), λ q. d .number ∙ ap drawnNumber (iff .1 q))
+told-granted d = let iff = shared-machine .granted-exactly (d .promise)
+    in ((λ z. iff .0 (zero-granted _ (sym (d .number) ∙ z))), λ q. d .number ∙ ap drawnNumber (iff .1 q))

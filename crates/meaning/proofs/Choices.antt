@@ -1,7 +1,7 @@
 -- How many alternatives a search enters, from the relation alone: each level of alternatives open at once at most doubles them.
 use mathlib.Core.Path.{_≡_}
 use mathlib.Core.List.{List}
-use Prim.Native.Nat.{ℕ, suc, _+_, _*_, _-_, _^_, _≤_, max}
+use Prim.Native.Nat.{ℕ, suc, _+_, _*_, _^_, _≤_, max}
 use native.Mathlib.Omega.{arith}
 use lib.Pow.{pow-mono}
 use native.Mathlib.Nat.{pow-suc}

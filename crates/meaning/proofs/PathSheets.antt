@@ -9,7 +9,7 @@ use native.Mathlib.Omega.{arith}
 use lib.Dec.{leb}
 use Rattle.meaning.specs.Tree.{Var, isCapital}
 use Rattle.meaning.specs.Constraint.{Constraint, is-same, is-root, named, vars}
-use Rattle.meaning.specs.Finite.{Yes, _and_}
+use Rattle.meaning.specs.Finite.{Yes}
 use Rattle.meaning.specs.Paths.{Axis, to-self, to-child, to-parent, to-descendant, to-ancestor, to-descendant-or-self, to-ancestor-or-self, to-following-sibling, to-preceding-sibling, isSmall, isLetter, Test, letter, any, Path, alone, from-root, from-here, Steps, one, more, Step, move, having}
 use Rattle.meaning.specs.PathRecords.{Sheet, blankSheet, nextTaken, withRecords, rootedBy, rooted, axisRecord, moveRecords, pathSheet, stepsSheet, stepSheet, endSheet, lineSheet, linesSheet}
 use Rattle.meaning.proofs.Tests.{and-left, and-right, either, is-le}

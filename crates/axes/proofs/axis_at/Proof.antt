@@ -7,10 +7,6 @@ use Rattle.axes.proofs.Moves.{name-hit, name-miss, d-second, d-none, a-
 use borrow.Author.Needs.{needs}
 use Rattle.axes.proofs.axis_at.Statement.{statement}
 use Rattle.axes.proofs.axis_at.Tie as tie
-use Rattle.axes.proofs.axis_at.Reads as reads
-use Rattle.axes.proofs.axis_at.Lts as lts
-use Rattle.lent.proofs.byte_at.Reads as byte-at-reads
-use Rattle.axes.proofs.starts.Reads as starts-reads
 
 byte-at-requires : tie.Need-byte-at-requires
 byte-at-requires c κs = search needs

@@ -8,12 +8,6 @@ use Rattle.axes.proofs.Moves.{axis-none, axis-some, move-none, no-colon
 use borrow.Author.Needs.{needs}
 use Rattle.axes.proofs.move_at.Statement.{statement}
 use Rattle.axes.proofs.move_at.Tie as tie
-use Rattle.axes.proofs.move_at.Reads as reads
-use Rattle.axes.proofs.move_at.Lts as lts
-use Rattle.axes.proofs.axis_at.Reads as axis-at-reads
-use Rattle.lent.proofs.byte_at.Reads as byte-at-reads
-use Rattle.labels.proofs.is_letter.Reads as is-letter-reads
-use Rattle.axes.proofs.starts.Reads as starts-reads
 
 axis-at-requires : tie.Need-axis-at-requires
 axis-at-requires c κs = search needs

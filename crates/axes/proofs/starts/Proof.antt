@@ -1,5 +1,5 @@
 use mathlib.Core.Path.{_≡_, sym, _∙_}
-use mathlib.Core.Bool.{true, false, false≢true}
+use mathlib.Core.Bool.{false≢true}
 use Prim.Native.Nat.{_+_, _≤_, _-_}
 use native.Mathlib.Nat.{add-zero, add-assoc}
 use native.Mathlib.Omega.{arith}
@@ -9,8 +9,6 @@ use Rattle.axes.proofs.Front.{front-short, front-more, front-miss, fron
 use borrow.Author.Needs.{needs}
 use Rattle.axes.proofs.starts.Statement.{statement}
 use Rattle.axes.proofs.starts.Tie as tie
-use Rattle.axes.proofs.starts.Reads as reads
-use Rattle.axes.proofs.starts.Lts as lts
 
 abbrev Inv-loop : tie.InvT-loop
 Inv-loop s at word i₀ i = (i ≤ length word) × (front (drop (at + i) s) (drop i word) ≡ front (drop at s) word)

@@ -120,35 +120,39 @@ module _ {M : Type 1} (𝓤 : URA M) (H : Heap 𝓤) (A : Atoms 𝓤) (W : Given
       → ent 𝓤 (sep 𝓤 (sep 𝓤 (A .lft κ q) (sem 𝓤 H A ftrue)) (sep 𝓤 (sem 𝓤 H A (finally T.the-row γ zs)) (sem 𝓤 H A (u64 .own r (w ∷ []))))) (Post w)
   exits r w d zs e told l =
       qed W ((‵ (flft κ q) ⊛ ‵ ftrue) ∷ ‵ (finally T.the-row γ zs) ∷ ‵ (u64 .own r (w ∷ [])) ∷ []) ∵
-      suffices ! _ (ends-at 𝓤 H A cudreth-draw.ended stayed (cudreth-draw.clauses 𝓤 H A at-mem run) W (((κ, tt), (q, tt), tt, a, vals), tt) w r (zs, (tt, (tt, (tt, tt)))) (l, (tt, (tt, (tt, tt))))) $ says ! (draws-from total ys centre amount told e) $ frame ! $
+      suffices ! _ (ends-at 𝓤 H A cudreth-draw.ended stayed (cudreth-draw.clauses 𝓤 H A at-mem run) W (((κ, tt), (q, tt), tt, a, vals), tt) w r
+      (zs, (tt, (tt, (tt, tt)))) (l, (tt, (tt, (tt, tt))))) $ says ! (draws-from total ys centre amount told e) $ frame ! $
       nothing ! $ owned ! u32 (Is u32) (uint-makes 𝓤 H A W w32) amount _ (refl, ga) $ fjoin ! $
       owned ! usize (Is usize) (uint-makes 𝓤 H A W w64) centre _ (refl, gc) $ fjoin ! $ owned ! u32 (Is u32) (uint-makes 𝓤 H A W w32) total _ (refl, gt) $
       fjoin ! $
       move ! (1 ∷ 0 ∷ []) $ fjoin ! $ done !
 
-  module _ (𝓣 : Tables 𝓤 H) (known-draw : Triple 𝓤 (𝓣 .C #centres·draw) (Draw 𝓤 H A at-mem run)) (known-number : Triple 𝓤 (𝓣 .C #capi·draw-number)
-      (Number 𝓤 H A at-mem run)) where
-    walk : Room T.the-row (length ys) → ent 𝓤 (onEntry 𝓤 H A cudreth-draw.signature (κ, tt) (q, tt) a vals) (WpFn 𝓤 H (𝓣 .C)
-        (𝓣 .Λ) code.function (s ∷ vint w32 total ∷ vint w64 centre ∷ vint w32 amount ∷ []) Post)
+  module _ (𝓣 : Tables 𝓤 H) (known-draw : Triple 𝓤 (𝓣 .C #centres·draw) (Draw 𝓤 H A at-mem run))
+      (known-number : Triple 𝓤 (𝓣 .C #capi·draw-number) (Number 𝓤 H A at-mem run)) where
+    walk : Room T.the-row (length ys) → ent 𝓤 (onEntry 𝓤 H A cudreth-draw.signature (κ, tt) (q, tt) a vals)
+        (WpFn 𝓤 H (𝓣 .C) (𝓣 .Λ) code.function (s ∷ vint w32 total ∷ vint w64 centre ∷ vint w32 amount ∷ []) Post)
     walk room =
-        qed W ((‵ (flft κ q) ⊛ ‵ ftrue) ∷ ‵ (owns (MutSlice (named 0) κ T.the-row ∷ u32 ∷ usize ∷ u32 ∷ []) a vals) ∷ []) ∵ enter ! (𝓣 .C)
-        (𝓣 .Λ) code.function (s ∷ vint w32 total ∷ vint w64 centre ∷ vint w32 amount ∷ []) _ $
-        alloc1 ! (λ l₀. alloc1 ! (λ l₁. alloc1 ! (λ l₂. alloc1 ! (λ l₃. alloc1 ! (λ l₄. alloc1 ! (λ l₅. alloc1 ! (λ l₆. alloc1 ! (λ l₇. alloc0 ! $ params1 ! $
+        qed W ((‵ (flft κ q) ⊛ ‵ ftrue) ∷ ‵ (owns (MutSlice (named 0) κ T.the-row ∷ u32 ∷ usize ∷ u32 ∷ []) a vals) ∷ []) ∵
+        enter ! (𝓣 .C) (𝓣 .Λ) code.function (s ∷ vint w32 total ∷ vint w64 centre ∷ vint w32 amount ∷ []) _ $
+        alloc1 ! (λ l₀. alloc1 ! (λ l₁. alloc1 ! (λ l₂. alloc1 ! (λ l₃. alloc1 ! (λ l₄. alloc1 ! (λ l₅. alloc1 ! (λ l₆. alloc1 ! (λ l₇. alloc0 ! $
+        params1 ! $
         pass1 ! (init ! 12 refl (tt, (tt, (record { fits = room .0 }, tt)))) $ pass1 ! (init ! 10 refl (tt, record { fits = gt })) $
         pass1 ! (init ! 8 refl (tt, record { fits = gc })) $ pass1 ! (init ! 6 refl (tt, record { fits = ga })) $ pass0 ! $
         -- [_7; …; _0; …; the token; what the parameters own]
         assigns ! (addr ! (from ! (fld ! refl (hop ! (look-in ! 12 (sub ! 0 refl (whole !))) (stop !))))) (from ! (stop !)) (init ! 2 refl (tt, tt)) $
-        assigns ! (agg ! (and-then ! (load ! (from ! (stop !)) (look ! 2 refl)) (and-then ! (load ! (from ! (fld ! refl (stop !)))
-        (look-in ! 12 (sub ! 1 refl (whole !)))) (no-more !)))) (from ! (stop !)) (init ! 0 refl (tt, (tt, (record { fits = room .0 }, tt)))) $
+        assigns ! (agg ! (and-then ! (load ! (from ! (stop !)) (look ! 2 refl))
+        (and-then ! (load ! (from ! (fld ! refl (stop !))) (look-in ! 12 (sub ! 1 refl (whole !)))) (no-more !)))) (from ! (stop !))
+        (init ! 0 refl (tt, (tt, (record { fits = room .0 }, tt)))) $
         -- `draw`
         move ! (17 ∷ []) $ fsplit ! $ move ! (1 ∷ []) $ drop ! $ move ! (17 ∷ 0 ∷ []) $ use2 W (raw (Draw 𝓤 H A at-mem run .pre to-draw)) goes-draw $
-        calls-at ! (fmOf 𝓤 H (W .laws) 𝓣) (Draw 𝓤 H A at-mem run) known-draw to-draw (and-then ! (load ! (from ! (stop !)) (look ! 1 refl))
-        (and-then ! (load ! (from ! (stop !)) (look ! 11 refl)) (and-then ! (load ! (from ! (stop !)) (look ! 9 refl))
-        (and-then ! (load ! (from ! (stop !)) (look ! 7 refl)) (no-more !))))) (λ v.
-        use1 W (later (some (λ (d : Drawn). ((‵ (flft κ q) ⊛ ‵ ftrue) ⊛ ‵ (S.the-row .own d (v ∷ []))) ⊛ raw (ensured 𝓤 H A draw.ended (draw.clauses 𝓤 H A at-mem run) (κ, tt) a tt d)))) (id⊢ 𝓤 _) $ await ! tt $ pick ! (λ d.
-        split ! $ move ! (1 ∷ []) $ use1 W (some
-        (λ (zs : List Centre × (Unit {0} × (Unit {0} × (Unit {0} × Unit {0})))). ‵ (lasts draw.ended (κ, tt) a zs) ⊛ raw (fact 𝓤 (Told d (zs .0)))))
-        (id⊢ 𝓤 _) $ pick ! (λ zs.
+        calls-at ! (fmOf 𝓤 H (W .laws) 𝓣) (Draw 𝓤 H A at-mem run) known-draw to-draw
+        (and-then ! (load ! (from ! (stop !)) (look ! 1 refl))
+        (and-then ! (load ! (from ! (stop !)) (look ! 11 refl))
+        (and-then ! (load ! (from ! (stop !)) (look ! 9 refl)) (and-then ! (load ! (from ! (stop !)) (look ! 7 refl)) (no-more !))))) (λ v.
+        use1 W (later (some (λ (d : Drawn). ((‵ (flft κ q) ⊛ ‵ ftrue) ⊛ ‵ (S.the-row .own d (v ∷ []))) ⊛ raw
+        (ensured 𝓤 H A draw.ended (draw.clauses 𝓤 H A at-mem run) (κ, tt) a tt d)))) (id⊢ 𝓤 _) $ await ! tt $ pick ! (λ d.
+        split ! $ move ! (1 ∷ []) $ use1 W (some (λ (zs : List Centre × (Unit {0} × (Unit {0} × (Unit {0} × Unit {0})))). ‵
+        (lasts draw.ended (κ, tt) a zs) ⊛ raw (fact 𝓤 (Told d (zs .0))))) (id⊢ 𝓤 _) $ pick ! (λ zs.
         split ! $ move ! (1 ∷ []) $ heard ! (Told d (zs .0)) (λ told. fsplit ! $ fsplit ! $ move ! (1 ∷ []) $ feqL ! (λ l.
         -- [the last list; …; the token and the answer; …]
         move ! (2 ∷ []) $ split ! $ move ! (1 ∷ []) $ peeks ! S.the-row (Is S.the-row) (shows 𝓤 H A S.the-row) d (v ∷ []) (λ is.
@@ -156,28 +160,26 @@ module _ {M : Type 1} (𝓤 : URA M) (H : Heap 𝓤) (A : Atoms 𝓤) (W : Given
         land ! (from ! (stop !)) (init ! 8 refl (EL.lawful S.the-type S′.the-laws 𝓤 H A W tt .typed d _ is .0)) $
         -- `number`
         use1 W (raw (Number 𝓤 H A at-mem run .pre (to-number d v))) (goes-number d v) $
-        calls-at ! (fmOf 𝓤 H (W .laws) 𝓣) (Number 𝓤 H A at-mem run) known-number (to-number d v) (and-then ! (load ! (from ! (stop !)) (look ! 8 refl))
-        (no-more !)) (λ w.
-        use1 W (later (some (λ (r : ℕ). (‵ ftrue ⊛ ‵ (u64 .own r (w ∷ []))) ⊛ raw (ensured 𝓤 H A number.ended (number.clauses 𝓤 H A at-mem run) tt (d, tt) tt r)))) (id⊢ 𝓤 _) $ await ! tt $ pick ! (λ r.
-        split ! $ move ! (1 ∷ []) $ use1 W (raw (fact 𝓤 (r ≡ drawnAs d))) (number-said 𝓤 H A at-mem run d r) $ heard ! (r ≡ drawnAs d) (λ e. split ! $
-        drop ! $
+        calls-at ! (fmOf 𝓤 H (W .laws) 𝓣) (Number 𝓤 H A at-mem run) known-number (to-number d v)
+        (and-then ! (load ! (from ! (stop !)) (look ! 8 refl)) (no-more !)) (λ w.
+        use1 W (later (some (λ (r : ℕ). (‵ ftrue ⊛ ‵ (u64 .own r (w ∷ []))) ⊛ raw
+        (ensured 𝓤 H A number.ended (number.clauses 𝓤 H A at-mem run) tt (d, tt) tt r)))) (id⊢ 𝓤 _) $ await ! tt $ pick ! (λ r.
+        split ! $ move ! (1 ∷ []) $ use1 W (raw (fact 𝓤 (r ≡ drawnAs d))) (number-said 𝓤 H A at-mem run d r) $
+        heard ! (r ≡ drawnAs d) (λ e. split ! $ drop ! $
         peeks ! u64 (Is u64) (shows 𝓤 H A u64) r (w ∷ []) (λ are.
         land ! (from ! (stop !)) (init ! 18 refl (uint-lawful 𝓤 H A W w64 .typed r _ are .0)) $
         returns ! (look ! 18 refl) $ forget ! 18 refl $ forget ! 16 refl $ forget ! 14 refl $ forget ! 12 refl $ forget ! 10 refl $ forget ! 8 refl $
         forget ! 6 refl $ forget ! 4 refl $
-        move ! (18 ∷ 19 ∷ []) $ free1 ! $ move ! (16 ∷ 17 ∷ []) $ free1 ! $ move ! (14 ∷ 15 ∷ []) $ free1 ! $ move ! (12 ∷ 13 ∷ []) $ free1 ! $ move ! (10 ∷
-        11 ∷ []) $ free1 ! $ move ! (8 ∷ 9 ∷ []) $ free1 ! $ move ! (6 ∷ 7 ∷ []) $ free1 ! $ move ! (4 ∷ 5 ∷ []) $ free1 ! $ free0 ! $
+        move ! (18 ∷ 19 ∷ []) $ free1 ! $ move ! (16 ∷ 17 ∷ []) $ free1 ! $ move ! (14 ∷ 15 ∷ []) $ free1 ! $ move ! (12 ∷ 13 ∷ []) $ free1 ! $
+        move ! (10 ∷ 11 ∷ []) $ free1 ! $ move ! (8 ∷ 9 ∷ []) $ free1 ! $ move ! (6 ∷ 7 ∷ []) $ free1 ! $ move ! (4 ∷ 5 ∷ []) $ free1 ! $ free0 ! $
         keep ! (1 ∷ 2 ∷ 0 ∷ []) $ by ! (exits r w d (zs .0) e told l)))))))))))))))))))
 
 module _ {M : Type 1} (𝓤 : URA M) (H : Heap 𝓤) (A : Atoms 𝓤) (W : Given 𝓤 H A) (at-mem : Memory → SProp 𝓤) (run : Routine → Fun 𝓤) (𝓣 : Tables 𝓤 H)
     (known-draw : Triple 𝓤 (𝓣 .C #centres·draw) (Draw 𝓤 H A at-mem run)) (known-number : Triple 𝓤 (𝓣 .C #capi·draw-number) (Number 𝓤 H A at-mem run)) where
   cudreth-draw-walks : Walks 𝓤 H A cudreth-draw.ended stayed (WpFn 𝓤 H (𝓣 .C) (𝓣 .Λ) code.function) (cudreth-draw.clauses 𝓤 H A at-mem run)
   cudreth-draw-walks = walked 𝓤 H A cudreth-draw.ended stayed (cudreth-draw.clauses 𝓤 H A at-mem run) (WpFn 𝓤 H (𝓣 .C) (𝓣 .Λ) code.function)
-      (λ κs. (slice-vals, (uint-vals w32, (uint-vals w64, (uint-vals w32, tt))))) (λ κs. (
-        mut-slice-tells (named 0)
-            (κs .0) T.the-row,
-        (uint-tells w32, (uint-tells w64, (uint-tells w32, tt))),
-      ))
+      (λ κs. (slice-vals, (uint-vals w32, (uint-vals w64, (uint-vals w32, tt)))))
+      (λ κs. (mut-slice-tells (named 0) (κs .0) T.the-row, (uint-tells w32, (uint-tells w64, (uint-tells w32, tt)))))
       (λ κs qs bounds a g are. via 𝓤 _ (fst∗ 𝓤 _ (emp 𝓤))
       (walk 𝓤 H A W at-mem run (κs .0) (qs .0) (a .0 .ptr .0) (a .0 .ptr .1) (a .0 .name) (a .0 .now) (a .1 .0) (a .1 .1 .0) (a .1 .1 .1 .0) (are .1 .0 .1)
       (are .1 .1 .0 .1) (are .1 .1 .1 .0 .1) 𝓣 known-draw known-number (are .0 .0 .1)))
@@ -186,12 +188,13 @@ module _ {M : Type 1} (𝓤 : URA M) (H : Heap 𝓤) (A : Atoms 𝓤) (W : Given
   cudreth-draw-meets = walk-meets 𝓤 H A cudreth-draw.ended stayed W (
     goes-gave-slice 𝓤 H A W 1 0 tt (plain (λ _. T.the-row)),
     (
-      goes-none 𝓤 H A W 1
-          (λ _. u32) yes (λ κs x f. refl),
-      (goes-none 𝓤 H A W 1 (λ _. usize) yes (λ κs x f. refl), (goes-none 𝓤 H A W 1 (λ _. u32) yes (λ κs x f. refl), tt)),
+      goes-none 𝓤 H A W 1 (λ _. u32) yes (λ κs x f. refl),
+      (
+        goes-none 𝓤 H A W 1 (λ _. usize) yes (λ κs x f. refl),
+        (goes-none 𝓤 H A W 1 (λ _. u32) yes (λ κs x f. refl), tt),
+      ),
     ),
-  )
-      (cudreth-draw.clauses 𝓤 H A at-mem run)
+  ) (cudreth-draw.clauses 𝓤 H A at-mem run)
       (WpFn 𝓤 H (𝓣 .C) (𝓣 .Λ) code.function) (WpFn-mono 𝓤 H (W .laws) 𝓣 code.function) cudreth-draw-walks
 
 pub cudreth-draw-spec : {M : Type 1} → stated.statement M
@@ -201,5 +204,5 @@ cudreth-draw-spec 𝓤 H 𝓜 𝓖 𝓡 =
     (tables 𝓤 H 𝓜 𝓡 code.env .C) (tables 𝓤 H 𝓜 𝓡 code.env .Λ) #capi·cudreth-draw code.function (code.unfolded 𝓤 H 𝓜 𝓡)
     (cudreth-draw-meets 𝓤 H (𝓖 .A) (givenOf 𝓤 H 𝓜 𝓖) (𝓜 .mem) (𝓡 .run) (tablesOf 𝓤 H 𝓜 (tables 𝓤 H 𝓜 𝓡 code.env))
     (cited 𝓤 H (Draw 𝓤 H (𝓖 .A) (𝓜 .mem) (𝓡 .run)) 𝓜 𝓡 code.env #centres·draw draw-def.routine code.calls-centres·draw (draw-thm.met 𝓤 H 𝓜 𝓖 𝓡))
-    (cited 𝓤 H (Number 𝓤 H (𝓖 .A) (𝓜 .mem)
-    (𝓡 .run)) 𝓜 𝓡 code.env #capi·draw-number number-def.routine code.calls-capi·draw-number (number-thm.met 𝓤 H 𝓜 𝓖 𝓡)))
+    (cited 𝓤 H (Number 𝓤 H (𝓖 .A) (𝓜 .mem) (𝓡 .run)) 𝓜 𝓡 code.env #capi·draw-number number-def.routine code.calls-capi·draw-number
+    (number-thm.met 𝓤 H 𝓜 𝓖 𝓡)))

@@ -55,11 +55,11 @@ use Rattle.meaning.specs.declared.Centre.{Centre}
 use Rattle.centres.specs.declared.Drawn.{Drawn}
 use Rattle.meaning.specs.Centres.{noCentre, Drawn as Drawn′, withDraw, added, listAfter}
 use Rattle.theory.specs.Centres.{drawing}
-use Rattle.centres.specs.Plain.{lookedAt, claim, questionOf}
+use Rattle.centres.specs.Plain.{lookedAt}
 use Rattle.centres.specs.Answers.{answered, answerOf}
-use Rattle.centres.proofs.Claims.{looked-few, Progress, started, one-on, inside, sum-fits}
-use Rattle.centres.proofs.Asked.{numberOf, question-found, question-missed, answer-is, granted-list, granted-cap, refused-list}
-use Rattle.centres.proofs.Callees.{Counted, WithClaim, Question, Answer, counted-said, with-claim-said, question-said, answer-said, to-counted, to-with-claim, to-question, to-answer, goes-counted, goes-with-claim, goes-question, goes-answer}
+use Rattle.centres.proofs.Claims.{claimOf, looked-few, Progress, started, one-on, inside, sum-fits}
+use Rattle.centres.proofs.Asked.{numberOf, questionFrom, question-found, question-missed, answer-is, granted-list, granted-cap, refused-list}
+use Rattle.centres.proofs.Callees.{claimArgs, questionArgs, Counted, WithClaim, Question, Answer, counted-said, with-claim-said, question-said, answer-said, to-counted, to-with-claim, to-question, to-answer, goes-counted, goes-with-claim, goes-question, goes-answer}
 use Rattle.meaning.proofs.Centre as T
 use Rattle.meaning.proofs.Centre.Laws as T′
 use Rattle.centres.proofs.Drawn as S
@@ -130,6 +130,12 @@ module _ {M : Type 1} (𝓤 : URA M) (H : Heap 𝓤) (A : Atoms 𝓤) (W : Given
   abbrev rec : ℕ → Centre
   rec i = getD ys i noCentre
 
+  abbrev own : Centre
+  own = rec centre
+
+  abbrev next : Progress ys → Centre
+  next p = rec (p .reached)
+
   abbrev recs : ℕ → List Val
   recs i = LL.vals T.the-type T′.the-laws (rec i)
 
@@ -140,19 +146,19 @@ module _ {M : Type 1} (𝓤 : URA M) (H : Heap 𝓤) (A : Atoms 𝓤) (W : Given
   Post = walkOf 𝓤 H A draw.ended stayed (draw.clauses 𝓤 H A at-mem run) .post (((κ, tt), (q, tt), tt, x, vals), tt)
 
   -- what the changed record owes: two fields as they were, and the third with the amount
-  made : Is T.the-row (rec centre) (recs centre) → rec centre .drawn + amount < 2 ^ 32
-      → Is T.the-row (withDraw (rec centre) amount) (mach centre (vint w32 (rec centre .drawn + amount)) ∷ [])
+  made : Is T.the-row own (recs centre) → own .drawn + amount < 2 ^ 32
+      → Is T.the-row (withDraw own amount) (mach centre (vint w32 (own .drawn + amount)) ∷ [])
   unfolding withDraw
-  made was fits = let fields = LL.owed T.the-type T′.the-laws (rec centre) _ was in
-      LL.owes T.the-type T′.the-laws (withDraw (rec centre) amount) (fields .0, (fields .1 .0, ((refl, fits), tt)))
+  made was fits = let fields = LL.owed T.the-type T′.the-laws own _ was in
+      LL.owes T.the-type T′.the-laws (withDraw own amount) (fields .0, (fields .1 .0, ((refl, fits), tt)))
 
   exits : Room T.the-row (length ys) → total < 2 ^ 32 → centre < 2 ^ 64 → amount < 2 ^ 32 → (r : Drawn) (u : Val) (zs : List Centre) → length zs ≡ length ys
       → (r ≡ answerOf meant) × (zs ≡ listAfter meant ys centre amount)
-      → ent 𝓤 (⋆ 𝓤 H A (‵ (S.the-row .own r (u ∷ [])) ∷ ‵ (fobs γ (codedHoleys T.the-row .code (heres T.the-row zs))) ∷
-      ‵ (fbor κ (Held T.the-row (length zs) b o γ)) ∷ ‵ (flft κ q) ∷ [])) (Post u)
+      → ent 𝓤 (⋆ 𝓤 H A (‵ (S.the-row .own r (u ∷ [])) ∷ ‵ (fobs γ (codedHoleys T.the-row .code (heres T.the-row zs))) ∷ ‵
+      (fbor κ (Held T.the-row (length zs) b o γ)) ∷ ‵ (flft κ q) ∷ [])) (Post u)
   exits gn gt gc ga r u zs len e =
-      qed W (‵ (S.the-row .own r (u ∷ [])) ∷ ‵ (fobs γ (codedHoleys T.the-row .code (heres T.the-row zs))) ∷ ‵ (fbor κ (Held T.the-row (length zs) b o γ)) ∷
-      ‵ (flft κ q) ∷ []) ∵
+      qed W (‵ (S.the-row .own r (u ∷ [])) ∷ ‵ (fobs γ (codedHoleys T.the-row .code (heres T.the-row zs))) ∷ ‵
+      (fbor κ (Held T.the-row (length zs) b o γ)) ∷ ‵ (flft κ q) ∷ []) ∵
       suffices ! _ (ends-at 𝓤 H A draw.ended stayed (draw.clauses 𝓤 H A at-mem run) W (((κ, tt), (q, tt), tt, x, vals), tt) u r (zs, (tt, (tt, (tt, tt))))
       (len, (tt, (tt, (tt, tt))))) $ says ! e $
       nothing ! $ move ! (4 ∷ 0 ∷ []) $ join ! $ frame ! $
@@ -161,11 +167,8 @@ module _ {M : Type 1} (𝓤 : URA M) (H : Heap 𝓤) (A : Atoms 𝓤) (W : Given
       owned ! usize (Is usize) (uint-makes 𝓤 H A W w64) centre _ (refl, gc) $ fjoin ! $
       owned ! u32 (Is u32) (uint-makes 𝓤 H A W w32) total _ (refl, gt) $ fjoin ! $
       move ! (2 ∷ 3 ∷ 0 ∷ []) $ fjoin ! $
-      pureI ! (at-slice T.the-row (record { ptr = (b, o); name = γ; now = zs }) (vals .0)) (tt, (tt, tt)) (
-        ap (λ (m : ℕ). sliceVal (b, o) m ∷ [])
-            (sym len),
-        subst (Room T.the-row) (sym len) gn,
-      ) $
+      pureI ! (at-slice T.the-row (record { ptr = (b, o); name = γ; now = zs }) (vals .0)) (tt, (tt, tt))
+      (ap (λ (m : ℕ). sliceVal (b, o) m ∷ []) (sym len), subst (Room T.the-row) (sym len) gn) $
       fjoin ! $ fjoin ! $ frame ! $ done !
 
   -- the offset of an element does not wrap
@@ -186,8 +189,8 @@ module _ {M : Type 1} (𝓤 : URA M) (H : Heap 𝓤) (A : Atoms 𝓤) (W : Given
   held t l v rest = ‵ (fat fullShare t l 0 v) ∷ ‵ (fdies t l) ∷ rest
 
   module _ (𝓣 : Tables 𝓤 H) (gn : Room T.the-row (length ys)) (gt : total < 2 ^ 32) (gc : centre < 2 ^ 64) (ga : amount < 2 ^ 32)
-      (known-with-claim : Triple 𝓤 (𝓣 .C #centres·with-claim) (WithClaim 𝓤 H A at-mem run)) (known-question : Triple 𝓤 (𝓣 .C #centres·question)
-      (Question 𝓤 H A at-mem run))
+      (known-with-claim : Triple 𝓤 (𝓣 .C #centres·with-claim) (WithClaim 𝓤 H A at-mem run))
+      (known-question : Triple 𝓤 (𝓣 .C #centres·question) (Question 𝓤 H A at-mem run))
       (known-answer : Triple 𝓤 (𝓣 .C #centres·answer) (Answer 𝓤 H A at-mem run))
       (l₀ l₁ l₂ l₃ l₄ l₅ l₆ l₇ l₈ l₉ l₁₀ l₁₁ l₁₂ l₁₃ l₁₄ l₁₅ l₁₆ l₁₇ l₁₈ l₁₉ l₂₀ l₂₁ l₂₂ l₂₃ : ℕ) where
     abbrev C : Calls 𝓤 H
@@ -204,8 +207,8 @@ module _ {M : Type 1} (𝓤 : URA M) (H : Heap 𝓤) (A : Atoms 𝓤) (W : Given
     -- the row, the open borrow, and the locals: claims, i and the question are given, the temporaries are room
     abbrev Ctx : List Centre → Item 𝓤 → Item 𝓤 → Item 𝓤 → Item 𝓤 → List (Item 𝓤)
     Ctx zs x₆ x₇ x₉ x₁₀ =
-        ‵ (row T.the-row fullShare zs b o) ∷ ‵ (fobor κ q (Held T.the-row (length ys) b o γ)) ∷
-        ‵ (fobs γ (codedHoleys T.the-row .code (heres T.the-row ys))) ∷ ‵ (fauth γ (codedHoleys T.the-row .code (heres T.the-row ys))) ∷
+        ‵ (row T.the-row fullShare zs b o) ∷ ‵ (fobor κ q (Held T.the-row (length ys) b o γ)) ∷ ‵
+        (fobs γ (codedHoleys T.the-row .code (heres T.the-row ys))) ∷ ‵ (fauth γ (codedHoleys T.the-row .code (heres T.the-row ys))) ∷
         room tyPtr l₂₃ (room word l₂₂ (room half l₂₁ (room tyBool l₂₀ (room T′.mir l₁₉ (room tyPtr l₁₈ (room word l₁₇ (room tyBool l₁₆
         (room T′.mir l₁₅ (room tyPtr l₁₄ (room word l₁₃ (room tyBool l₁₂ (room word l₁₁ (x₁₀ ∷ ‵ (fdies T′.mir l₁₀) ∷ x₉ ∷
         ‵ (fdies byte l₉) ∷ room T′.mir l₈ (x₇ ∷ ‵ (fdies word l₇) ∷ x₆ ∷ ‵ (fdies word l₆) ∷ held word l₅ (vint w64 n)
@@ -230,9 +233,10 @@ module _ {M : Type 1} (𝓤 : URA M) (H : Heap 𝓤) (A : Atoms 𝓤) (W : Given
         use0 W (raw (Answer 𝓤 H A at-mem run .pre (to-answer 𝓤 H A at-mem run k))) (goes-answer 𝓤 H A W at-mem run k gk) $
         calls-at ! (fmOf 𝓤 H (W .laws) 𝓣) (Answer 𝓤 H A at-mem run) known-answer (to-answer 𝓤 H A at-mem run k)
         (and-then ! (load ! (from ! (stop !)) (look ! (at 9) refl)) (no-more !)) (λ u.
-        use1 W (later (some (λ (r : Drawn). (‵ ftrue ⊛ ‵ (S.the-row .own r (u ∷ []))) ⊛ raw (ensured 𝓤 H A answer.ended (answer.clauses 𝓤 H A at-mem run) tt (k, tt) tt r)))) (id⊢ 𝓤 _) $ await ! tt $ pick ! (λ r.
-        split ! $ move ! (1 ∷ []) $ use1 W (raw (fact 𝓤 (r ≡ answered k))) (answer-said 𝓤 H A at-mem run k r) $ heard ! (r ≡ answered k) (λ e. split ! $
-        drop ! $
+        use1 W (later (some (λ (r : Drawn). (‵ ftrue ⊛ ‵ (S.the-row .own r (u ∷ []))) ⊛ raw
+        (ensured 𝓤 H A answer.ended (answer.clauses 𝓤 H A at-mem run) tt (k, tt) tt r)))) (id⊢ 𝓤 _) $ await ! tt $ pick ! (λ r.
+        split ! $ move ! (1 ∷ []) $ use1 W (raw (fact 𝓤 (r ≡ answered k))) (answer-said 𝓤 H A at-mem run k r) $
+        heard ! (r ≡ answered k) (λ e. split ! $ drop ! $
         peeks ! S.the-row (Is S.the-row) (shows 𝓤 H A S.the-row) r (u ∷ []) (λ is.
         -- [the result; obs; the borrow; the token; the locals]
         land ! (from ! (stop !)) (init ! (at 0) refl (EL.lawful S.the-type S′.the-laws 𝓤 H A W tt .typed r _ is .0)) $
@@ -260,32 +264,32 @@ module _ {M : Type 1} (𝓤 : URA M) (H : Heap 𝓤) (A : Atoms 𝓤) (W : Given
         first ! $ branches ! (load ! (from ! (stop !)) (look ! (at 16) refl)) (λ _.
         assigns ! (bin ! (load ! (from ! (stop !)) (look ! (at 3) refl)) (lit ! tt) (record { fits = scaled gn centre l })) (from ! (stop !))
         (init ! (at 17) refl (tt, record { fits = scaled gn centre l })) $
-        assigns ! (bin ! (load ! (from ! (fld ! refl (stop !))) (look-in ! (at 1) (sub ! 0 refl (whole !)))) (load ! (from ! (stop !))
-        (look ! (at 17) refl)) tt) (from ! (stop !)) (init ! (at 18) refl (tt, tt)) $
+        assigns ! (bin ! (load ! (from ! (fld ! refl (stop !))) (look-in ! (at 1) (sub ! 0 refl (whole !))))
+        (load ! (from ! (stop !)) (look ! (at 17) refl)) tt) (from ! (stop !)) (init ! (at 18) refl (tt, tt)) $
         rewrite ! (at 18) (λ (a : ℕ). ‵ (fat fullShare tyPtr l₁₈ 0 (vptr b a))) (sym (place-is 12 o centre)) refl $
         elem-out ! T.the-row (Is T.the-row) (shows 𝓤 H A T.the-row) (LL.vals T.the-type T′.the-laws)
         (LL.tells T.the-type T′.the-laws) fullShare ys centre noCentre b o l (λ was.
-        let fs = LL.owed T.the-type T′.the-laws (rec centre) _ was in let typed = LL.lawful T.the-type T′.the-laws 𝓤 H A W .typed (rec centre) _ was .0 in
+        let fs = LL.owed T.the-type T′.the-laws own _ was in let typed = LL.lawful T.the-type T′.the-laws 𝓤 H A W .typed own _ was .0 in
         -- [the record; what it owns; the others; the rest, two places further]
         assigns ! (of-opd ! (load ! (from ! (hop ! (look ! (2 + at 18) refl) (stop !))) (look-raw ! 0 refl))) (from ! (stop !))
         (init ! (2 + at 19) refl typed) $
         assigns ! (of-opd ! (load ! (from ! (stop !)) (look ! (2 + at 19) refl))) (from ! (stop !)) (init ! (2 + at 10) refl typed) $
         elem-back ! T.the-row fullShare ys centre noCentre (recs centre) b o l $
-        use0 W (raw (Question 𝓤 H A at-mem run .pre (to-question 𝓤 H A at-mem run (p .sum) total (rec centre .guarantee) (rec centre .cap)
-        (rec centre .drawn) amount)))
-        (goes-question 𝓤 H A W at-mem run (p .sum) total (rec centre .guarantee) (rec centre .cap)
-        (rec centre .drawn) amount (let s = sum-fits ys p in omega (arith, s)) gt (fs .0 .1) (fs .1 .0 .1) (fs .1 .1 .0 .1) ga) $
-        calls-at ! (fmOf 𝓤 H (W .laws) 𝓣) (Question 𝓤 H A at-mem run) known-question (to-question 𝓤 H A at-mem run (p .sum) total (rec centre .guarantee)
-        (rec centre .cap) (rec centre .drawn) amount) (and-then ! (load ! (from ! (stop !)) (look ! (1 + at 6) refl))
-        (and-then ! (load ! (from ! (stop !)) (look ! (1 + at 2) refl)) (and-then ! (load ! (from ! (fld ! refl (stop !))) (look-in ! (1 + at 10)
-        (sub ! 0 refl (whole !)))) (and-then ! (load ! (from ! (fld ! refl (stop !))) (look-in ! (1 + at 10) (sub ! 1 refl (whole !))))
-        (and-then ! (load ! (from ! (fld ! refl (stop !))) (look-in ! (1 + at 10) (sub ! 2 refl (whole !)))) (and-then ! (load ! (from ! (stop !))
-        (look ! (1 + at 4) refl)) (no-more !))))))) (λ u9.
-        use1 W (later (some (λ (r : ℕ). (‵ ftrue ⊛ ‵ (u8 .own r (u9 ∷ []))) ⊛ raw (ensured 𝓤 H A question.ended (question.clauses 𝓤 H A at-mem run) tt (p .sum, (total, (rec centre .guarantee, (rec centre .cap, (rec centre .drawn, (amount, tt)))))) tt r)))) (id⊢ 𝓤 _) $ await ! tt $ pick ! (λ r9.
-        split ! $ move ! (1 ∷ []) $ use1 W (raw (fact 𝓤 (r9 ≡ questionOf (p .sum) total (rec centre .guarantee) (rec centre .cap)
-        (rec centre .drawn) amount))) (question-said 𝓤 H A at-mem run (p .sum) total (rec centre .guarantee) (rec centre .cap)
-        (rec centre .drawn) amount r9) $ heard ! (r9 ≡ questionOf (p .sum) total (rec centre .guarantee) (rec centre .cap) (rec centre .drawn) amount)
-        (λ e9. split ! $ drop ! $
+        use0 W (raw (Question 𝓤 H A at-mem run .pre (to-question 𝓤 H A at-mem run (p .sum) total own amount)))
+        (goes-question 𝓤 H A W at-mem run (p .sum) total own amount (let s = sum-fits ys p in omega (arith, s)) gt (fs .0 .1) (fs .1 .0 .1)
+        (fs .1 .1 .0 .1) ga) $
+        calls-at ! (fmOf 𝓤 H (W .laws) 𝓣) (Question 𝓤 H A at-mem run) known-question (to-question 𝓤 H A at-mem run (p .sum) total own amount)
+        (and-then ! (load ! (from ! (stop !)) (look ! (1 + at 6) refl))
+        (and-then ! (load ! (from ! (stop !)) (look ! (1 + at 2) refl))
+        (and-then ! (load ! (from ! (fld ! refl (stop !))) (look-in ! (1 + at 10) (sub ! 0 refl (whole !))))
+        (and-then ! (load ! (from ! (fld ! refl (stop !))) (look-in ! (1 + at 10) (sub ! 1 refl (whole !))))
+        (and-then ! (load ! (from ! (fld ! refl (stop !))) (look-in ! (1 + at 10) (sub ! 2 refl (whole !))))
+        (and-then ! (load ! (from ! (stop !)) (look ! (1 + at 4) refl)) (no-more !))))))) (λ u9.
+        use1 W (later (some (λ (r : ℕ). (‵ ftrue ⊛ ‵ (u8 .own r (u9 ∷ []))) ⊛ raw
+        (ensured 𝓤 H A question.ended (question.clauses 𝓤 H A at-mem run) tt (questionArgs (p .sum) total own amount) tt r)))) (id⊢ 𝓤 _) $ await ! tt $
+        pick ! (λ r9.
+        split ! $ move ! (1 ∷ []) $ use1 W (raw (fact 𝓤 (r9 ≡ questionFrom (p .sum) total own amount)))
+        (question-said 𝓤 H A at-mem run (p .sum) total own amount r9) $ heard ! (r9 ≡ questionFrom (p .sum) total own amount) (λ e9. split ! $ drop ! $
         peeks ! u8 (Is u8) (shows 𝓤 H A u8) r9 (u9 ∷ []) (λ is9.
         land ! (from ! (stop !)) (store ! (1 + at 9) refl (uint-lawful 𝓤 H A W w8 .typed r9 _ is9 .0)) $ drop ! $
         rewrite ! (at 9) (λ (us : List Val). ‵ (fat fullShare (tyInt w8) l₉ 0 (only us))) (is9 .0 ∙ ap (λ (k : ℕ). vint w8 k ∷ []) (e9 ∙ asked)) refl $
@@ -293,28 +297,29 @@ module _ {M : Type 1} (𝓤 : URA M) (H : Heap 𝓤) (A : Atoms 𝓤) (W : Given
         (let fits-8 = subst (λ (k : ℕ). k < 2 ^ 8) (e9 ∙ asked) (is9 .1) in
         assigns ! (bin ! (load ! (from ! (stop !)) (look ! (at 9) refl)) (lit ! tt) tt) (from ! (stop !)) (init ! (at 20) refl (tt, tt)) $
         branches ! (load ! (from ! (stop !)) (look ! (at 20) refl)) (λ none.
-        (let zero = eqb→eq (numberOf meant) 0 none in let fits : rec centre .drawn + amount < 2 ^ 32 = (let c = granted-cap total ys centre amount zero in let k = fs .1 .0 .1 in omega (arith, c, k)) in
-        assigns ! (bin ! (load ! (from ! (fld ! refl (stop !))) (look-in ! (at 10) (sub ! 2 refl (whole !)))) (load ! (from ! (stop !)) (look ! (at 4) refl))
-        (record { fits = fits })) (from ! (stop !)) (init ! (at 21) refl (tt, record { fits = fits })) $
+        (let zero = eqb→eq (numberOf meant) 0 none in let fits : own .drawn + amount < 2 ^ 32 =
+        (let c = granted-cap total ys centre amount zero in let k = fs .1 .0 .1 in omega (arith, c, k)) in
+        assigns ! (bin ! (load ! (from ! (fld ! refl (stop !))) (look-in ! (at 10) (sub ! 2 refl (whole !))))
+        (load ! (from ! (stop !)) (look ! (at 4) refl)) (record { fits = fits })) (from ! (stop !)) (init ! (at 21) refl (tt, record { fits = fits })) $
         assigns ! (bin ! (load ! (from ! (stop !)) (look ! (at 3) refl)) (lit ! tt) (record { fits = scaled gn centre l })) (from ! (stop !))
         (init ! (at 22) refl (tt, record { fits = scaled gn centre l })) $
-        assigns ! (bin ! (load ! (from ! (fld ! refl (stop !))) (look-in ! (at 1) (sub ! 0 refl (whole !)))) (load ! (from ! (stop !))
-        (look ! (at 22) refl)) tt) (from ! (stop !)) (init ! (at 23) refl (tt, tt)) $
+        assigns ! (bin ! (load ! (from ! (fld ! refl (stop !))) (look-in ! (at 1) (sub ! 0 refl (whole !))))
+        (load ! (from ! (stop !)) (look ! (at 22) refl)) tt) (from ! (stop !)) (init ! (at 23) refl (tt, tt)) $
         rewrite ! (at 23) (λ (a : ℕ). ‵ (fat fullShare tyPtr l₂₃ 0 (vptr b a))) (sym (place-is 12 o centre)) refl $
         elem-out ! T.the-row (Is T.the-row) (shows 𝓤 H A T.the-row) (LL.vals T.the-type T′.the-laws)
         (LL.tells T.the-type T′.the-laws) fullShare ys centre noCentre b o l (λ _.
         assigns-last ! (of-opd ! (load ! (from ! (stop !)) (look ! (2 + at 21) refl))) (from ! (hop ! (look ! (2 + at 23) refl) (fld ! refl (stop !))))
         (store-in ! 0 (sub ! 2 refl (whole !)) (tt, record { fits = fits })) $
         exec ! C Λ En mirs.t-9 (atRet En Post) $
-        move ! (1 ∷ []) $ drop ! $ owned ! T.the-row (Is T.the-row) ((LL.makes T.the-type T′.the-plain) 𝓤 H A)
-        (withDraw (rec centre) amount) _ (made was fits) $ move ! (1 ∷ 0 ∷ []) $
-        elem-put ! T.the-row fullShare ys centre (withDraw (rec centre) amount) (mach centre (vint w32 (rec centre .drawn + amount)) ∷ []) b o l $
+        move ! (1 ∷ []) $ drop ! $ owned ! T.the-row (Is T.the-row) ((LL.makes T.the-type T′.the-plain) 𝓤 H A) (withDraw own amount) _ (made was fits) $
+        move ! (1 ∷ 0 ∷ []) $
+        elem-put ! T.the-row fullShare ys centre (withDraw own amount) (mach centre (vint w32 (own .drawn + amount)) ∷ []) b o l $
         forget ! (at 10) refl $ forget ! (at 20) refl $ forget ! (at 21) refl $ forget ! (at 22) refl $ forget ! (at 23) refl $
-        ends p (set ys centre (withDraw (rec centre) amount)) (numberOf meant)
-        (length-set ys centre _) fits-8 refl (sym (granted-list total ys centre amount zero)))))
+        ends p (set ys centre (withDraw own amount)) (numberOf meant) (length-set ys centre _) fits-8 refl
+        (sym (granted-list total ys centre amount zero)))))
         (λ some-no. skips ! $ exec ! C Λ En mirs.t-9 (atRet En Post) $ forget ! (at 10) refl $ forget ! (at 20) refl $
-        ends p ys (numberOf meant) refl fits-8 refl (sym (refused-list total ys centre amount (λ e. T-not (eqb (numberOf meant) 0) some-no (subst
-        (λ (k : ℕ). T (eqb (numberOf meant) k)) e (eqb-refl (numberOf meant))))))))))))))
+        ends p ys (numberOf meant) refl fits-8 refl (sym (refused-list total ys centre amount
+        (λ e. T-not (eqb (numberOf meant) 0) some-no (subst (λ (k : ℕ). T (eqb (numberOf meant) k)) e (eqb-refl (numberOf meant))))))))))))))
         (λ over′. absurd (T-not (ltb centre n) over′ (lt→ltb centre n less)))
 
     -- the centre is not there, or the list is too long
@@ -326,11 +331,12 @@ module _ {M : Type 1} (𝓤 : URA M) (H : Heap 𝓤) (A : Atoms 𝓤) (W : Given
         (init ! (at 16) refl (tt, tt)) $
         first ! $ branches ! (load ! (from ! (stop !)) (look ! (at 16) refl)) (λ less. absurd (let l = ltb→lt centre n less in omega (arith, past, l)))
         (λ _. skips ! $ exec ! C Λ En mirs.t-9 (atRet En Post) $ forget ! (at 16) refl $
-        (let e = question-missed total ys centre amount past in ends p ys 18 refl (lit< tt) (sym (ap numberOf e)) (sym (ap
-        (λ (r : Drawn′). listAfter r ys centre amount) e))))
+        (let e = question-missed total ys centre amount past in
+        ends p ys 18 refl (lit< tt) (sym (ap numberOf e)) (sym (ap (λ (r : Drawn′). listAfter r ys centre amount) e))))
 
     abbrev Turned : Progress ys → Out → SProp 𝓤
-    Turned i = afterTurn 𝓤 H (Below 𝓤 H A Nearer At i) (afterBlock 𝓤 H (afterSeq 𝓤 H (Wp 𝓤 H C Λ En mirs.t-6 (atReturn 𝓤 H En Post)) (atReturn 𝓤 H En Post)))
+    Turned i = afterTurn 𝓤 H (Below 𝓤 H A Nearer At i) (afterBlock 𝓤 H
+        (afterSeq 𝓤 H (Wp 𝓤 H C Λ En mirs.t-6 (atReturn 𝓤 H En Post)) (atReturn 𝓤 H En Post)))
 
     ends-below : (p : Progress ys) → p .reached < 2 ^ 64
     ends-below p = let a = p .upto in let b = looked-few (length ys) in omega (arith, a, b)
@@ -346,38 +352,37 @@ module _ {M : Type 1} (𝓤 : URA M) (H : Heap 𝓤) (A : Atoms 𝓤) (W : Given
         stays ! (load ! (from ! (stop !)) (look ! (at 12) refl)) $
         assigns ! (bin ! (load ! (from ! (stop !)) (look ! (at 7) refl)) (lit ! tt) (record { fits = scaled gn (p .reached) l })) (from ! (stop !))
         (init ! (at 13) refl (tt, record { fits = scaled gn (p .reached) l })) $
-        assigns ! (bin ! (load ! (from ! (fld ! refl (stop !))) (look-in ! (at 1) (sub ! 0 refl (whole !)))) (load ! (from ! (stop !))
-        (look ! (at 13) refl)) tt) (from ! (stop !)) (init ! (at 14) refl (tt, tt)) $
+        assigns ! (bin ! (load ! (from ! (fld ! refl (stop !))) (look-in ! (at 1) (sub ! 0 refl (whole !))))
+        (load ! (from ! (stop !)) (look ! (at 13) refl)) tt) (from ! (stop !)) (init ! (at 14) refl (tt, tt)) $
         rewrite ! (at 14) (λ (a : ℕ). ‵ (fat fullShare tyPtr l₁₄ 0 (vptr b a))) (sym (place-is 12 o (p .reached))) refl $
-        elem-out ! T.the-row (Is T.the-row) (shows 𝓤 H A T.the-row) (LL.vals T.the-type T′.the-laws)
-        (LL.tells T.the-type T′.the-laws) fullShare ys (p .reached) noCentre b o l (λ was.
-        let fs = LL.owed T.the-type T′.the-laws (rec (p .reached)) _ was in let typed = LL.lawful T.the-type T′.the-laws 𝓤 H A W .typed (rec (p .reached)) _ was .0 in
+        elem-out ! T.the-row (Is T.the-row) (shows 𝓤 H A T.the-row) (LL.vals T.the-type T′.the-laws) (LL.tells T.the-type T′.the-laws) fullShare ys
+        (p .reached) noCentre b o l (λ was.
+        let fs = LL.owed T.the-type T′.the-laws (next p) _ was in let typed = LL.lawful T.the-type T′.the-laws 𝓤 H A W .typed (next p) _ was .0 in
         assigns ! (of-opd ! (load ! (from ! (hop ! (look ! (2 + at 14) refl) (stop !))) (look-raw ! 0 refl))) (from ! (stop !))
         (init ! (2 + at 15) refl typed) $
         assigns ! (of-opd ! (load ! (from ! (stop !)) (look ! (2 + at 15) refl))) (from ! (stop !)) (init ! (2 + at 8) refl typed) $
         elem-back ! T.the-row fullShare ys (p .reached) noCentre (recs (p .reached)) b o l $
-        use0 W (raw (WithClaim 𝓤 H A at-mem run .pre (to-with-claim 𝓤 H A at-mem run (p .sum) (rec (p .reached) .guarantee) (rec (p .reached) .cap)
-        (rec (p .reached) .drawn))))
-        (goes-with-claim 𝓤 H A W at-mem run (p .sum) (rec (p .reached) .guarantee) (rec (p .reached) .cap) (rec (p .reached) .drawn) (sum-fits ys p)
-        (let s = sum-fits ys p in omega (arith, s)) (fs .0 .1) (fs .1 .0 .1) (fs .1 .1 .0 .1)) $
-        calls-at ! (fmOf 𝓤 H (W .laws) 𝓣) (WithClaim 𝓤 H A at-mem run) known-with-claim (to-with-claim 𝓤 H A at-mem run (p .sum)
-        (rec (p .reached) .guarantee) (rec (p .reached) .cap) (rec (p .reached) .drawn)) (and-then ! (load ! (from ! (stop !)) (look ! (1 + at 6) refl))
+        use0 W (raw (WithClaim 𝓤 H A at-mem run .pre (to-with-claim 𝓤 H A at-mem run (p .sum) (next p))))
+        (goes-with-claim 𝓤 H A W at-mem run (p .sum) (next p) (sum-fits ys p) (let s = sum-fits ys p in omega (arith, s)) (fs .0 .1) (fs .1 .0 .1)
+        (fs .1 .1 .0 .1)) $
+        calls-at ! (fmOf 𝓤 H (W .laws) 𝓣) (WithClaim 𝓤 H A at-mem run) known-with-claim (to-with-claim 𝓤 H A at-mem run (p .sum) (next p))
+        (and-then ! (load ! (from ! (stop !)) (look ! (1 + at 6) refl))
         (and-then ! (load ! (from ! (fld ! refl (stop !))) (look-in ! (1 + at 8) (sub ! 0 refl (whole !))))
         (and-then ! (load ! (from ! (fld ! refl (stop !))) (look-in ! (1 + at 8) (sub ! 1 refl (whole !))))
         (and-then ! (load ! (from ! (fld ! refl (stop !))) (look-in ! (1 + at 8) (sub ! 2 refl (whole !)))) (no-more !))))) (λ u6.
-        use1 W (later (some (λ (r : ℕ). (‵ ftrue ⊛ ‵ (u64 .own r (u6 ∷ []))) ⊛ raw (ensured 𝓤 H A with-claim.ended (with-claim.clauses 𝓤 H A at-mem run) tt (p .sum, (rec (p .reached) .guarantee, (rec (p .reached) .cap, (rec (p .reached) .drawn, tt)))) tt r)))) (id⊢ 𝓤 _) $ await ! tt $ pick ! (λ r6.
-        split ! $ move ! (1 ∷ []) $ use1 W (raw (fact 𝓤 (r6 ≡ p .sum + claim (rec (p .reached) .guarantee) (rec (p .reached) .cap)
-        (rec (p .reached) .drawn)))) (with-claim-said 𝓤 H A at-mem run (p .sum) (rec (p .reached) .guarantee) (rec (p .reached) .cap)
-        (rec (p .reached) .drawn) r6) $ heard ! (r6 ≡ p .sum + claim (rec (p .reached) .guarantee) (rec (p .reached) .cap) (rec (p .reached) .drawn))
-        (λ e6. split ! $ drop ! $
+        use1 W (later (some (λ (r : ℕ). (‵ ftrue ⊛ ‵ (u64 .own r (u6 ∷ []))) ⊛ raw
+        (ensured 𝓤 H A with-claim.ended (with-claim.clauses 𝓤 H A at-mem run) tt (claimArgs (p .sum) (next p)) tt r)))) (id⊢ 𝓤 _) $ await ! tt $
+        pick ! (λ r6.
+        split ! $ move ! (1 ∷ []) $ use1 W (raw (fact 𝓤 (r6 ≡ p .sum + claimOf (next p)))) (with-claim-said 𝓤 H A at-mem run (p .sum) (next p) r6) $
+        heard ! (r6 ≡ p .sum + claimOf (next p)) (λ e6. split ! $ drop ! $
         peeks ! u64 (Is u64) (shows 𝓤 H A u64) r6 (u6 ∷ []) (λ is6.
         land ! (from ! (stop !)) (store ! (1 + at 6) refl (uint-lawful 𝓤 H A W w64 .typed r6 _ is6 .0)) $ drop ! $
         rewrite ! (at 6) (λ (us : List Val). ‵ (fat fullShare (tyInt w64) l₆ 0 (only us))) (is6 .0 ∙ ap (λ (k : ℕ). vint w64 k ∷ []) e6) refl $
-        (let next = one-on ys p within (fs .1 .0 .1) in
-        assigns-last ! (bin ! (load ! (from ! (stop !)) (look ! (at 7) refl)) (lit ! tt) (record { fits = ends-below next })) (from ! (stop !))
-        (store ! (at 7) refl (tt, record { fits = ends-below next })) $
+        (let after = one-on ys p within (fs .1 .0 .1) in
+        assigns-last ! (bin ! (load ! (from ! (stop !)) (look ! (at 7) refl)) (lit ! tt) (record { fits = ends-below after })) (from ! (stop !))
+        (store ! (at 7) refl (tt, record { fits = ends-below after })) $
         forget ! (at 12) refl $ forget ! (at 13) refl $ forget ! (at 14) refl $ forget ! (at 15) refl $ forget ! (at 8) refl $
-        again ! Nearer At p next (add-one-dec n (p .reached) within)))))))
+        again ! Nearer At p after (add-one-dec n (p .reached) within)))))))
 
     -- the turn that leaves the loop
     leave : (p : Progress ys) → ltb (p .reached) n ≡ false → Sq W (At p) (runs C Λ En mirs.turn-1 (anyQ (Turned p)))
@@ -412,7 +417,8 @@ module _ {M : Type 1} (𝓤 : URA M) (H : Heap 𝓤) (A : Atoms 𝓤) (W : Given
         use0 W (raw (Counted 𝓤 H A at-mem run .pre (to-counted 𝓤 H A at-mem run (length ys)))) (goes-counted 𝓤 H A W at-mem run (length ys) (gn .0)) $
         calls-at ! (fmOf 𝓤 H (W .laws) 𝓣) (Counted 𝓤 H A at-mem run) known-counted (to-counted 𝓤 H A at-mem run (length ys))
         (and-then ! (load ! (from ! (stop !)) (look ! (at 11 - 3) refl)) (no-more !)) (λ u.
-        use1 W (later (some (λ (r : ℕ). (‵ ftrue ⊛ ‵ (usize .own r (u ∷ []))) ⊛ raw (ensured 𝓤 H A counted.ended (counted.clauses 𝓤 H A at-mem run) tt (length ys, tt) tt r)))) (id⊢ 𝓤 _) $ await ! tt $ pick ! (λ r.
+        use1 W (later (some (λ (r : ℕ). (‵ ftrue ⊛ ‵ (usize .own r (u ∷ []))) ⊛ raw
+        (ensured 𝓤 H A counted.ended (counted.clauses 𝓤 H A at-mem run) tt (length ys, tt) tt r)))) (id⊢ 𝓤 _) $ await ! tt $ pick ! (λ r.
         split ! $ move ! (1 ∷ []) $ use1 W (raw (fact 𝓤 (r ≡ n))) (counted-said 𝓤 H A at-mem run (length ys) r) $ heard ! (r ≡ n) (λ e. split ! $ drop ! $
         peeks ! usize (Is usize) (shows 𝓤 H A usize) r (u ∷ []) (λ is.
         land ! (from ! (stop !)) (init ! (at 5 - 3) refl (uint-lawful 𝓤 H A W w64 .typed r _ is .0)) $ drop ! $
@@ -425,47 +431,47 @@ module _ {M : Type 1} (𝓤 : URA M) (H : Heap 𝓤) (A : Atoms 𝓤) (W : Given
         32 ∷ 33 ∷ 34 ∷ 35 ∷ 36 ∷ 37 ∷ 38 ∷ 39 ∷ 40 ∷ 41 ∷ 42 ∷ 43 ∷ 44 ∷ 45 ∷ 46 ∷ 47 ∷ 48 ∷ 49 ∷ 50 ∷ 51 ∷ 52 ∷ 53 ∷ 54 ∷ []) $ looped))))
 
   module _ (𝓣 : Tables 𝓤 H) (known-counted : Triple 𝓤 (𝓣 .C #centres·counted) (Counted 𝓤 H A at-mem run))
-      (known-with-claim : Triple 𝓤 (𝓣 .C #centres·with-claim) (WithClaim 𝓤 H A at-mem run)) (known-question : Triple 𝓤 (𝓣 .C #centres·question)
-      (Question 𝓤 H A at-mem run))
+      (known-with-claim : Triple 𝓤 (𝓣 .C #centres·with-claim) (WithClaim 𝓤 H A at-mem run))
+      (known-question : Triple 𝓤 (𝓣 .C #centres·question) (Question 𝓤 H A at-mem run))
       (known-answer : Triple 𝓤 (𝓣 .C #centres·answer) (Answer 𝓤 H A at-mem run)) where
     walk : Room T.the-row (length ys) → total < 2 ^ 32 → centre < 2 ^ 64 → amount < 2 ^ 32 → ent 𝓤 (onEntry 𝓤 H A draw.signature (κ, tt) (q, tt) x vals)
         (WpFn 𝓤 H (𝓣 .C) (𝓣 .Λ) code.function (sliceVal (b, o) (length ys) ∷ vint w32 total ∷ vint w64 centre ∷ vint w32 amount ∷ []) Post)
     walk gn gt gc ga =
-        qed W ((‵ (flft κ q) ⊛ ‵ ftrue) ∷ ‵ (owns (MutSlice (named 0) κ T.the-row ∷ u32 ∷ usize ∷ u32 ∷ []) x vals) ∷ []) ∵ enter ! (𝓣 .C)
-        (𝓣 .Λ) code.function (sliceVal (b, o) (length ys) ∷ vint w32 total ∷ vint w64 centre ∷ vint w32 amount ∷ []) _ $
-        alloc1 ! (λ l₀. alloc1 ! (λ l₁. alloc1 ! (λ l₂. alloc1 ! (λ l₃. alloc1 ! (λ l₄. alloc1 ! (λ l₅. alloc1 ! (λ l₆. alloc1 ! (λ l₇. alloc1 !
-        (λ l₈. alloc1 ! (λ l₉. alloc1 ! (λ l₁₀. alloc1 ! (λ l₁₁. alloc1 ! (λ l₁₂. alloc1 ! (λ l₁₃. alloc1 ! (λ l₁₄. alloc1 ! (λ l₁₅. alloc1 !
-        (λ l₁₆. alloc1 ! (λ l₁₇. alloc1 ! (λ l₁₈. alloc1 ! (λ l₁₉. alloc1 ! (λ l₂₀. alloc1 ! (λ l₂₁. alloc1 ! (λ l₂₂. alloc1 ! (λ l₂₃. alloc0 ! $
-        params1 ! $
+        qed W ((‵ (flft κ q) ⊛ ‵ ftrue) ∷ ‵ (owns (MutSlice (named 0) κ T.the-row ∷ u32 ∷ usize ∷ u32 ∷ []) x vals) ∷ []) ∵
+        enter ! (𝓣 .C) (𝓣 .Λ) code.function (sliceVal (b, o) (length ys) ∷ vint w32 total ∷ vint w64 centre ∷ vint w32 amount ∷ []) _ $
+        alloc1 ! (λ l₀. alloc1 ! (λ l₁. alloc1 ! (λ l₂. alloc1 ! (λ l₃. alloc1 ! (λ l₄. alloc1 ! (λ l₅. alloc1 ! (λ l₆. alloc1 ! (λ l₇.
+        alloc1 ! (λ l₈. alloc1 ! (λ l₉. alloc1 ! (λ l₁₀. alloc1 ! (λ l₁₁. alloc1 ! (λ l₁₂. alloc1 ! (λ l₁₃. alloc1 ! (λ l₁₄. alloc1 ! (λ l₁₅.
+        alloc1 ! (λ l₁₆. alloc1 ! (λ l₁₇. alloc1 ! (λ l₁₈. alloc1 ! (λ l₁₉. alloc1 ! (λ l₂₀. alloc1 ! (λ l₂₁. alloc1 ! (λ l₂₂.
+        alloc1 ! (λ l₂₃. alloc0 ! $ params1 ! $
         pass1 ! (init ! (at 1 - 4) refl (tt, (tt, (record { fits = gn .0 }, tt)))) $ pass1 ! (init ! (at 2 - 4) refl (tt, record { fits = gt })) $
         pass1 ! (init ! (at 3 - 4) refl (tt, record { fits = gc })) $ pass1 ! (init ! (at 4 - 4) refl (tt, record { fits = ga })) $ pass0 ! $
         begun 𝓣 gn gt gc ga known-with-claim known-question known-answer l₀ l₁ l₂ l₃ l₄ l₅ l₆ l₇ l₈ l₉ l₁₀ l₁₁ l₁₂ l₁₃ l₁₄ l₁₅ l₁₆ l₁₇ l₁₈ l₁₉ l₂₀ l₂₁ l₂₂ l₂₃ known-counted))))))))))))))))))))))))
 
 module _ {M : Type 1} (𝓤 : URA M) (H : Heap 𝓤) (A : Atoms 𝓤) (W : Given 𝓤 H A) (at-mem : Memory → SProp 𝓤) (run : Routine → Fun 𝓤) (𝓣 : Tables 𝓤 H)
-    (known-counted : Triple 𝓤 (𝓣 .C #centres·counted) (Counted 𝓤 H A at-mem run)) (known-with-claim : Triple 𝓤 (𝓣 .C #centres·with-claim)
-    (WithClaim 𝓤 H A at-mem run)) (known-question : Triple 𝓤 (𝓣 .C #centres·question) (Question 𝓤 H A at-mem run))
+    (known-counted : Triple 𝓤 (𝓣 .C #centres·counted) (Counted 𝓤 H A at-mem run))
+    (known-with-claim : Triple 𝓤 (𝓣 .C #centres·with-claim) (WithClaim 𝓤 H A at-mem run))
+    (known-question : Triple 𝓤 (𝓣 .C #centres·question) (Question 𝓤 H A at-mem run))
     (known-answer : Triple 𝓤 (𝓣 .C #centres·answer) (Answer 𝓤 H A at-mem run)) where
   draw-walks : Walks 𝓤 H A draw.ended stayed (WpFn 𝓤 H (𝓣 .C) (𝓣 .Λ) code.function) (draw.clauses 𝓤 H A at-mem run)
   draw-walks = walked 𝓤 H A draw.ended stayed (draw.clauses 𝓤 H A at-mem run) (WpFn 𝓤 H (𝓣 .C) (𝓣 .Λ) code.function)
-      (λ κs. (slice-vals, (uint-vals w32, (uint-vals w64, (uint-vals w32, tt))))) (λ κs. (
-        mut-slice-tells (named 0)
-            (κs .0) T.the-row,
-        (uint-tells w32, (uint-tells w64, (uint-tells w32, tt))),
-      ))
+      (λ κs. (slice-vals, (uint-vals w32, (uint-vals w64, (uint-vals w32, tt)))))
+      (λ κs. (mut-slice-tells (named 0) (κs .0) T.the-row, (uint-tells w32, (uint-tells w64, (uint-tells w32, tt)))))
       (λ κs qs bounds a g are. via 𝓤 _ (fst∗ 𝓤 _ (emp 𝓤))
       (walk 𝓤 H A W at-mem run (κs .0) (qs .0) (a .0 .ptr .0) (a .0 .ptr .1) (a .0 .name) (a .0 .now) (a .1 .0) (a .1 .1 .0)
-      (a .1 .1 .1 .0) 𝓣 known-counted known-with-claim known-question known-answer (are .0 .0 .1) (are .1 .0 .1) (are .1 .1 .0 .1) (are .1 .1 .1 .0 .1)))
+      (a .1 .1 .1 .0) 𝓣 known-counted known-with-claim known-question known-answer (are .0 .0 .1) (are .1 .0 .1) (are .1 .1 .0 .1)
+      (are .1 .1 .1 .0 .1)))
 
   draw-meets : Meets 𝓤 H A draw.signature (WpFn 𝓤 H (𝓣 .C) (𝓣 .Λ) code.function) (draw.spec 𝓤 H A at-mem run)
   draw-meets = walk-meets 𝓤 H A draw.ended stayed W (
     goes-slice 𝓤 H A W 1 0 tt (plain (λ _. T.the-row)),
     (
-      goes-none 𝓤 H A W 1 (λ _. u32) yes
-          (λ κs x f. refl),
-      (goes-none 𝓤 H A W 1 (λ _. usize) yes (λ κs x f. refl), (goes-none 𝓤 H A W 1 (λ _. u32) yes (λ κs x f. refl), tt)),
+      goes-none 𝓤 H A W 1 (λ _. u32) yes (λ κs x f. refl),
+      (
+        goes-none 𝓤 H A W 1 (λ _. usize) yes (λ κs x f. refl),
+        (goes-none 𝓤 H A W 1 (λ _. u32) yes (λ κs x f. refl), tt),
+      ),
     ),
-  )
-      (draw.clauses 𝓤 H A at-mem run)
+  ) (draw.clauses 𝓤 H A at-mem run)
       (WpFn 𝓤 H (𝓣 .C) (𝓣 .Λ) code.function) (WpFn-mono 𝓤 H (W .laws) 𝓣 code.function) draw-walks
 
 pub draw-spec : {M : Type 1} → stated.statement M
@@ -474,10 +480,10 @@ draw-spec 𝓤 H 𝓜 𝓖 𝓡 =
     entered 𝓤 H (tripleOf 𝓤 H (𝓖 .A) draw.signature (draw.spec 𝓤 H (𝓖 .A) (𝓜 .mem) (𝓡 .run)))
     (tables 𝓤 H 𝓜 𝓡 code.env .C) (tables 𝓤 H 𝓜 𝓡 code.env .Λ) #centres·draw code.function (code.unfolded 𝓤 H 𝓜 𝓡)
     (draw-meets 𝓤 H (𝓖 .A) (givenOf 𝓤 H 𝓜 𝓖) (𝓜 .mem) (𝓡 .run) (tablesOf 𝓤 H 𝓜 (tables 𝓤 H 𝓜 𝓡 code.env))
-    (cited 𝓤 H (Counted 𝓤 H (𝓖 .A) (𝓜 .mem)
-    (𝓡 .run)) 𝓜 𝓡 code.env #centres·counted counted-def.routine code.calls-centres·counted (counted-thm.met 𝓤 H 𝓜 𝓖 𝓡))
-    (cited 𝓤 H (WithClaim 𝓤 H (𝓖 .A) (𝓜 .mem)
-    (𝓡 .run)) 𝓜 𝓡 code.env #centres·with-claim with-claim-def.routine code.calls-centres·with-claim (with-claim-thm.met 𝓤 H 𝓜 𝓖 𝓡))
-    (cited 𝓤 H (Question 𝓤 H (𝓖 .A) (𝓜 .mem)
-    (𝓡 .run)) 𝓜 𝓡 code.env #centres·question question-def.routine code.calls-centres·question (question-thm.met 𝓤 H 𝓜 𝓖 𝓡))
+    (cited 𝓤 H (Counted 𝓤 H (𝓖 .A) (𝓜 .mem) (𝓡 .run)) 𝓜 𝓡 code.env #centres·counted counted-def.routine code.calls-centres·counted
+    (counted-thm.met 𝓤 H 𝓜 𝓖 𝓡))
+    (cited 𝓤 H (WithClaim 𝓤 H (𝓖 .A) (𝓜 .mem) (𝓡 .run)) 𝓜 𝓡 code.env #centres·with-claim with-claim-def.routine code.calls-centres·with-claim
+    (with-claim-thm.met 𝓤 H 𝓜 𝓖 𝓡))
+    (cited 𝓤 H (Question 𝓤 H (𝓖 .A) (𝓜 .mem) (𝓡 .run)) 𝓜 𝓡 code.env #centres·question question-def.routine code.calls-centres·question
+    (question-thm.met 𝓤 H 𝓜 𝓖 𝓡))
     (cited 𝓤 H (Answer 𝓤 H (𝓖 .A) (𝓜 .mem) (𝓡 .run)) 𝓜 𝓡 code.env #centres·answer answer-def.routine code.calls-centres·answer (answer-thm.met 𝓤 H 𝓜 𝓖 𝓡)))

@@ -3,8 +3,6 @@ use Rattle.sheet.proofs.Small.{numbered-yes, numbered-no}
 use borrow.Author.Needs.{needs}
 use Rattle.sheet.proofs.number.Statement.{statement}
 use Rattle.sheet.proofs.number.Tie as tie
-use Rattle.sheet.proofs.number.Reads as reads
-use Rattle.sheet.proofs.number.Lts as lts
 
 element-copy-out-next : tie.Need-element-copy-out-next
 element-copy-out-next c = search needs

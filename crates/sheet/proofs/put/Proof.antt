@@ -2,8 +2,6 @@ use Rattle.sheet.proofs.Small.{put-full, put-more}
 use borrow.Author.Needs.{needs}
 use Rattle.sheet.proofs.put.Statement.{statement}
 use Rattle.sheet.proofs.put.Tie as tie
-use Rattle.sheet.proofs.put.Reads as reads
-use Rattle.sheet.proofs.put.Lts as lts
 
 element-copy-out-bytes : tie.Need-element-copy-out-bytes
 element-copy-out-bytes c = search needs

@@ -2,9 +2,6 @@ use Rattle.sheet.proofs.Small.{axis-up, axis-down}
 use borrow.Author.Needs.{needs}
 use Rattle.sheet.proofs.put_axis.Statement.{statement}
 use Rattle.sheet.proofs.put_axis.Tie as tie
-use Rattle.sheet.proofs.put_axis.Reads as reads
-use Rattle.sheet.proofs.put_axis.Lts as lts
-use Rattle.sheet.proofs.put.Reads as put-reads
 
 put-requires : tie.Need-put-requires
 put-requires c κs = search needs

@@ -2,10 +2,6 @@ use Rattle.sheet.proofs.Small.{move-any, move-letter}
 use borrow.Author.Needs.{needs}
 use Rattle.sheet.proofs.put_move.Statement.{statement}
 use Rattle.sheet.proofs.put_move.Tie as tie
-use Rattle.sheet.proofs.put_move.Reads as reads
-use Rattle.sheet.proofs.put_move.Lts as lts
-use Rattle.sheet.proofs.put.Reads as put-reads
-use Rattle.sheet.proofs.put_axis.Reads as put-axis-reads
 
 put-axis-requires : tie.Need-put-axis-requires
 put-axis-requires c κs = search needs

@@ -6,10 +6,6 @@ use Rattle.sheet.proofs.Small.{rooted-no, rooted-yes}
 use borrow.Author.Needs.{needs}
 use Rattle.sheet.proofs.rooted.Statement.{statement}
 use Rattle.sheet.proofs.rooted.Tie as tie
-use Rattle.sheet.proofs.rooted.Reads as reads
-use Rattle.sheet.proofs.rooted.Lts as lts
-use Rattle.sheet.proofs.number.Reads as number-reads
-use Rattle.sheet.proofs.put.Reads as put-reads
 
 element-copy-out-if1 : tie.Need-element-copy-out-if1
 element-copy-out-if1 c = search needs

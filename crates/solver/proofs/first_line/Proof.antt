@@ -1,6 +1,5 @@
 -- The first line is the settled set of the given facts, or their clash.
 use Rattle.solver.proofs.Answers.{seeds-clash, seeds-seeded, seeds-settled}
-use borrow.Author.Needs.{needs}
 use Rattle.solver.proofs.first_line.Statement.{statement}
 use Rattle.solver.proofs.first_line.Tie as tie
 

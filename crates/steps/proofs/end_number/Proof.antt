@@ -4,10 +4,6 @@ use Rattle.steps.specs.Reading.{endNumber, endNumbered}
 use borrow.Author.Needs.{needs}
 use Rattle.steps.proofs.end_number.Statement.{statement}
 use Rattle.steps.proofs.end_number.Tie as tie
-use Rattle.steps.proofs.end_number.Reads as reads
-use Rattle.steps.proofs.end_number.Lts as lts
-use Rattle.steps.proofs.goes_on.Reads as goes-on-reads
-use Rattle.sheet.proofs.number.Reads as number-reads
 
 goes-on-requires : tie.Need-goes-on-requires
 goes-on-requires c κs = search needs

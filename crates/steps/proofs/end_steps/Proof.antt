@@ -13,13 +13,6 @@ use Rattle.steps.proofs.EndReturns.{end-not, end-bad, end-one, end-more
 use borrow.Author.Needs.{needs}
 use Rattle.steps.proofs.end_steps.Statement.{statement}
 use Rattle.steps.proofs.end_steps.Tie as tie
-use Rattle.steps.proofs.end_steps.Reads as reads
-use Rattle.steps.proofs.end_steps.Lts as lts
-use Rattle.steps.proofs.brackets.Reads as brackets-reads
-use Rattle.lent.proofs.byte_at.Reads as byte-at-reads
-use Rattle.steps.proofs.end_number.Reads as end-number-reads
-use Rattle.axes.proofs.move_at.Reads as move-at-reads
-use Rattle.sheet.proofs.put_move.Reads as put-move-reads
 
 abbrev Inv-loop : tie.InvT-loop
 Inv-loop s at x sheet₀ from₀ i₀ sheet from i = (at ≤ i) × (i ≤ length s) × ((r : ℕ) (c : List ℕ) → EndRead s i from sheet r c → EndRead s at x sheet₀ r c)

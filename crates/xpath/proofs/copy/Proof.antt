@@ -8,8 +8,6 @@ use Rattle.xpath.proofs.Copying.{copied-more, copied-length}
 use borrow.Author.Needs.{needs}
 use Rattle.xpath.proofs.copy.Statement.{statement}
 use Rattle.xpath.proofs.copy.Tie as tie
-use Rattle.xpath.proofs.copy.Reads as reads
-use Rattle.xpath.proofs.copy.Lts as lts
 
 abbrev Inv-loop : tie.InvT-loop
 Inv-loop sheet bytes records₀ i₀ records i = (i ≤ bytes) × (records ≡ take i sheet ++ drop i records₀)

@@ -12,10 +12,6 @@ use Rattle.xpath.proofs.LineReturns.{other, lines-end, lines-over, line
 use borrow.Author.Needs.{needs}
 use Rattle.xpath.proofs.lines.Statement.{statement}
 use Rattle.xpath.proofs.lines.Tie as tie
-use Rattle.xpath.proofs.lines.Reads as reads
-use Rattle.xpath.proofs.lines.Lts as lts
-use Rattle.lent.proofs.byte_at.Reads as byte-at-reads
-use Rattle.xpath.proofs.line.Reads as line-reads
 
 abbrev Inv-loop : tie.InvT-loop
 Inv-loop s at n sheet₀ i₀ left₀ sheet i left = (i ≤ length s) × ((r : Bool) (c : List ℕ) → LinesRead s i left sheet r c → LinesRead s at n sheet₀ r c)

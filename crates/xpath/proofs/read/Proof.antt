@@ -4,10 +4,6 @@ use Rattle.xpath.proofs.Answering.{short-answer, long-answer, empty-ans
 use borrow.Author.Needs.{needs}
 use Rattle.xpath.proofs.read.Statement.{statement}
 use Rattle.xpath.proofs.read.Tie as tie
-use Rattle.xpath.proofs.read.Reads as reads
-use Rattle.xpath.proofs.read.Lts as lts
-use Rattle.xpath.proofs.copy.Reads as copy-reads
-use Rattle.xpath.proofs.lines.Reads as lines-reads
 
 returns : tie.Need-returns
 returns c =
