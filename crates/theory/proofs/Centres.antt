@@ -1,18 +1,31 @@
 -- Centres share the machine. The computed draw keeps its promise, which leaves no other answer (`drawing-keeps, drawing-unique`); and of any answers
 -- that keep it, whatever is drawn, a centre gets what it is owed (`shared-machine`).
 use mathlib.Core.Path.{_≡_, refl, sym, _∙_, ap, subst}
-use mathlib.Core.Logic.{_≢_, _↔_, ⊎-elim}
+use mathlib.Core.Logic.{_↔_, ⊎-elim}
+use mathlib.Core.Bool.{false}
 use mathlib.Core.List.{List, [], _∷_}
 use Prim.Native.Nat.{ℕ, zero, suc, max, _+_, _-_, _≤_, _<_}
 use native.Mathlib.Omega.{arith}
 use native.Mathlib.Nat.{not-suc-le-zero, le-of-suc-le-suc}
 use lib.Dec.{eqb, leb, ltb}
 use lib.ListN.{length, set, length-set}
+use lib.Seq.{getD-set-same, getD-set-other}
 use Rattle.meaning.specs.declared.Centre.{Centre}
-use Rattle.meaning.specs.Finite.{Yes, _and_}
-use Rattle.meaning.specs.Centres.{centreAt, sumOf, claimed, Sound, others, undrawn, drawnByAll, Drawn, draw-granted, draw-refused, withDraw, added, listAfter, NoQuestion, DrawPromise, Draw, Draws, no-draw, one-draw, ByOthers, Grantable, AddedTo, SharedMachine}
+use Rattle.meaning.specs.Finite.{Yes, pick, _and_}
+use Rattle.meaning.specs.Centres.{noCentre, centreAt, sumOf, claimed, Sound, others, undrawn, drawnByAll, Drawn, draw-granted, draw-refused, withDraw, added, listAfter, NoQuestion, DrawPromise, Draw, Draws, no-draw, one-draw, ByOthers, Grantable, AddedTo, SharedMachine}
 use Rattle.meaning.proofs.Tests.{yes-case, and-left, and-right, and-both, clash, pick-yes, pick-no, pick-either, is-le, le-yes, le-no, no-le, is-lt, lt-yes, no-lt, is-eq, eq-yes}
 use Rattle.theory.specs.Centres.{capped, isSound, drawingFrom, drawing}
+use Rattle.theory.specs.CentreTable.{c, two}
+
+-- 19 is asked before 20, and each tells its own number
+told-in-order : (drawing 10 two 1 9 ≡ draw-refused 19) × (drawing 10 two 1 7 ≡ draw-refused 20)
+unfolding drawing drawingFrom isSound capped claimed others undrawn drawnByAll sumOf pick _and_
+told-in-order = (refl, refl)
+
+-- guarantee and amount are both held to the cap
+both-seen : (capped (c 5 4 0 ∷ []) ≡ false) × (capped (c 0 4 5 ∷ []) ≡ false)
+unfolding capped _and_
+both-seen = (refl, refl)
 
 -- ---- the test is `Sound`
 
@@ -130,18 +143,6 @@ module _ {total : ℕ} {cs after : List Centre} {i amount : ℕ} {r : Drawn} (p 
 
 -- ---- the list with a draw added
 
-at-added : (cs : List Centre) (i : ℕ) (c : Centre) → i < length cs → centreAt (set cs i c) i ≡ c
-at-added [] i c l = absurd (not-suc-le-zero l)
-at-added (d ∷ cs) zero c l = refl
-at-added (d ∷ cs) (suc i) c l = at-added cs i c (le-of-suc-le-suc l)
-
-at-others : (cs : List Centre) (i j : ℕ) (c : Centre) → j ≢ i → centreAt (set cs i c) j ≡ centreAt cs j
-at-others [] i j c n = refl
-at-others (d ∷ cs) zero zero c n = absurd (n refl)
-at-others (d ∷ cs) zero (suc j) c n = refl
-at-others (d ∷ cs) (suc i) zero c n = refl
-at-others (d ∷ cs) (suc i) (suc j) c n = at-others cs i j c (λ e. n (ap suc e))
-
 added-to : (cs : List Centre) (i amount : ℕ) → i < length cs → AddedTo cs i amount (added cs i amount)
 unfolding added withDraw
 added-to cs i amount l = record {
@@ -149,11 +150,11 @@ added-to cs i amount l = record {
   drawn-more = ap (λ (c : Centre). c .drawn) here;
   same-guarantee = ap (λ (c : Centre). c .guarantee) here;
   same-cap = ap (λ (c : Centre). c .cap) here;
-  others-same = λ j n. at-others cs i j _ n;
+  others-same = λ j n. getD-set-other cs i j _ noCentre n;
 }
   where
     here : centreAt (added cs i amount) i ≡ withDraw (centreAt cs i) amount
-    here = at-added cs i _ l
+    here = getD-set-same cs i _ noCentre l
 
 -- a sum with one record changed
 sum-set : (f : Centre → ℕ) (cs : List Centre) (i : ℕ) (c : Centre) → i < length cs → sumOf f (set cs i c) + f (centreAt cs i) ≡ sumOf f cs + f c
