@@ -3,11 +3,11 @@ use mathlib.Core.Path.{_≡_, refl, sym, ap, _∙_, subst}
 use mathlib.Core.Logic.{_⊎_, inl, inr, ⊎-elim}
 use mathlib.Core.List.{List, [], _∷_, _++_}
 use Prim.Native.Nat.{ℕ, zero, suc, _<_}
-use native.Mathlib.Decide.{decLt}
+use native.Mathlib.Decide.{decLt, ℕ-discrete}
 use native.Mathlib.Omega.{arith}
 use lib.ListN.{length, getD}
 use Rattle.meaning.specs.Tree.{Node, Assignment, Tree, IsTree, Parent, Above}
-use Rattle.meaning.specs.Constraint.{Fact, below}
+use Rattle.meaning.specs.Constraint.{Fact, below, differ}
 use Rattle.meaning.specs.FixedSearch.{JoinKind, parent-join, chain-join, sibling-join, document-join, joinKinds, kindNumber, Join, join, IsJoin, first-alternative, second-alternative, key, Earlier, here, later, FirstJoin}
 use Rattle.meaning.proofs.Trees.{above-same, above-child, ancestors-chain, above-sibling, element-above}
 use Rattle.meaning.proofs.Holds.{HoldsAll, holds-cons, settled-holds}
@@ -76,8 +76,13 @@ module _ (n : ℕ) (t : Tree) (i : IsTree t) (a : Assignment) (S : List Fact) (m
   alternative-holds (join chain-join z x y) q =
       ⊎-elim
       (λ u. inl (holds-cons {f = below x y} m u))
-      (λ u. inr (holds-cons {f = below y x} m u))
+      (λ u. apart u (ℕ-discrete (a x) (a y)))
       (ancestors-chain t i (settled-holds n t i a S m (q .above-x)) (settled-holds n t i a S m (q .above-y)))
+    where
+      -- on one node the first holds
+      apart : Above t (a y) (a x) → Dec (a x ≡ a y) → HoldsAll n t a (below x y ∷ S) ⊎ HoldsAll n t a (below y x ∷ differ x y ∷ S)
+      apart u (yes e) = inl (holds-cons {f = below x y} m (above-same t i e))
+      apart u (no d) = inr (holds-cons {f = below y x} (holds-cons {f = differ x y} m d) u)
   alternative-holds (join sibling-join y b x) q =
       ⊎-elim
       (λ e. inr (holds-cons {f = below b y} (holds-cons {f = below y b} m (above-same t i (sym e))) (above-same t i e)))
