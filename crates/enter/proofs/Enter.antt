@@ -3,21 +3,22 @@
 use mathlib.Core.Path.{_≡_, refl, sym, _∙_, subst}
 use mathlib.Core.Logic.{inl, inr, ⊎-elim}
 use mathlib.Core.Bool.{Bool, true, false, false≢true, _||_}
-use mathlib.Core.List.{List, _∷_, List·Memᴰ, List·Memᴰ·head, List·Memᴰ·tail, List·Memᴰ·cases-cons}
+use mathlib.Core.List.{List, _∷_, _++_, List·Memᴰ, List·Memᴰ·head, List·Memᴰ·tail, List·Memᴰ·cases-cons}
 use Prim.Native.Nat.{ℕ, _<_, _≤_}
 use native.Mathlib.Nat.{le-trans}
+use Rattle.meaning.specs.Finite.{Yes}
 use Rattle.meaning.specs.ReadOff.{Decides}
 use Rattle.meaning.specs.Constraint.{Fact, child, below, differ, before, root, leaf, label}
-use Rattle.meaning.specs.Settled.{Settled, given, chain, Clash}
+use Rattle.meaning.specs.Settled.{Settled, given, chain, leaf-below, Clash}
 use Rattle.meaning.specs.Closed.{Rules, Inside, Within}
-use Rattle.meaning.proofs.Least.{settled-mono, settled-rules, settled-within}
+use Rattle.meaning.proofs.Least.{settled-mono, settled-rules, settled-within, clash-mono}
 use Rattle.theory.proofs.Closure.{rules-decide}
 use Rattle.rowbits.specs.Bit.{bit}
 use Rattle.tables.specs.Tables.{row, has, Columns, Ready}
 use Rattle.tables.specs.Rows.{Raised, Crossed, meets}
 use Rattle.tables.specs.Free.{Free}
 use Rattle.tables.specs.declared.Facts.{Facts}
-use Rattle.tables.proofs.Bits.{in-row}
+use Rattle.tables.proofs.Bits.{in-row, meets-out}
 use Rattle.tables.proofs.Clashes.{free-clash, clash-free, crossed-clash, uncrossed-clear}
 use Rattle.tables.proofs.Groups.{rules-same}
 use Rattle.tables.proofs.Rises.{rises, raised-out, raised-in, columns-raised}
@@ -28,7 +29,15 @@ use Rattle.grouping.specs.Rows.{In}
 use Rattle.grouping.specs.Grouping.{Held}
 use Rattle.merge.specs.Merging.{MergedOf}
 use Rattle.merge.proofs.Entered.{back-tested}
-use Rattle.enter.specs.Entered.{EnteredOf}
+use Rattle.enter.specs.Entered.{entering, Forked, EnteredOf}
+
+-- of two variables above a third of which b is not above a, no leaf is above a: it would be the same as the third, and b above it
+no-leaf-above : (n : ℕ) → n ≤ 16 → (S : List Fact) (f : Facts) (a b : ℕ) → a < n → Ready n S f → Forked f a b → (x : ℕ) → x < 16 → In (row (f .above) a) x → ¬ Held f (leaf x)
+unfolding has
+no-leaf-above n few S f a b ha r k x lx u l =
+    let up = r .decides .sound {f = below x a} (sym (r .mirrored .ancestors x a lx (le-trans ha few)) ∙ u) in
+    let same = leaf-below (r .decides .sound {f = leaf x} l) (chain up (r .decides .sound {f = below a (k .under)} (k .above-a))) in
+    k .not-above (r .decides .complete (chain (r .decides .sound {f = below b (k .under)} (k .above-b)) (chain same up)))
 
 module _ (n : ℕ) (few : n ≤ 16) (S : List Fact) (f : Facts) (a b : ℕ) (ha : a < n) (hb : b < n) (r : Ready n S f) where
   abbrev S' : List Fact
@@ -140,11 +149,22 @@ module _ (n : ℕ) (few : n ≤ 16) (S : List Fact) (f : Facts) (a b : ℕ) (ha 
           no-clash : Free P
           no-clash = clash-free n S f (r .decides) (r .free)
 
-pub entered-clash : (n : ℕ) (f : Facts) (a b : ℕ) → ((S : List Fact) → Ready n S f → Clash n (below a b ∷ S)) → EnteredOf n f a b (record { clash = true; facts = f })
-entered-clash n f a b h = record { clashes = λ e. h; kept = λ e. refl; settles = λ e. absurd (false≢true (sym e)) }
+-- ---- the contract
 
-pub entered-well : (n : ℕ) (f : Facts) (a b : ℕ) (g : Facts) → ((S : List Fact) → Ready n S f → Ready n (below a b ∷ S) g) → EnteredOf n f a b (record { clash = false; facts = g })
-entered-well n f a b g h = record { clashes = λ e. absurd (false≢true e); kept = λ e. absurd (false≢true e); settles = λ e. h }
+pub entered-clash : (n : ℕ) (f : Facts) (A : List Fact) → ((S : List Fact) → Ready n S f → Clash n (A ++ S)) → EnteredOf n f A (record { clash = true; facts = f })
+entered-clash n f A h = record { clashes = λ e. h; kept = λ e. refl; settles = λ e. absurd (false≢true (sym e)) }
+
+pub entered-well : (n : ℕ) (f : Facts) (A : List Fact) (g : Facts) → ((S : List Fact) → Ready n S f → Ready n (A ++ S) g) → EnteredOf n f A (record { clash = false; facts = g })
+entered-well n f A g h = record { clashes = λ e. absurd (false≢true e); kept = λ e. absurd (false≢true e); settles = λ e. h }
+
+-- what is entered, as the test of `apart` says
+pub entered-as : {n : ℕ} {f : Facts} (a b : ℕ) {p q : Bool} {r : Result} → p ≡ q → EnteredOf n f (entering a b q) r → EnteredOf n f (entering a b p) r
+entered-as {n} {f} a b {r = r} e w = subst (λ (p : Bool). EnteredOf n f (entering a b p) r) (sym e) w
+
+pub clash-entering : (n : ℕ) (S : List Fact) (a b : ℕ) (apart : Bool) → Clash n (below a b ∷ S) → Clash n (entering a b apart ++ S)
+clash-entering n S a b false c = c
+clash-entering n S a b true c =
+    clash-mono n _ _ (λ f m. ⊎-elim (λ e. List·Memᴰ·head e) (λ k. List·Memᴰ·tail (List·Memᴰ·tail k)) (List·Memᴰ·cases-cons m)) c
 
 -- where the test says that b is at or above a, or that a leaf is
 module _ (n : ℕ) (f : Facts) (a b : ℕ) (few : n ≤ 16) (ha : a < n) (small : row (f .above) a < 65536)
@@ -152,9 +172,18 @@ module _ (n : ℕ) (f : Facts) (a b : ℕ) (few : n ≤ 16) (ha : a < n) (small 
   pub follows : (S : List Fact) → Ready n S f → Settled n (below a b ∷ S) (below b a)
   follows S w = back-tested n S f a b few ha small w (⊎-elim (λ y. inl (sym d ∙ y)) (λ y. inr (sym e ∙ y)) (or-yes p q t))
 
-  pub entered-same : (r : Result) → MergedOf n f a b r → EnteredOf n f a b r
-  entered-same r m = record {
+  -- a and b of a chain join are not such
+  not-apart : (S : List Fact) → Ready n S f → Forked f a b → ⊥
+  unfolding has
+  not-apart S w k =
+      ⊎-elim (λ y. k .not-above (sym d ∙ y))
+      (λ y. let l = meets-out (row (f .above) a) (f .leaf) small (sym e ∙ y) in
+      no-leaf-above n few S f a b ha w k (l .0) (in-row _ (l .0) small (l .1)) (l .1) (l .2)) (or-yes p q t)
+
+  pub entered-same : (S : List Fact) → Ready n S f → (apart : Bool) → (Yes apart → Forked f a b) → (r : Result) → MergedOf n f a b r → EnteredOf n f (entering a b apart) r
+  entered-same S w false k r m = record {
     clashes = λ c S w. m .clashes c S w (follows S w);
     kept = m .kept;
     settles = λ c S w. m .settles c S w (follows S w);
   }
+  entered-same S w true k r m = absurd (not-apart S w (k refl))

@@ -230,3 +230,21 @@ trailing-this (suc k) a h = go (a % 2) refl h (trailing-this k (a / 2))
 
 pub lowest-of : (a : ℕ) → Lowest a (trailingZeros 16 a)
 lowest-of a = record { most = trailing-le 16 a; none = trailing-none 16 a; this = trailing-this 16 a }
+
+-- ---- rows with the same numbers
+
+row-same : (k a b : ℕ) → a < 2 ^ k → b < 2 ^ k → ((i : ℕ) → bit a i ≡ bit b i) → a ≡ b
+row-same zero a b l m e = omega arith
+row-same (suc k) a b l m e =
+    let h : a / 2 ≡ b / 2 = row-same k (a / 2) (b / 2) (half k a l) (half k b m) (λ i. bit-half a i ∙ e (suc i) ∙ sym (bit-half b i)) in
+    let d : a % 2 ≡ b % 2 = digit (ℕ-discrete (a % 2) 1) (ℕ-discrete (b % 2) 1) in
+    omega arith
+  where
+    digit : Dec (a % 2 ≡ 1) → Dec (b % 2 ≡ 1) → a % 2 ≡ b % 2
+    digit (yes u) (yes v) = u ∙ sym v
+    digit (yes u) (no v) = absurd (v (in-digit b (sym (e 0) ∙ digit-in a u)))
+    digit (no u) (yes v) = absurd (u (in-digit a (e 0 ∙ digit-in b v)))
+    digit (no u) (no v) = omega arith
+
+pub same-row : (a b : ℕ) → a < 65536 → b < 65536 → ((i : ℕ) → bit a i ≡ bit b i) → a ≡ b
+same-row a b = row-same 16 a b

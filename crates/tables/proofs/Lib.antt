@@ -7,4 +7,5 @@ pub mod Labels
 pub mod Rises
 pub mod Groups
 pub mod Wider
+pub mod Parted
 pub mod Clashes

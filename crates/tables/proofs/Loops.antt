@@ -15,7 +15,7 @@ use Rattle.meaning.specs.Finite.{Yes}
 use Rattle.meaning.proofs.Tests.{clash, eq-yes, yes-eq, not-yes}
 use Rattle.rowbits.specs.Bit.{bit}
 use Rattle.tables.specs.Tables.{row, Columns}
-use Rattle.tables.specs.Rows.{Gathers, Transposed, Raised, Combined, gainedOne, gained, meets, Crossed, Blank}
+use Rattle.tables.specs.Rows.{Gathers, Transposed, RaisedWhere, Combined, gainedOne, gained, meets, Crossed, Blank}
 use Rattle.tables.proofs.Bits.{gained-up, gained-has, gained-case, one-is, one-has, none-in, or-case, or-l, or-r, in-both, both-in, some-in}
 use Rattle.tables.proofs.Tested.{not-eq, eq-not}
 
@@ -104,8 +104,8 @@ zeros zero x = refl
 zeros (suc n) zero = refl
 zeros (suc n) (suc x) = zeros n x
 
-pub was-raised : (t : List ℕ) (which by x : ℕ) (r : List ℕ) → 16 ≤ x → x ≤ 16 → Rowing (λ k v. gained (bit which k) v by) 16 t x r → Raised t which by r
-was-raised t which by x r h h2 w = record { within = λ k l. w .done k (le-trans l h); beyond = λ k l. w .rest k (le-trans h2 l) }
+pub was-raised : (p : ℕ → Bool) (t : List ℕ) (by x : ℕ) (r : List ℕ) → 16 ≤ x → x ≤ 16 → Rowing (λ k v. gained (p k) v by) 16 t x r → RaisedWhere p t by r
+was-raised p t by x r h h2 w = record { within = λ k l. w .done k (le-trans l h); beyond = λ k l. w .rest k (le-trans h2 l) }
 
 -- ---- rows compared with those of two other tables
 

@@ -44,10 +44,18 @@ pub record Gathers (p : ℕ → Bool) (r : ℕ) : Type 0 where
 pub record Transposed (t r : List ℕ) : Type 0 where
   pub columns : (x : ℕ) → x < 16 → Gathers (λ y. bit (row t y) x) (row r x)
 
--- a row added to each row whose number is in `which`
-pub record Raised (t : List ℕ) (which by : ℕ) (r : List ℕ) : Type 0 where
-  pub within : (x : ℕ) → x < 16 → row r x ≡ gained (bit which x) (row t x) by
+-- a row added to each row whose number passes a test
+pub record RaisedWhere (p : ℕ → Bool) (t : List ℕ) (by : ℕ) (r : List ℕ) : Type 0 where
+  pub within : (x : ℕ) → x < 16 → row r x ≡ gained (p x) (row t x) by
   pub beyond : (x : ℕ) → 16 ≤ x → row r x ≡ row t x
+
+-- a row added to each row whose number is in `which`
+abbrev pub Raised : List ℕ → ℕ → ℕ → List ℕ → Type 0
+Raised t which = RaisedWhere (bit which) t
+
+-- a row added to each row of t where another table has the row u
+abbrev pub RaisedAlike : List ℕ → List ℕ → ℕ → ℕ → List ℕ → Type 0
+RaisedAlike t rows u = RaisedWhere (λ x. eqb (row rows x) u) t
 
 -- row by row what two tables make together
 pub record Combined (op : ℕ → ℕ → ℕ) (t u r : List ℕ) : Type 0 where

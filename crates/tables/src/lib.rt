@@ -4,7 +4,7 @@ ghost use mathlib.Core.Path.{_≡_};
 ghost use mathlib.Core.Logic.{_≢_};
 ghost use Prim.Native.Nat.{_<_, _≤_, _^_, _-_};
 ghost use Rattle.meaning.specs.Finite.{pick};
-ghost use Rattle.tables.specs.Rows.{gained, meets, gainedOne, without, onDocument, Gathers, Transposed, Raised, United, Common, Lowest, Rest, Union, LabelOf, Crossed, Blank};
+ghost use Rattle.tables.specs.Rows.{gained, meets, gainedOne, without, onDocument, Gathers, Transposed, Raised, RaisedAlike, United, Common, Lowest, Rest, Union, LabelOf, Crossed, Blank};
 ghost use Rattle.tables.specs.Tables.{row};
 
 // `parent`, `above` and `after` are the columns of `child`, `below` and `before`, kept as rows: bit x of row y. A label of 0 is no label fact.
@@ -162,6 +162,19 @@ pub fn raise(t: [u16; 16], which: u16, by: u16) -> [u16; 16]
     for x in 0usize..16 {
         let v = a[x];
         a[x] = gain(rowbits::has(which, x), v, by);
+    }
+    a
+}
+
+// A row added to each row of t where `rows` has the row `like`.
+pub fn raise_alike(t: [u16; 16], rows: [u16; 16], like: u16, by: u16) -> [u16; 16]
+    ensures { λ r. ⌜ RaisedAlike t rows like by r ⌝ }
+{
+    let mut a = t;
+    for x in 0usize..16 {
+        let v = a[x];
+        let w = rows[x];
+        a[x] = gain(w == like, v, by);
     }
     a
 }

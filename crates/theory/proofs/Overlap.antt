@@ -30,7 +30,7 @@ use Rattle.theory.proofs.Absent.{Adds, adds, plain-below, Plain, first-
 use Rattle.theory.proofs.Ends.{ends-unique, none-fails, tree-reached}
 use Rattle.theory.proofs.Search.{clashes-sound, clashes-complete, search-by-ends}
 use Rattle.theory.proofs.ReadOff.{read-off-tree, read-off-holds}
-use Rattle.theory.proofs.Demand.{answers}
+use Rattle.theory.proofs.Demand.{answers-ended}
 use Rattle.theory.proofs.DifferFacts.{IsDiffer, Beside, kept, more, join-more, join-kept, first-more, SameBut, same-file}
 
 -- ---- the two second alternatives
@@ -219,19 +219,111 @@ module _ (n : ℕ) where
 
 -- ---- the answers
 
+-- within both allowances, what is shown of outcomes that are alike: none twice, or one tree
+record ShownAlike (c d : ℕ) (was is : Answer) : Type 0 where
+  none-or-tree : ((was ≡ a-none c) × (is ≡ a-none d)) ⊎ ((bs : List ℕ) × (was ≡ a-tree c bs) × (is ≡ a-tree d bs))
+
+shown-alike : {A B n c d : ℕ} (o p : Outcome) {was is : Answer} → Alike n o p → ((Q : List Fact) → p ≡ in-tree Q → (h : FactSet) × Decides n Q h)
+    → Answers B n o c was → Answers A n p d is → c ≤ B → d ≤ A → ShownAlike c d was is
+shown-alike in-none in-none a g u v k l = record { none-or-tree = inl (u .none k refl, v .none l refl) }
+shown-alike in-none (in-tree Q) a g u v k l = absurd a
+shown-alike (in-tree R) in-none a g u v k l = absurd a
+shown-alike {n = n} {d = d} (in-tree R) (in-tree Q) a g u v k l =
+    let h = holds-decides n R (a .0) in
+    let w = g Q refl in
+    record { none-or-tree = inr (_, u .tree k refl (holds n R) h, v .tree l refl (w .0) (w .1) ∙ ap (a-tree d) (sym (same-file n R Q (holds n R) (w .0) h (w .1) (a .1)))) }
+
+shown-stays : {c d : ℕ} {was is : Answer} → d ≤ c → ShownAlike c d was is → Stays was is
+shown-stays {c} {d} {was} {is} l s = ⊎-elim none tree (s .none-or-tree)
+  where
+    none : (was ≡ a-none c) × (is ≡ a-none d) → Stays was is
+    none e = record {
+      tree = λ f. absurd (let z : _≡_ {A = ℕ} 0 1 = cc in omega arith);
+      none = λ f. (d, e .1);
+      no-more = subst (λ (a : Answer). countOf a ≤ countOf was) (sym (e .1)) (subst (λ (a : Answer). d ≤ countOf a) (sym (e .0)) l);
+    }
+
+    tree : (bs : List ℕ) × (was ≡ a-tree c bs) × (is ≡ a-tree d bs) → Stays was is
+    tree e = record {
+      tree = λ f. (d, e .2 ∙ ap (a-tree d) (cc));
+      none = λ f. absurd (let z : _≡_ {A = ℕ} 0 1 = cc in omega arith);
+      no-more = subst (λ (a : Answer). countOf a ≤ countOf was) (sym (e .2)) (subst (λ (a : Answer). d ≤ countOf a) (sym (e .1)) l);
+    }
+
 module _ (n : ℕ) (cs : List Constraint) (few : vars cs ≤ n) (b : ByteLabels cs) where
-  ins : Inside n (factsOf cs)
-  ins = facts-inside n cs few
+  start : Kin n (factsOf cs) (factsOf cs)
+  start = record { beside = beside-itself (factsOf cs); inside = facts-inside n cs few; labelled = fact-labels cs b; implied = λ t i a m. m }
 
-  pub start : Kin n (factsOf cs) (factsOf cs)
-  start = record { beside = beside-itself (factsOf cs); inside = ins; labelled = fact-labels cs b; implied = λ t i a m. m }
+  module _ {A B : ℕ} {was is : Answer} (u : AnsweredBefore B n cs was) (v : Demand3 A n cs is) where
+    before : Better n (factsOf cs) (u .outcome) (u .count)
+    before = better n (u .ends) start
 
-  module _ {o p : Outcome} {c d : ℕ} (e : EndsBy second-before n (factsOf cs) o c) (f : Ends n (factsOf cs) p d) where
-    was : Better n (factsOf cs) o c
-    was = better n e start
+    no-more : v .count ≤ u .count
+    no-more = subst (λ (k : ℕ). k ≤ u .count) (v .search .only (before .ends) .1) (before .fewer)
 
-    no-more : d ≤ c
-    no-more = subst (λ (k : ℕ). k ≤ c) (ends-unique n (was .ends) f .1) (was .fewer)
+    alike : Alike n (u .outcome) (v .outcome)
+    alike = subst (Alike n (u .outcome)) (v .search .only (before .ends) .0) (before .alike)
 
-    alike : Alike n o p
-    alike = subst (Alike n o) (ends-unique n (was .ends) f .0) (was .alike)
+    shown : u .count ≤ B → v .count ≤ A → ShownAlike (u .count) (v .count) was is
+    shown = shown-alike (u .outcome) (v .outcome) alike (λ Q q. v .search .decided q) (u .answers) (v .answers)
+
+    -- the count given is at most the allowance
+    within : countOf is ≤ A
+    within = go (decLe (v .count) A) (v .outcome) refl
+      where
+        told : {a : Answer} → is ≡ a → countOf a ≤ A → countOf is ≤ A
+        told e l = subst (λ (a : Answer). countOf a ≤ A) (sym e) l
+
+        go : Dec (v .count ≤ A) → (p : Outcome) → v .outcome ≡ p → countOf is ≤ A
+        go (yes l) in-none q = told (v .answers .none l q) l
+        go (yes l) (in-tree R) q = let h = v .search .decided q in told (v .answers .tree l q (h .0) (h .1)) l
+        go (no l) p q = told (v .answers .spent-iff .0 (omega arith)) (le-refl _)
+
+    sooner : ¬ (was ≡ a-spent B) → ¬ (is ≡ a-spent A) → SameVerdict was is
+    sooner k l = go (decLe (u .count) B) (decLe (v .count) A)
+      where
+        same : ShownAlike (u .count) (v .count) was is → SameVerdict was is
+        same s = ⊎-elim
+            (λ e. subst (λ (a : Answer). SameVerdict a is) (sym (e .0)) (subst (SameVerdict (a-none (u .count))) (sym (e .1)) tt))
+            (λ e. subst (λ (a : Answer). SameVerdict a is) (sym (e .1)) (subst (SameVerdict (a-tree (u .count) (e .0))) (sym (e .2)) refl)) (s .none-or-tree)
+
+        go : Dec (u .count ≤ B) → Dec (v .count ≤ A) → SameVerdict was is
+        go (yes x) (yes y) = same (shown x y)
+        go (yes x) (no y) = absurd (l (v .answers .spent-iff .0 (omega arith)))
+        go (no x) y = absurd (k (u .answers .spent-iff .0 (omega arith)))
+
+  stays : {A : ℕ} {was is : Answer} → AnsweredBefore A n cs was → Demand3 A n cs is → Stays was is
+  stays {A} {was} {is} u v = go (decLe (u .count) A)
+    where
+      go : Dec (u .count ≤ A) → Stays was is
+      go (yes l) = shown-stays (no-more u v) (shown u v l (le-trans (no-more u v) l))
+      go (no l) =
+          let e : was ≡ a-spent A = u .answers .spent-iff .0 (omega arith) in
+          record {
+            tree = λ f. absurd (let z : _≡_ {A = ℕ} 0 1 = cc in omega arith);
+            none = λ f. absurd (let z : _≡_ {A = ℕ} 0 1 = cc in omega arith);
+            no-more = subst (λ (a : Answer). countOf is ≤ countOf a) (sym e) (within u v);
+          }
+
+  pub overlap : Overlap n cs
+  overlap = record { stays = λ u v. stays u v; sooner = λ u k v l. sooner u v k l }
+
+-- ---- the rules before answer everything, once
+
+found-inside : {n : ℕ} {S : List Fact} {o : Outcome} {c : ℕ} → EndsBy second-before n S o c → Inside n S → (R : List Fact) → o ≡ in-tree R → Inside n R
+found-inside (by-clash k) ins R e = absurd (let z : _≡_ {A = ℕ} 0 1 = cc in omega arith)
+found-inside {n} (by-tree {S} k q) ins R e = subst (Inside n) (cc) ins
+found-inside {n} (by-first {S} j k f l) ins R e = found-inside l (first-adds n S ins j (f .is-join) .inside) R e
+found-inside {n} (by-second {S} j k f l r) ins R e = found-inside r (before-adds n S ins j (f .is-join) .inside) R e
+
+pub answered-before : (A n : ℕ) (cs : List Constraint) → vars cs ≤ n → AnsweredBefore A n cs (solveBefore A n cs)
+unfolding solveBefore
+answered-before A n cs few = record {
+  outcome = searchBy second-before n (factsOf cs) .outcome;
+  count = searchBy second-before n (factsOf cs) .count;
+  ends = e;
+  answers = answers-ended A n _ _ (found-inside e (facts-inside n cs few));
+}
+  where
+    e : EndsBy second-before n (factsOf cs) (searchBy second-before n (factsOf cs) .outcome) (searchBy second-before n (factsOf cs) .count)
+    e = search-by-ends second-before n (before-adds n) (factsOf cs) (facts-inside n cs few)

@@ -1,4 +1,4 @@
--- `enter::enter_below` meets its contract: by rows or by merging, as the test says.
+-- `enter::enter_below` meets its contract: by rows or by merging, as the test says; with differ before below.
 use Prim.Native.Nat.{ℕ, _<_}
 use lib.ListN.{getD}
 use mir.Val.{Fits}
@@ -11,7 +11,8 @@ use Rattle.tables.specs.Tables.{has}
 use Rattle.tables.specs.Rows.{Crossed}
 use Rattle.tables.proofs.Bits.{meets-in}
 use Rattle.tables.proofs.Clashes.{blank-crossed}
-use Rattle.enter.proofs.Enter.{raised-ready, raised-clash, entered-well, entered-clash, follows, entered-same}
+use Rattle.enter.proofs.Apart.{differ-ready}
+use Rattle.enter.proofs.Enter.{raised-ready, raised-clash, entered-well, entered-clash, entered-as, clash-entering, follows, entered-same}
 use Rattle.tables.proofs.Tested.{or-no}
 use Rattle.enter.proofs.enter_below.Statement.{statement}
 use Rattle.enter.proofs.enter_below.Tie as tie
@@ -50,14 +51,15 @@ enter-same-requires : tie.Need-enter-same-requires
 enter-same-requires c κs =
     let m = c .before in
     let s = m .before .before .before .before .before .before in
-    (s .pre .0, (_, s .pre .1 .1, follows _ _ _ _ (s .pre .0 .2) (s .pre .0 .0) (above-small s _) _ _ (m .before .has .ensures) (m .meet .ensures) (c .if1 .taken) _ (s .pre .1 .1)))
+    (s .pre .0, (_, s .pre .1 .0 .1, follows _ _ _ _ (s .pre .0 .2) (s .pre .0 .0) (above-small s _) _ _ (m .before .has .ensures) (m .meet .ensures) (c .if1 .taken) _ (s .pre .1 .0 .1)))
 
 returns : tie.Need-returns
 returns c =
     let test = c .before in
     let m = test .before in
     let s = m .before .before .before .before .before .before in
-    entered-same _ _ _ _ (s .pre .0 .2) (s .pre .0 .0) (above-small s _) _ _ (m .before .has .ensures) (m .meet .ensures) (test .if1 .taken) _ (c .enter-same .ensures)
+    entered-same _ _ _ _ (s .pre .0 .2) (s .pre .0 .0) (above-small s _) _ _ (m .before .has .ensures) (m .meet .ensures) (test .if1 .taken)
+    _ (s .pre .1 .0 .1) _ (s .pre .1 .1) _ (c .enter-same .ensures)
 
 raise-requires : tie.Need-raise-requires
 raise-requires c κs = search needs
@@ -81,25 +83,53 @@ returns-2 c =
     let m = apart .before in
     let s = m .before .before .before .before .before .before in
     let o = or-no _ _ (apart .if1 .left) in
-    entered-clash _ _ _ _ (λ S q. raised-clash _ (s .pre .0 .2) S _ _ _ (s .pre .0 .0) (s .pre .0 .1) q (above-small s _) (below-small s _) _ _ (below .raise .ensures) (above .raise2 .ensures)
+    entered-clash _ _ _ (λ S q. clash-entering _ S _ _ (s .args .apart)
+    (raised-clash _ (s .pre .0 .2) S _ _ _ (s .pre .0 .0) (s .pre .0 .1) q (above-small s _) (below-small s _) _ _ (below .raise .ensures) (above .raise2 .ensures)
     (λ u. false≢true (sym (o .0) ∙ m .before .has .ensures ∙ u))
-    (λ k u v. false≢true (sym (o .1) ∙ m .meet .ensures ∙ meets-in _ _ k u v)) _ (test .crossed .ensures) (c .if3 .taken))
+    (λ k u v. false≢true (sym (o .1) ∙ m .meet .ensures ∙ meets-in _ _ k u v)) _ (test .crossed .ensures) (c .if3 .taken)))
+
+parted-requires : tie.Need-parted-requires
+parted-requires c κs = search needs
 
 -- before is blank, or was tested
+uncrossed : (c : tie.Joined2) →
+    let above = c .before .before .before in
+    Crossed (above .before .before .before .before .before .before .before .before .before .args .f .before) (above .before .raise .result) (above .raise2 .result) false
+uncrossed c =
+    let blank = c .before in
+    let above = blank .before .before in
+    ⊎-elim {C = Crossed _ (above .before .raise .result) (above .raise2 .result) false} (λ h. subst (Crossed _ _ _) (h .2 .left) (h .1 .ensures)) (λ h. blank-crossed _ _ _ _ (blank .blank .ensures) (h .left)) (c .if2 .came)
+
+-- first differ(b, a), then below(a, b)
 returns-3 : tie.Need-returns-3
 unfolding has
 returns-3 c =
-    let blank = c .before in
-    let above = blank .before .before in
+    let rows = c .before .before .before in
+    let above = rows .before .before .before in
     let below = above .before in
     let apart = below .before in
     let m = apart .before in
     let s = m .before .before .before .before .before .before in
     let o = or-no _ _ (apart .if1 .left) in
-    entered-well _ _ _ _ _ (λ S q. raised-ready _ (s .pre .0 .2) S _ _ _ (s .pre .0 .0) (s .pre .0 .1) q (above-small s _) (below-small s _) _ _ (below .raise .ensures) (above .raise2 .ensures)
+    entered-as _ _ (c .before .before .if4 .taken) (entered-well _ _ _ _ (λ S q. raised-ready _ (s .pre .0 .2) _ _ _ _ (s .pre .0 .0) (s .pre .0 .1)
+    (differ-ready _ (s .pre .0 .2) S _ _ _ (s .pre .0 .0) (s .pre .0 .1) (below-small s) q (λ u. false≢true (sym (o .0) ∙ m .before .has .ensures ∙ u)) _ (c .parted .ensures))
+    (above-small s _) (below-small s _) _ _ (below .raise .ensures) (above .raise2 .ensures)
     (λ u. false≢true (sym (o .0) ∙ m .before .has .ensures ∙ u))
-    (λ k u v. false≢true (sym (o .1) ∙ m .meet .ensures ∙ meets-in _ _ k u v))
-    false (⊎-elim {C = Crossed (s .args .f .before) (below .raise .result) (above .raise2 .result) false} (λ h. subst (Crossed _ _ _) (h .2 .left) (h .1 .ensures)) (λ h. blank-crossed _ _ _ _ (blank .blank .ensures) (h .left)) (c .if2 .came)) refl)
+    (λ k u v. false≢true (sym (o .1) ∙ m .meet .ensures ∙ meets-in _ _ k u v)) false (uncrossed rows) refl))
+
+returns-4 : tie.Need-returns-4
+unfolding has
+returns-4 c =
+    let rows = c .before in
+    let above = rows .before .before .before in
+    let below = above .before in
+    let apart = below .before in
+    let m = apart .before in
+    let s = m .before .before .before .before .before .before in
+    let o = or-no _ _ (apart .if1 .left) in
+    entered-as _ _ (c .if4 .left) (entered-well _ _ _ _ (λ S q. raised-ready _ (s .pre .0 .2) S _ _ _ (s .pre .0 .0) (s .pre .0 .1) q (above-small s _) (below-small s _) _ _ (below .raise .ensures) (above .raise2 .ensures)
+    (λ u. false≢true (sym (o .0) ∙ m .before .has .ensures ∙ u))
+    (λ k u v. false≢true (sym (o .1) ∙ m .meet .ensures ∙ meets-in _ _ k u v)) false (uncrossed rows) refl))
 
 pub enter-below-spec : {M : Type 1} → statement M
 enter-below-spec =
@@ -120,4 +150,6 @@ enter-below-spec =
     blank-requires
     crossed-requires
     returns-2
-    returns-3)
+    parted-requires
+    returns-3
+    returns-4)
