@@ -1,18 +1,20 @@
 -- What a line of the search starts from, and what it reports of the fixed search.
 use mathlib.Core.Path.{_≡_}
-use mathlib.Core.Bool.{true, false}
+use mathlib.Core.Bool.{Bool, true, false}
 use mathlib.Core.List.{List, _∷_, _++_, List·Memᴰ}
 use mathlib.Core.Option.{none, some}
 use Prim.Native.Nat.{ℕ, _+_, _≤_, _<_}
 use lib.ListN.{replicate}
 use Rattle.meaning.specs.Constraint.{Fact, below}
 use Rattle.meaning.specs.Settled.{Clash}
+use Rattle.meaning.specs.Finite.{Yes}
 use Rattle.meaning.specs.FixedSearch.{Join, first-alternative, second-alternative, Outcome, in-none, in-tree}
 use Rattle.meaning.specs.Closed.{Inside}
 use Rattle.theory.specs.Search.{firstJoin, search}
 use Rattle.tables.specs.Tables.{has, showing, Ready}
 use Rattle.tables.specs.declared.Facts.{Facts}
 use Rattle.tables.specs.declared.Settled.{Settled}
+use Rattle.enter.specs.Entered.{entering, Forked}
 use Rattle.search.specs.declared.Below.{Below}
 use Rattle.search.specs.declared.Step.{Step}
 use Rattle.search.specs.declared.Step.the-variants.{Solved, Split}
@@ -29,22 +31,27 @@ pub record PairInside (n : ℕ) (p : Below) : Type 0 where
   pub upper : p .upper .0 < n
   pub lower : p .lower .0 < n
 
--- entering p into the settled set of S is entering the facts A, of which it is one
-pub record Enters (n : ℕ) (S : List Fact) (p : Below) (A : List Fact) : Type 0 where
-  pub one : List·Memᴰ (fact p) A
-  pub ready : {g : Facts} → Ready n (fact p ∷ S) g → Ready n (A ++ S) g
-  pub clash : Clash n (fact p ∷ S) → Clash n (A ++ S)
+-- p, and with `apart` that its variables differ
+abbrev pub facts : Below → Bool → List Fact
+facts p = entering (p .upper .0) (p .lower .0)
 
--- p and q enter the alternatives of the first join
-pub record Alternatives (n : ℕ) (S : List Fact) (f : Facts) (p q : Below) : Type 0 where
+-- entering these into the settled set of S is entering the facts A, of which p is one
+pub record Enters (n : ℕ) (S : List Fact) (p : Below) (apart : Bool) (A : List Fact) : Type 0 where
+  pub one : List·Memᴰ (fact p) A
+  pub ready : {g : Facts} → Ready n (facts p apart ++ S) g → Ready n (A ++ S) g
+  pub clash : Clash n (facts p apart ++ S) → Clash n (A ++ S)
+
+-- p enters the first alternative of the first join, and q the second, with `apart`
+pub record Alternatives (n : ℕ) (S : List Fact) (f : Facts) (p q : Below) (apart : Bool) : Type 0 where
   pub join : Join
   pub is-first : firstJoin n (has f) ≡ some join
-  pub first : Enters n S p (first-alternative join)
-  pub second : Enters n S q (second-alternative join)
+  pub first : Enters n S p false (first-alternative join)
+  pub second : Enters n S q apart (second-alternative join)
 
 abbrev pub StepOf : ℕ → Facts → Step → Type 0
 StepOf n f Solved = (S : List Fact) → Ready n S f → firstJoin n (has f) ≡ none
-StepOf n f (Split p q) = PairInside n p × PairInside n q × ((S : List Fact) → Ready n S f → Alternatives n S f p q)
+StepOf n f (Split p q apart) =
+    PairInside n p × PairInside n q × (Yes apart → Forked f (q .upper .0) (q .lower .0)) × ((S : List Fact) → Ready n S f → Alternatives n S f p q apart)
 
 -- ---- a line
 

@@ -39,12 +39,13 @@ struct Below {
 enum Step {
     // No join is left.
     Solved,
-    // What the first and the second alternative of the first join enter.
-    Split(Below, Below),
+    // What the first and the second alternative of the first join enter, and whether the variables of the second also differ.
+    Split(Below, Below, bool),
 }
 
 // The first alternative of each kind is below(x, y). The second of a parent join is same(x, z), where below(x, z) holds already; so it is of
-// siblings, whose y, a, x are z, x, y here. Of the document node, whose r, y, w are z, x, y here, it is same(y, z), and below(z, y) holds.
+// siblings, whose y, a, x are z, x, y here. Of the document node, whose r, y, w are z, x, y here, it is same(y, z), and below(z, y) holds. That of a
+// chain join adds that x and y differ: the first has the trees with both on one node.
 fn next_step(f: Facts, n: usize) -> Step
     requires { ⌜ n ≤ 16 ⌝ }
     requires { ⌜ ((S : List Fact) × Ready n S f) ⌝ }
@@ -56,10 +57,10 @@ fn next_step(f: Facts, n: usize) -> Step
         Found::One(kind, z, x, y) => {
             let first = Below { upper: x, lower: y };
             match kind {
-                JoinKind::Parent => Step::Split(first, Below { upper: z, lower: x }),
-                JoinKind::Chain => Step::Split(first, Below { upper: y, lower: x }),
-                JoinKind::Sibling => Step::Split(first, Below { upper: z, lower: x }),
-                JoinKind::Document => Step::Split(first, Below { upper: y, lower: z }),
+                JoinKind::Parent => Step::Split(first, Below { upper: z, lower: x }, false),
+                JoinKind::Chain => Step::Split(first, Below { upper: y, lower: x }, true),
+                JoinKind::Sibling => Step::Split(first, Below { upper: z, lower: x }, false),
+                JoinKind::Document => Step::Split(first, Below { upper: y, lower: z }, false),
             }
         }
     }
@@ -113,7 +114,7 @@ fn line(
         leaf,
     };
     let next = next_step(f, n);
-    let Step::Split(first, second) = next else {
+    let Step::Split(first, second, apart) = next else {
         // Out of f: out of the parameters they would be copied once more at the start of every line.
         let below = f.below;
         let above = f.above;
@@ -132,7 +133,7 @@ fn line(
     if count == allowance {
         return without_tree(End::Spent, count);
     }
-    let mut entered = enter::enter_below(f, n, first.upper, first.lower);
+    let mut entered = enter::enter_below(f, n, first.upper, first.lower, false);
     let mut ended = search(entered, n, allowance, count + 1);
     let end = ended.end;
     let End::None = end else {
@@ -142,7 +143,7 @@ fn line(
     if used == allowance {
         return without_tree(End::Spent, used);
     }
-    entered = enter::enter_below(f, n, second.upper, second.lower);
+    entered = enter::enter_below(f, n, second.upper, second.lower, apart);
     // one place for both answers: a second would be 96 bytes more of stack a level
     ended = search(entered, n, allowance, used + 1);
     ended

@@ -7,6 +7,7 @@ use Rattle.tables.specs.declared.Facts.{Facts}
 use Rattle.search.specs.Searching.{tablesOf}
 use Rattle.search.specs.declared.End.{End}
 use Rattle.search.specs.declared.End.the-variants.{None}
+use Rattle.search.proofs.Entering.{never-apart}
 use Rattle.search.proofs.Lines.{step-as, first-line, second-line, first-counted, line-clash, line-solved, line-spent, line-first, line-spent-second, line-second}
 use denote.Enum.Declared.{tagOf}
 use Rattle.search.proofs.End.{the-type}
@@ -95,7 +96,7 @@ line-returns-2 t c =
     let next = known .before .before .before in
     let start = next .before in
     let split = step-as (start .args .n) (tables t start) (known .before .next .given .1) (next .next-step .ensures) in
-    λ S w. line-spent _ _ _ S _ w _ _ (split .2 S w) (c .before .if1 .taken) _ (c .without-tree .ensures)
+    λ S w. line-spent _ _ _ S _ w _ _ _ (split .3 S w) (c .before .if1 .taken) _ (c .without-tree .ensures)
 
 line-enter-below-requires : (t : ℕ) → line-lts.Need-enter-below-requires (claims t) (line-at t) line.Post
 line-enter-below-requires t c κs =
@@ -103,7 +104,7 @@ line-enter-below-requires t c κs =
     let next = known .before .before .before in
     let start = next .before in
     let split = step-as (start .args .n) (tables t start) (known .before .next .given .1) (next .next-step .ensures) in
-    ((split .0 .upper, split .0 .lower, start .pre .1 .0 .0), start .pre .1 .1)
+    ((split .0 .upper, split .0 .lower, start .pre .1 .0 .0), (start .pre .1 .1, never-apart))
 
 line-add-search : (t : ℕ) → line-lts.Need-add-search (claims t) (line-at t) line.Post
 line-add-search t c = search needs
@@ -117,7 +118,7 @@ line-search-requires t c κs =
     let w = start .pre .1 .1 .1 in
     let left = c .before .if1 .left in
     let most = start .pre .1 .0 .1 in
-    (omega (arith, start .pre .0), ((start .pre .1 .0 .0, omega arith), (_, first-line _ _ _ w _ _ (split .2 _ w) _ (c .enter-below .ensures))))
+    (omega (arith, start .pre .0), ((start .pre .1 .0 .0, omega arith), (_, first-line _ _ _ w _ _ _ (split .3 _ w) _ (c .enter-below .ensures))))
 
 line-enum-told-2 : (t : ℕ) → line-lts.Need-enum-told-2 (claims t) (line-at t) line.Post
 line-enum-told-2 t c = search needs
@@ -131,8 +132,8 @@ line-returns-3 t c =
     let start = next .before in
     let split = step-as (start .args .n) (tables t start) (known .before .next .given .1) (next .next-step .ensures) in
     λ S w.
-    let alternatives = split .2 S w in
-    line-first _ _ _ S _ w _ _ alternatives _ (searched .search .ensures _ (first-line _ S _ w _ _ alternatives _ (entered .enter-below .ensures))) (not-none _ (c .match2 .keys2))
+    let alternatives = split .3 S w in
+    line-first _ _ _ S _ w _ _ _ alternatives _ (searched .search .ensures _ (first-line _ S _ w _ _ _ alternatives _ (entered .enter-below .ensures))) (not-none _ (c .match2 .keys2))
 
 line-without-tree-requires-2 : (t : ℕ) → line-lts.Need-without-tree-requires-2 (claims t) (line-at t) line.Post
 line-without-tree-requires-2 t c κs = search needs
@@ -147,8 +148,8 @@ line-returns-4 t c =
     let start = next .before in
     let split = step-as (start .args .n) (tables t start) (known .before .next .given .1) (next .next-step .ensures) in
     λ S w.
-    let alternatives = split .2 S w in
-    line-spent-second _ _ _ S _ w _ _ alternatives _ (searched .search .ensures _ (first-line _ S _ w _ _ alternatives _ (entered .enter-below .ensures)))
+    let alternatives = split .3 S w in
+    line-spent-second _ _ _ S _ w _ _ _ alternatives _ (searched .search .ensures _ (first-line _ S _ w _ _ _ alternatives _ (entered .enter-below .ensures)))
     (told .enum-told2 .given .1) (c .before .if2 .taken) _ (c .without-tree2 .ensures)
 
 line-enter-below-requires-2 : (t : ℕ) → line-lts.Need-enter-below-requires-2 (claims t) (line-at t) line.Post
@@ -157,7 +158,7 @@ line-enter-below-requires-2 t c κs =
     let next = known .before .before .before in
     let start = next .before in
     let split = step-as (start .args .n) (tables t start) (known .before .next .given .1) (next .next-step .ensures) in
-    ((split .1 .upper, split .1 .lower, start .pre .1 .0 .0), start .pre .1 .1)
+    ((split .1 .upper, split .1 .lower, start .pre .1 .0 .0), (start .pre .1 .1, split .2))
 
 -- the first alternative has ended in none, and how many are entered by then
 counted : (t : ℕ) (told : line-lts.After-enum-told2 (claims t) (line-at t) line.Post) →
@@ -172,8 +173,8 @@ counted t told =
     let start = next .before in
     let split = step-as (start .args .n) (tables t start) (known .before .next .given .1) (next .next-step .ensures) in
     let w = start .pre .1 .1 .1 in
-    let alternatives = split .2 _ w in
-    first-counted _ _ _ _ _ w _ _ alternatives _ (searched .search .ensures _ (first-line _ _ _ w _ _ alternatives _ (entered .enter-below .ensures))) (told .enum-told2 .given .1)
+    let alternatives = split .3 _ w in
+    first-counted _ _ _ _ _ w _ _ _ alternatives _ (searched .search .ensures _ (first-line _ _ _ w _ _ _ alternatives _ (entered .enter-below .ensures))) (told .enum-told2 .given .1)
 
 line-add-search-2 : (t : ℕ) → line-lts.Need-add-search-2 (claims t) (line-at t) line.Post
 line-add-search-2 t c =
@@ -191,7 +192,7 @@ line-search-requires-2 t c κs =
     let w = start .pre .1 .1 .1 in
     let used = counted t told in
     let left = c .before .if2 .left in
-    (omega (arith, start .pre .0), ((start .pre .1 .0 .0, omega arith), (_, second-line _ _ _ w _ _ (split .2 _ w) _ (c .enter-below2 .ensures))))
+    (omega (arith, start .pre .0), ((start .pre .1 .0 .0, omega arith), (_, second-line _ _ _ w _ _ _ (split .3 _ w) _ (c .enter-below2 .ensures))))
 
 line-returns-5 : (t : ℕ) → line-lts.Need-returns-5 (claims t) (line-at t) line.Post
 line-returns-5 t c =
@@ -204,9 +205,9 @@ line-returns-5 t c =
     let start = next .before in
     let split = step-as (start .args .n) (tables t start) (known .before .next .given .1) (next .next-step .ensures) in
     λ S w.
-    let alternatives = split .2 S w in
-    line-second _ _ _ S _ w _ _ alternatives _ (searched .search .ensures _ (first-line _ S _ w _ _ alternatives _ (entered .enter-below .ensures)))
-    (told .enum-told2 .given .1) _ (c .search2 .ensures _ (second-line _ S _ w _ _ alternatives _ (other .enter-below2 .ensures)))
+    let alternatives = split .3 S w in
+    line-second _ _ _ S _ w _ _ _ alternatives _ (searched .search .ensures _ (first-line _ S _ w _ _ _ alternatives _ (entered .enter-below .ensures)))
+    (told .enum-told2 .given .1) _ (c .search2 .ensures _ (second-line _ S _ w _ _ _ alternatives _ (other .enter-below2 .ensures)))
 
 -- ---- a search
 
