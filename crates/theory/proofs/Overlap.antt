@@ -8,12 +8,16 @@ use Prim.Native.Nat.{ℕ, _+_, _≤_, _<_, zero-le}
 use native.Mathlib.Nat.{le-refl, le-trans}
 use native.Mathlib.Decide.{decLe}
 use native.Mathlib.Omega.{arith}
+use lib.ListN.{length}
 use Rattle.meaning.specs.Tree.{Var, Label, Assignment, Tree, IsTree}
 use Rattle.meaning.specs.Constraint.{Constraint, vars, ByteLabels, Fact, below, differ, label, factsOf}
 use Rattle.meaning.specs.Settled.{Clash}
 use Rattle.meaning.specs.FixedSearch.{parent-join, chain-join, sibling-join, document-join, Join, join, IsJoin, first-alternative, second-alternative, FirstJoin, Outcome, in-none, in-tree, Ends, clashed, solved, in-first, in-second}
 use Rattle.meaning.specs.Closed.{Inside}
 use Rattle.meaning.specs.ReadOff.{FactSet, Decides, treeOf, nodes, place}
+use Rattle.meaning.specs.Files.{accepted, judge}
+use Rattle.meaning.specs.Results.{Solved, solver-answers}
+use Rattle.meaning.specs.Promises.{SolverPromise}
 use Rattle.meaning.specs.Demand.{Answer, a-tree, a-none, a-spent, Answers, Demand3}
 use Rattle.theory.specs.Closure.{holds}
 use Rattle.theory.specs.Search.{clashes, searchBy}
@@ -27,10 +31,10 @@ use Rattle.meaning.proofs.Joins.{alternative-holds}
 use Rattle.meaning.proofs.Constraints.{facts-inside, fact-labels}
 use Rattle.theory.proofs.Closure.{holds-decides}
 use Rattle.theory.proofs.Absent.{Adds, adds, plain-below, Plain, first-adds, second-adds}
-use Rattle.theory.proofs.Ends.{ends-unique, none-fails, tree-reached}
+use Rattle.theory.proofs.Ends.{ends-by-unique, ends-unique, none-fails, tree-reached}
 use Rattle.theory.proofs.Search.{clashes-sound, clashes-complete, search-by-ends}
 use Rattle.theory.proofs.ReadOff.{read-off-tree, read-off-holds}
-use Rattle.theory.proofs.Demand.{answers-ended}
+use Rattle.theory.proofs.Demand.{answers-ended, answers-same}
 use Rattle.theory.proofs.DifferFacts.{IsDiffer, Beside, kept, more, join-more, join-kept, first-more, SameBut, same-file}
 
 -- ---- the two second alternatives
@@ -308,7 +312,12 @@ module _ (n : ℕ) (cs : List Constraint) (few : vars cs ≤ n) (b : ByteLabels 
   pub overlap : Overlap n cs
   overlap = record { stays = λ u v. stays u v; sooner = λ u k v l. sooner u v k l }
 
--- ---- the rules before answer everything, once
+-- of what is promised of an accepted file
+pub promised-stays : {A : ℕ} {file buffer after : List ℕ} {r : Solved} {cs : List Constraint} {was : Answer} → ByteLabels cs → SolverPromise A file buffer r after
+    → judge file ≡ accepted cs → 136 ≤ length buffer → AnsweredBefore A (vars cs) cs was → (is : Answer) × (r ≡ solver-answers is) × Stays was is
+promised-stays {cs = cs} b p e l u = let a = p .answers e l in (a .0, a .1, overlap (vars cs) cs (le-refl _) b .stays u (a .2 .demand-3))
+
+-- ---- the rules before give an answer to everything, and one
 
 found-inside : {n : ℕ} {S : List Fact} {o : Outcome} {c : ℕ} → EndsBy second-before n S o c → Inside n S → (R : List Fact) → o ≡ in-tree R → Inside n R
 found-inside (by-clash k) ins R e = absurd (let z : _≡_ {A = ℕ} 0 1 = cc in omega arith)
@@ -316,14 +325,30 @@ found-inside {n} (by-tree {S} k q) ins R e = subst (Inside n) (cc) ins
 found-inside {n} (by-first {S} j k f l) ins R e = found-inside l (first-adds n S ins j (f .is-join) .inside) R e
 found-inside {n} (by-second {S} j k f l r) ins R e = found-inside r (before-adds n S ins j (f .is-join) .inside) R e
 
-pub answered-before : (A n : ℕ) (cs : List Constraint) → vars cs ≤ n → AnsweredBefore A n cs (solveBefore A n cs)
-unfolding solveBefore
-answered-before A n cs few = record {
-  outcome = searchBy second-before n (factsOf cs) .outcome;
-  count = searchBy second-before n (factsOf cs) .count;
-  ends = e;
-  answers = answers-ended A n _ _ (found-inside e (facts-inside n cs few));
-}
-  where
-    e : EndsBy second-before n (factsOf cs) (searchBy second-before n (factsOf cs) .outcome) (searchBy second-before n (factsOf cs) .count)
-    e = search-by-ends second-before n (before-adds n) (factsOf cs) (facts-inside n cs few)
+module _ (A n : ℕ) (cs : List Constraint) (few : vars cs ≤ n) where
+  computed : EndsBy second-before n (factsOf cs) (searchBy second-before n (factsOf cs) .outcome) (searchBy second-before n (factsOf cs) .count)
+  computed = search-by-ends second-before n (before-adds n) (factsOf cs) (facts-inside n cs few)
+
+  pub answered-before : AnsweredBefore A n cs (solveBefore A n cs)
+  unfolding solveBefore
+  answered-before = record {
+    outcome = searchBy second-before n (factsOf cs) .outcome;
+    count = searchBy second-before n (factsOf cs) .count;
+    ends = computed;
+    answers = answers-ended A n _ _ (found-inside computed (facts-inside n cs few));
+  }
+
+  pub before-unique : (was : Answer) → AnsweredBefore A n cs was → was ≡ solveBefore A n cs
+  before-unique was u = go (decLe (u .count) A)
+    where
+      e : (u .outcome ≡ answered-before .outcome) × (u .count ≡ answered-before .count)
+      e = ends-by-unique second-before n (u .ends) (answered-before .ends)
+
+      -- the computed answer, said of how u ended
+      v : Answers A n (u .outcome) (u .count) (solveBefore A n cs)
+      v = subst (λ (o : Outcome). Answers A n o (u .count) (solveBefore A n cs)) (sym (e .0))
+          (subst (λ (c : ℕ). Answers A n (answered-before .outcome) c (solveBefore A n cs)) (sym (e .1)) (answered-before .answers))
+
+      go : Dec (u .count ≤ A) → was ≡ solveBefore A n cs
+      go (yes l) = answers-same (λ R q. (holds n R, holds-decides n R (found-inside (u .ends) (facts-inside n cs few) R q))) v (u .answers) l l
+      go (no l) = u .answers .spent-iff .0 (omega arith) ∙ sym (v .spent-iff .0 (omega arith))
