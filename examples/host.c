@@ -1,7 +1,7 @@
 /*
  * A host program: solves the question of document 01's listing (M10), prints the tree and marks four candidates; solves and marks a question
- * in another order and with other numbers, one of siblings in order, one of the document node, and one with capitals; reads one set as paths
- * and solves it; writes a tree as XML and reads it back; solves for three centres with what each may draw; and lists what a refusal can say.
+ * in another order and with other numbers, one of siblings in order, one of the document node, one with capitals, and one with just enough
+ * choices; reads one set as paths and solves it; writes a tree as XML and reads it back; solves for three centres with what each may draw; and lists what a refusal can say.
  * What it prints is held to examples/host.stdout. It is C99 and C++; host.rs is the same in Rust.
  */
 #include <inttypes.h>
@@ -257,6 +257,21 @@ static void solve_capitals(uint8_t *answer)
     print_marked(cudreth_mark(bracket, sizeof bracket, brace, sizeof brace));
 }
 
+/* A set without a tree, in 8 choices: the second alternative of a chain join does not try 0 and 1 on one node once more, which would make 10. */
+static void solve_overlap(uint8_t *answer)
+{
+    const uint8_t question[] = {
+        CUDRETH_BELOW,          1, 2, 0,
+        CUDRETH_STRICTLY_BELOW, 0, 2, 0,
+        CUDRETH_BEFORE,         0, 3, 0,
+        CUDRETH_BEFORE,         2, 3, 0,
+    };
+    for (uint32_t allowance = 7; allowance <= 8; allowance++) {
+        printf("allowance %" PRIu32 ": ", allowance);
+        print_solved(cudreth_solve(question, sizeof question, answer, CUDRETH_ANSWER_BYTES, allowance), answer);
+    }
+}
+
 /* A node that both lines select: its records, then a tree that has it, as the node of variable 0. */
 static void read_and_solve(uint8_t *records, uint8_t *answer)
 {
@@ -399,6 +414,7 @@ int main(void)
     solve_brothers(answer);
     solve_document(answer);
     solve_capitals(answer);
+    solve_overlap(answer);
     read_and_solve(records, answer);
     write_and_read(answer, text, nodes);
     share_session(centres, answer);

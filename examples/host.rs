@@ -5,7 +5,7 @@ mod cudreth;
 
 use cudreth::{
     Centre, Drawn, Marked, PathsRead, Solved, Xml, ANSWER_BYTES, BEFORE, BELOW, CHILD, DIFFER, LABEL, NODE,
-    NODES_BYTES, PLACE, RECORDS_BYTES, RECORD_BYTES, ROOT, XML_BYTES,
+    NODES_BYTES, PLACE, RECORDS_BYTES, RECORD_BYTES, ROOT, STRICTLY_BELOW, XML_BYTES,
 };
 
 fn print_answer(answer: &[u8]) {
@@ -196,6 +196,14 @@ const BRACE: [u8; 12] = [
     PLACE, 0, 1, 0,
 ];
 
+#[rustfmt::skip]
+const OVERLAP: [u8; 16] = [
+    BELOW,          1, 2, 0,
+    STRICTLY_BELOW, 0, 2, 0,
+    BEFORE,         0, 3, 0,
+    BEFORE,         2, 3, 0,
+];
+
 const LINES: &str = "/child::a/descendant::c\nchild::b/child::c\n";
 
 #[rustfmt::skip]
@@ -284,6 +292,14 @@ fn solve_capitals(answer: &mut [u8]) {
     print_marked(cudreth::mark(&BOTH_CASES, &CAPITAL));
     print!("{{ drawn for [: ");
     print_marked(cudreth::mark(&BRACKET, &BRACE));
+}
+
+/// A set without a tree, in 8 choices: the second alternative of a chain join does not try 0 and 1 on one node once more, which would make 10.
+fn solve_overlap(answer: &mut [u8]) {
+    for allowance in 7..=8 {
+        print!("allowance {}: ", allowance);
+        print_solved(cudreth::solve(&OVERLAP, answer, allowance), answer);
+    }
 }
 
 /// A node that both lines select: its records, then a tree that has it, as the node of variable 0.
@@ -390,6 +406,7 @@ fn main() {
     solve_brothers(&mut answer);
     solve_document(&mut answer);
     solve_capitals(&mut answer);
+    solve_overlap(&mut answer);
     read_and_solve(&mut records, &mut answer);
     write_and_read(&mut answer, &mut text, &mut nodes);
     share_session(&mut centres, &mut answer);

@@ -30,7 +30,7 @@ extern "C" {
 #endif
 
 /* Rises with each landing that a host can notice. The archive does not know it: take header and archive from one commit. */
-#define CUDRETH_VERSION 7
+#define CUDRETH_VERSION 8
 
 /* Every record has 4 bytes; a file has no header. */
 #define CUDRETH_RECORD_BYTES 4
