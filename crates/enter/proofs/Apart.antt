@@ -6,19 +6,19 @@ use mathlib.Core.List.{List, _∷_, List·Memᴰ, List·Memᴰ·head, List·Mem�
 use Prim.Native.Nat.{ℕ, _<_, _≤_}
 use native.Mathlib.Nat.{le-trans}
 use native.Mathlib.Omega.{arith}
-use lib.Bits.{bitAnd, and-le-l}
+use lib.Bits.{and-le-l}
 use lib.Dec.{eqb}
 use Rattle.meaning.specs.Finite.{Yes}
 use Rattle.meaning.specs.ReadOff.{Decides}
 use Rattle.meaning.specs.Constraint.{Fact, child, below, differ, before, root, leaf, label}
 use Rattle.meaning.specs.Settled.{Settled, given, differ-back, same-differ}
-use Rattle.meaning.specs.Closed.{Rules, Inside, Within}
+use Rattle.meaning.specs.Closed.{Rules, Within}
 use Rattle.meaning.proofs.Tests.{yes-eq, is-eq, eq-yes}
 use Rattle.meaning.proofs.Least.{settled-mono, settled-rules, settled-within}
 use Rattle.theory.proofs.Closure.{rules-decide}
 use Rattle.rowbits.specs.Bit.{bit}
 use Rattle.tables.specs.Tables.{row, has, Ready}
-use Rattle.tables.specs.Rows.{gained, Raised, RaisedAlike}
+use Rattle.tables.specs.Rows.{gained, RaisedAlike}
 use Rattle.tables.specs.Free.{Free}
 use Rattle.tables.specs.declared.Facts.{Facts}
 use Rattle.tables.proofs.Bits.{in-both, both-in, in-row, same-row}

@@ -1,4 +1,4 @@
--- What O1 and O2 were is computed by the rules before, which leave one answer.
+-- What O1 and O2 were is computed by the rules of before, which leave one answer.
 use mathlib.Core.Path.{_≡_, refl, _∙_, subst}
 use mathlib.Core.List.{List}
 use Prim.Native.Nat.{ℕ}

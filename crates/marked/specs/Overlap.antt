@@ -1,4 +1,4 @@
--- O1 and O2 of the table by the rules before request (ix): the same none and the same tree, after more choices, so that two allowances of each were spent.
+-- O1 and O2 of the table by the rules of before: the same none and the same tree, after more choices, so that two allowances of each were spent.
 use mathlib.Core.Path.{_≡_}
 use mathlib.Core.List.{List}
 use Prim.Native.Nat.{ℕ}

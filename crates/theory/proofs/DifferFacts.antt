@@ -1,21 +1,22 @@
 -- A differ fact settles differ facts alone. So beside more of them a set has the same joins, and what is read off, which asks for no differ fact, is the
 -- same to the byte.
 use mathlib.Core.Path.{_≡_, refl, sym, ap, _∙_, fun-ext}
-use mathlib.Core.Logic.{_⊎_, inl, inr, ⊎-elim}
+use mathlib.Core.Logic.{_⊎_, ⊎-elim}
 use mathlib.Core.Bool.{false}
 use mathlib.Core.List.{List, _++_, map, List·Memᴰ}
 use Prim.Native.Nat.{ℕ, zero, suc}
 use lib.Dec.{eqb}
 use Rattle.meaning.specs.Tree.{Var}
 use Rattle.meaning.specs.Constraint.{Fact, child, below, differ, before, root, leaf, label}
-use Rattle.meaning.specs.Settled.{Settled, given, child-below, self-below, chain, root-below, leaf-below, one-parent, one-element, before-chain, before-child, after-child, same-parent, same-child, same-root, same-leaf, same-label, same-before, same-after, Same}
-use Rattle.meaning.specs.FixedSearch.{parent-join, chain-join, sibling-join, document-join, Join, join, IsJoin, FirstJoin}
+use Rattle.meaning.specs.Settled.{Settled, given, child-below, self-below, chain, root-below, leaf-below, one-parent, one-element, before-chain, before-child, after-child, same-parent, same-child, same-root, same-leaf, same-label, same-before, same-after}
+use Rattle.meaning.specs.FixedSearch.{Join, IsJoin, FirstJoin}
 use Rattle.meaning.specs.Closed.{Rules}
 use Rattle.meaning.specs.Finite.{pick, tab, position}
 use Rattle.meaning.specs.ReadOff.{FactSet, Decides, same, over, lowest, depth, layer, layers, order, element, front, nodeAt, place, nearest, parentOf, labelOf, nodes, places, nodeBytes, placeBytes, answerFile}
 use Rattle.meaning.proofs.Tests.{yes-eq}
 use Rattle.meaning.proofs.Facts.{_⊆_}
 use Rattle.meaning.proofs.Least.{settled-least, settled-mono}
+use Rattle.meaning.proofs.Congruence.{Asked, join-asked, first-asked}
 
 -- ---- what they settle
 
@@ -98,72 +99,21 @@ module _ (n : ℕ) (S T : List Fact) (b : Beside S T) where
   pub more : {f : Fact} → Settled n S f → Settled n T f
   more = settled-mono n S T (b .wider)
 
-  same-more : {x y : Var} → Same n S x y → Same n T x y
-  same-more s = record { to = more (s .to); fro = more (s .fro) }
+  asks-more : Asked n S T
+  asks-more = record { of-child = more; of-below = more; of-before = more; of-root = more }
 
-  same-kept : {x y : Var} → Same n T x y → Same n S x y
-  same-kept s = record { to = kept (s .to); fro = kept (s .fro) }
+  asks-kept : Asked n T S
+  asks-kept = record { of-child = kept; of-below = kept; of-before = kept; of-root = kept }
 
-  -- ---- the joins are the same
-
+  -- the joins are the same
   pub join-more : (j : Join) → IsJoin n S j → IsJoin n T j
-  join-more (join parent-join z x y) q = record {
-    parent = more (q .parent);
-    above = more (q .above);
-    not-same = λ s. q .not-same (same-kept s);
-    not-above = λ s. q .not-above (kept s);
-  }
-  join-more (join chain-join z x y) q = record {
-    ordered = q .ordered;
-    above-x = more (q .above-x);
-    above-y = more (q .above-y);
-    not-above = λ s. q .not-above (kept s);
-    not-below = λ s. q .not-below (kept s);
-  }
-  join-more (join sibling-join y a x) q = record {
-    siblings = ⊎-elim (λ s. inl (more s)) (λ s. inr (more s)) (q .siblings);
-    above = more (q .above);
-    not-same = λ s. q .not-same (same-kept s);
-    not-above = λ s. q .not-above (kept s);
-  }
-  join-more (join document-join r y w) q = record {
-    document = more (q .document);
-    element = more (q .element);
-    variable = q .variable;
-    not-same = λ s. q .not-same (same-kept s);
-    not-under = λ s. q .not-under (kept s);
-  }
+  join-more = join-asked asks-more asks-kept
 
   pub join-kept : (j : Join) → IsJoin n T j → IsJoin n S j
-  join-kept (join parent-join z x y) q = record {
-    parent = kept (q .parent);
-    above = kept (q .above);
-    not-same = λ s. q .not-same (same-more s);
-    not-above = λ s. q .not-above (more s);
-  }
-  join-kept (join chain-join z x y) q = record {
-    ordered = q .ordered;
-    above-x = kept (q .above-x);
-    above-y = kept (q .above-y);
-    not-above = λ s. q .not-above (more s);
-    not-below = λ s. q .not-below (more s);
-  }
-  join-kept (join sibling-join y a x) q = record {
-    siblings = ⊎-elim (λ s. inl (kept s)) (λ s. inr (kept s)) (q .siblings);
-    above = kept (q .above);
-    not-same = λ s. q .not-same (same-more s);
-    not-above = λ s. q .not-above (more s);
-  }
-  join-kept (join document-join r y w) q = record {
-    document = kept (q .document);
-    element = kept (q .element);
-    variable = q .variable;
-    not-same = λ s. q .not-same (same-more s);
-    not-under = λ s. q .not-under (more s);
-  }
+  join-kept = join-asked asks-kept asks-more
 
   pub first-more : (j : Join) → FirstJoin n S j → FirstJoin n T j
-  first-more j q = record { is-join = join-more j (q .is-join); none-earlier = λ k p. q .none-earlier k (join-kept k p) }
+  first-more = first-asked asks-more asks-kept
 
 -- ---- what is read off is the same
 

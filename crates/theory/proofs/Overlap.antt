@@ -1,10 +1,11 @@
--- What request (ix) changed. Beside more differ facts a search meets the same joins, and only some of its lines end earlier, in a clash. Such a line
--- holds no tree: differ(x,y) is entered only where the first alternative, which has the trees with x and y on one node, found none. So a tree stays
--- that tree, none stays none, and no count rises. By induction on the search by the rules before, beside whatever differ facts every tree keeps.
+-- The rules as they are beside those of before. Beside more differ facts a search meets the same joins, and only some of its lines end earlier, in a
+-- clash. Such a line holds no tree: differ(x,y) is entered only where the first alternative, which has the trees with x and y on one node, found none.
+-- So a tree stays that tree, none stays none, and no count rises: by induction on the search by the rules of before, whatever differ facts, kept by every
+-- tree, stand beside.
 use mathlib.Core.Path.{_≡_, refl, sym, ap, _∙_, subst}
 use mathlib.Core.Logic.{_⊎_, inl, inr, ⊎-elim}
-use mathlib.Core.List.{List, [], _∷_, _++_, List·Memᴰ, List·Memᴰ·head, List·Memᴰ·tail, Memᴰ·append-left, Memᴰ·append-right, List·Memᴰ·append-cases}
-use Prim.Native.Nat.{ℕ, _+_, _≤_, _<_, zero-le}
+use mathlib.Core.List.{List, [], _∷_, _++_, List·Memᴰ, List·Memᴰ·head, Memᴰ·append-left, Memᴰ·append-right, List·Memᴰ·append-cases}
+use Prim.Native.Nat.{ℕ, _+_, _≤_, zero-le}
 use native.Mathlib.Nat.{le-refl, le-trans}
 use native.Mathlib.Decide.{decLe}
 use native.Mathlib.Omega.{arith}
@@ -51,7 +52,7 @@ second-only (join chain-join z x y) f m = in-two (λ g. List·Memᴰ g (below y 
 second-only (join sibling-join y a x) f m = inl m
 second-only (join document-join r y w) f m = inl m
 
--- by the rules before, too, a second alternative adds a pair to below
+-- by the rules of before, too, a second alternative adds a pair to below
 before-adds : (n : ℕ) (S : List Fact) → Inside n S → (j : Join) → IsJoin n S j → Adds n S (second-before j)
 before-adds n S ins (join parent-join z x y) q = second-adds n S ins (join parent-join z x y) q
 before-adds n S ins (join chain-join z x y) q =
@@ -84,7 +85,7 @@ pub record Kin (n : ℕ) (S T : List Fact) : Type 0 where
   pub labelled : (x : Var) (l : Label) → List·Memᴰ (label x l) T → FactLabel l
   pub implied : (t : Tree) → IsTree t → (a : Assignment) → HoldsAll n t a S → HoldsAll n t a T
 
--- o by the rules before, and p by those of now, beside differ facts
+-- o by the rules of before, and p by those of now, beside differ facts
 abbrev Alike : ℕ → Outcome → Outcome → Type 0
 Alike n in-none in-none = Unit {0}
 Alike n in-none (in-tree Q) = ⊥
@@ -317,7 +318,7 @@ pub promised-stays : {A : ℕ} {file buffer after : List ℕ} {r : Solved} {cs :
     → judge file ≡ accepted cs → 136 ≤ length buffer → AnsweredBefore A (vars cs) cs was → (is : Answer) × (r ≡ solver-answers is) × Stays was is
 promised-stays {cs = cs} b p e l u = let a = p .answers e l in (a .0, a .1, overlap (vars cs) cs (le-refl _) b .stays u (a .2 .demand-3))
 
--- ---- the rules before give an answer to everything, and one
+-- ---- the rules of before give an answer to everything, and one
 
 found-inside : {n : ℕ} {S : List Fact} {o : Outcome} {c : ℕ} → EndsBy second-before n S o c → Inside n S → (R : List Fact) → o ≡ in-tree R → Inside n R
 found-inside (by-clash k) ins R e = absurd (let z : _≡_ {A = ℕ} 0 1 = cc in omega arith)

@@ -1,5 +1,5 @@
--- The rules before request (ix), by which the second alternative of a chain join admitted both variables on one node, as the first does: what the
--- rules as they are are compared with (proofs/Overlap.antt). Nothing that runs cites them.
+-- The rules of before (docs/FORMAT.md, "The chain join's overlap"), by which the second alternative of a chain join admitted both variables on one node,
+-- as the first does, and what is owed beside them (proofs/Overlap.antt). Nothing that runs cites them.
 use mathlib.Core.Path.{_≡_}
 use mathlib.Core.List.{List, [], _∷_, _++_}
 use Prim.Native.Nat.{ℕ, _+_, _≤_}
@@ -28,7 +28,7 @@ pub data EndsBy (second : Join → List Fact) (n : ℕ) : List Fact → Outcome 
       → EndsBy second n (first-alternative j ++ S) in-none c → EndsBy second n (second j ++ S) o d
       → EndsBy second n S o (2 + c + d)
 
--- what was answered under the allowance A by the rules before
+-- what was answered under the allowance A by the rules of before
 pub record AnsweredBefore (A n : ℕ) (cs : List Constraint) (was : Answer) : Type 0 where
   pub outcome : Outcome
   pub count : ℕ
@@ -62,8 +62,8 @@ SameVerdict (a-none c) (a-spent d) = ⊥
 SameVerdict (a-spent c) (a-tree d ds) = ⊥
 SameVerdict (a-spent c) (a-none d) = ⊥
 
--- What the request owes, of any answers that the rules before gave and that demand 3 promises.
+-- What is owed, of any answers that the rules of before gave and that demand 3 promises.
 pub record Overlap (n : ℕ) (cs : List Constraint) : Type 0 where
   pub stays : {A : ℕ} {was is : Answer} → AnsweredBefore A n cs was → Demand3 A n cs is → Stays was is
-  -- a verdict where it was spent is the one that the rules before came to under a larger allowance B
+  -- a verdict where it was spent is the one that the rules of before came to under a larger allowance B
   pub sooner : {A B : ℕ} {was is : Answer} → AnsweredBefore B n cs was → ¬ (was ≡ a-spent B) → Demand3 A n cs is → ¬ (is ≡ a-spent A) → SameVerdict was is
