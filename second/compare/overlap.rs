@@ -9,7 +9,7 @@ use second::verdict::{hex, SolverVerdict};
 use second::LEAST_BUFFER;
 use std::collections::BTreeSet;
 
-pub const OVERLAP: [&str; 14] = [
+pub const OVERLAP: [&str; 18] = [
     "a tree with a smaller count",
     "none with a smaller count",
     "a tree with the same count",
@@ -20,6 +20,10 @@ pub const OVERLAP: [&str; 14] = [
     "a tree by the second alternative of a chain join",
     "a line ended by the differ of a chain join's second alternative",
     "a second alternative of a chain join that clashes at once, before with below",
+    "a small set with a smaller count by third joins, over 4 variables",
+    "a small set with a smaller count by third joins, over 5 variables",
+    "a small set with a smaller count by parent joins",
+    "a small set with a smaller count by fourth joins",
     "a random tree with a smaller count",
     "a random none with a smaller count",
     "a random spent that becomes a verdict",
