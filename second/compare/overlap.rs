@@ -88,7 +88,9 @@ impl Comparison {
         const MORE: u32 = 8;
         let under = before_nine(&solved.file, LEAST_BUFFER, solved.allowance);
         let more = match under {
-            SolverVerdict::Spent { .. } => before_nine(&solved.file, LEAST_BUFFER, MORE * solved.allowance),
+            SolverVerdict::Spent { .. } if count_of(&solved.verdict).is_some() => {
+                before_nine(&solved.file, LEAST_BUFFER, MORE * solved.allowance)
+            }
             _ => under.clone(),
         };
         let enough = Some(&more).filter(|more| count_of(more).is_some());
@@ -162,7 +164,7 @@ pub fn count_of(verdict: &SolverVerdict) -> Option<u32> {
 /// Around the count of before and the one of now, and between the two.
 fn allowances_around(was: u32, is: u32) -> BTreeSet<u32> {
     let mut allowances = BTreeSet::from([0, u32::MAX]);
-    for count in [was, is, is + (was - is) / 2] {
+    for count in [was, is, is / 2 + was / 2] {
         allowances.extend([count.saturating_sub(1), count, count + 1]);
     }
     allowances
