@@ -7,6 +7,7 @@
 //   against differ and label before anything is written, and then its parents are merged in turn.
 // - Only rows whose ancestors grew can have got a join, so the rows known to have none are kept as masks.
 // - The first alternative works on a copy of the state, the second on the state itself.
+// - The second alternative of a chain join adds to the differ facts, which all lines share: a line puts them back as it found them.
 // - All is compiled four times, for sets with and without a before record, and with and without a root record: a set without before carries
 //   no rows of siblings and asks nothing of them, and a set without a root asks nothing of the document node.
 use crate::gate;
@@ -104,7 +105,7 @@ fn transposed(rows: &Rows) -> Rows {
     columns
 }
 
-// The given facts that the search looks up and never changes.
+// The given facts that the search looks up. Only differ grows, along a line.
 struct Given {
     differ: Rows,
     label: [u8; 16],
@@ -345,14 +346,14 @@ enum End {
     Spent,
 }
 
-struct Search<'a, const K: usize, const R: bool> {
-    given: &'a Given,
+struct Search<const K: usize, const R: bool> {
+    given: Given,
     allowance: u32,
     count: u32,
     found: State<K>,
 }
 
-impl<const K: usize, const R: bool> Search<'_, K, R> {
+impl<const K: usize, const R: bool> Search<K, R> {
     // One more alternative, if the allowance has it.
     #[inline(always)]
     fn choose(&mut self) -> bool {
@@ -382,7 +383,7 @@ impl<const K: usize, const R: bool> Search<'_, K, R> {
             return End::None;
         }
         let mut first = *s;
-        if first.merge::<R>(self.given, x, y) {
+        if first.merge::<R>(&self.given, x, y) {
             self.line(&mut first)
         } else {
             End::None
@@ -390,16 +391,18 @@ impl<const K: usize, const R: bool> Search<'_, K, R> {
     }
 
     fn line(&mut self, s: &mut State<K>) -> End {
-        loop {
+        // the differ facts, once the line has added to them
+        let mut found: Option<Rows> = None;
+        let end = loop {
             let join = s.first_join();
             if let Join::Nothing = join {
                 match self.last(s) {
-                    Some(end) => return end,
+                    Some(end) => break end,
                     None => continue,
                 }
             }
             if !self.choose() {
-                return End::Spent;
+                break End::Spent;
             }
             let end = match join {
                 Join::Parent(_, x, y) if s.above[x] & one(y) != 0 => self.merged(s, x, y, s.below[y] & s.above[x]),
@@ -410,20 +413,28 @@ impl<const K: usize, const R: bool> Search<'_, K, R> {
             };
             match end {
                 End::None => {}
-                end => return end,
+                end => break end,
             }
             if !self.choose() {
-                return End::Spent;
+                break End::Spent;
             }
             let holds = match join {
-                Join::Chain(x, y) => s.enter(s.above[y], s.below[x], s.below[x]),
-                Join::Parent(z, x, _) | Join::Sibling(z, x, _) => s.merge::<R>(self.given, z, x),
+                Join::Chain(x, y) => {
+                    found.get_or_insert(self.given.differ);
+                    self.given.differ[x] |= one(y);
+                    s.enter(s.above[y], s.below[x], s.below[x])
+                }
+                Join::Parent(z, x, _) | Join::Sibling(z, x, _) => s.merge::<R>(&self.given, z, x),
                 Join::Nothing => false,
             };
             if !holds {
-                return End::None;
+                break End::None;
             }
+        };
+        if let Some(differ) = found {
+            self.given.differ = differ;
         }
+        end
     }
 
     // Where there is no other join: the end of the line, or nothing if it goes on with the second alternative of a document join.
@@ -457,7 +468,7 @@ impl<const K: usize, const R: bool> Search<'_, K, R> {
         if !self.choose() {
             return Some(End::Spent);
         }
-        if s.merge::<R>(self.given, w, r) {
+        if s.merge::<R>(&self.given, w, r) {
             None
         } else {
             Some(End::None)
@@ -776,10 +787,10 @@ fn search<const K: usize, const R: bool>(facts: &Facts, n: usize, answer: &mut [
     let Some((given, mut state)) = settled::<K, R>(facts, n) else {
         return NONE;
     };
-    let mut search: Search<K, R> = Search { given: &given, allowance, count: 0, found: state };
+    let mut search: Search<K, R> = Search { given, allowance, count: 0, found: state };
     match search.line(&mut state) {
         End::Tree => {
-            let bytes = read_off::<K, R>(&search.found, &given.label, n, answer);
+            let bytes = read_off::<K, R>(&search.found, &search.given.label, n, answer);
             TREE | (bytes as u64) << 32 | search.count as u64
         }
         End::None => NONE | search.count as u64,

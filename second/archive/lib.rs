@@ -109,6 +109,35 @@ pub fn hold_solver(file: &[u8], buffer: usize, allowance: u32, expected: &Solver
     Ok(())
 }
 
+/// The archive's own verdict, whatever it is: the same both times, with nothing written but the front that it tells of.
+pub fn solved(file: &[u8], buffer: usize, allowance: u32) -> Result<SolverVerdict, Disagreement> {
+    let said = WAYS.map(|way| {
+        let mut constraints = Lent::holding(file, &way);
+        let mut answer = Lent::noise(buffer, &way);
+        let (file_lent, answer_lent) = (constraints.lent(), answer.lent());
+        let result = unsafe {
+            cudreth_solve(file_lent.as_ptr(), file_lent.len(), answer_lent.as_mut_ptr(), answer_lent.len(), allowance)
+        };
+        let written = (result >> 32 & 0xffff) as usize;
+        let verdict = answer.lent().get(..written).and_then(|front| solver_verdict(result, front));
+        (result, verdict.filter(|verdict| wrote_only(verdict, &answer) && constraints.changed_only_by(&[])))
+    });
+    match said {
+        [(_, Some(verdict)), (_, Some(again))] if verdict == again => Ok(verdict),
+        [(first, _), (second, _)] => Err(Disagreement(format!(
+            "solve, buffer {buffer}, allowance {allowance}\nconstraints {}\nno verdict, or more written than told, or two results: {first:#x}, {second:#x}",
+            hex(file)
+        ))),
+    }
+}
+
+fn wrote_only(verdict: &SolverVerdict, lent: &Lent<u8>) -> bool {
+    match verdict {
+        SolverVerdict::Tree { answer, .. } => lent.changed_only_by(answer),
+        _ => lent.changed_only_by(&[]),
+    }
+}
+
 pub fn hold_marker(file: &[u8], answer_file: &[u8], expected: &MarkerVerdict) -> Result<(), Disagreement> {
     for way in &WAYS {
         let mut constraints = Lent::holding(file, way);
@@ -277,6 +306,19 @@ fn solver_number(verdict: &SolverVerdict) -> u64 {
         SolverVerdict::Spent { count } => number(2, 0, *count as u64),
         SolverVerdict::Refused(Refusal(question)) => number(3, 0, *question as u64),
     }
+}
+
+/// `front` is what was written, as the result tells.
+fn solver_verdict(result: u64, front: &[u8]) -> Option<SolverVerdict> {
+    let low = result as u32;
+    let verdict = match result >> 48 {
+        0 => SolverVerdict::Tree { count: low, answer: front.to_vec() },
+        1 => SolverVerdict::None { count: low },
+        2 => SolverVerdict::Spent { count: low },
+        _ => SolverVerdict::Refused(Refusal(low.try_into().ok()?)),
+    };
+    // Nothing is told in bits that the verdict does not use.
+    Some(verdict).filter(|verdict| solver_number(verdict) == result)
 }
 
 fn marker_number(verdict: &MarkerVerdict) -> u64 {

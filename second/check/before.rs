@@ -1,9 +1,9 @@
 //! A stored file as it was before a request that changed answers in it. What the request does to every answer alike is undone here; the
 //! questions of which it changed more are listed as they were, and each of these must have changed by a rule of the request.
 
-use crate::changes::{print_by_sort, print_listed};
+use crate::changes::{print_by_sort, print_counts, print_listed};
 use crate::{fail, text_of};
-use second::search::Trace;
+use second::search::{Rules, Trace};
 use second::tree::{Assignment, Node, Tree, DOCUMENT_NODE, OUTERMOST_ELEMENT};
 use second::verdict::{hex, MarkerVerdict, SolverVerdict};
 use second::{answer, Refusal, LEAST_BUFFER};
@@ -20,10 +20,11 @@ pub struct Request {
     pub changes: fn(&Request, &str, &str),
 }
 
-pub const REQUESTS: [(&str, Request); 3] = [
+pub const REQUESTS: [(&str, Request); 4] = [
     ("iii", Request { undone: str::to_string, why: why_by_kind_9, changes: print_listed }),
     ("v", Request { undone: without_document_node, why: why_by_document_node, changes: print_by_sort }),
     ("vi", Request { undone: str::to_string, why: why_by_capitals, changes: print_listed }),
+    ("ix", Request { undone: str::to_string, why: why_by_overlap, changes: print_counts }),
 ];
 
 /// `lines` are the questions listed, as they were; each stands in the file under its name.
@@ -96,6 +97,45 @@ fn why_by_capitals(before: &str, now: &str) -> Result<String, String> {
     Ok(changed.join("; "))
 }
 
+/// A second alternative of a chain join was entered, so that the count can have fallen, or spent have become a verdict; all else of the
+/// question is as it was.
+fn why_by_overlap(before: &str, now: &str) -> Result<String, String> {
+    if now == before {
+        return Err("has not changed".to_string());
+    }
+    let Some(Question { file, expected: Expected::Solver { buffer, allowance, verdict: was }, .. }) =
+        written::stored_question(before)
+    else {
+        return Err("was no question to the solver".to_string());
+    };
+    let asked = before.strip_suffix(&was.to_string()).ok_or("is not written as verdicts are")?;
+    let is = match (now.strip_prefix(asked), written::stored_question(now).map(|question| question.expected)) {
+        (Some(_), Some(Expected::Solver { verdict, .. })) => verdict,
+        _ => return Err("is another question now".to_string()),
+    };
+    let (said, trace) = second::solve_by(Rules::BeforeNine, &file, buffer, allowance);
+    if said != was {
+        return Err(format!("was {said} by the rules of before"));
+    }
+    if trace.second_of_chain == 0 {
+        return Err("no second alternative of a chain join was entered".to_string());
+    }
+    let unspent = second::solve_by(Rules::BeforeNine, &file, buffer, u32::MAX).0;
+    if !is_but_for_a_smaller_count(&is, &unspent) {
+        return Err("has changed by more than its count, or than spent to the verdict it would have been".to_string());
+    }
+    Ok(format!("second alternatives of chain joins, {}", choices(trace.second_of_chain)))
+}
+
+fn is_but_for_a_smaller_count(now: &SolverVerdict, before: &SolverVerdict) -> bool {
+    use SolverVerdict::{None, Tree};
+    match (now, before) {
+        (Tree { count, answer }, Tree { count: was, answer: tree }) => count < was && answer == tree,
+        (None { count }, None { count: was }) => count < was,
+        _ => false,
+    }
+}
+
 /// The shortest buffer was 132 bytes, and a tree had no nodes but those of groups and a blank one over several.
 const LEAST_BUFFER_BEFORE: usize = 132;
 
@@ -158,7 +198,7 @@ fn why_by_document_node(before: &str, now: &str) -> Result<String, String> {
             Expected::Solver { buffer: LEAST_BUFFER_BEFORE, allowance: allowed, .. },
             Expected::Solver { buffer: LEAST_BUFFER, allowance, .. },
         ) if before.file == now.file && allowed == allowance => {
-            let (_, trace) = second::solve_traced(&now.file, LEAST_BUFFER, *allowance);
+            let (_, trace) = second::solve_by(Rules::BeforeNine, &now.file, LEAST_BUFFER, *allowance);
             Some(rules_at_work(&trace))
                 .filter(|rules| !rules.is_empty())
                 .ok_or("no rule of the request is at work".into())

@@ -19,6 +19,33 @@ pub fn print_listed(request: &Request, lines: &str, path: &str) {
     println!();
 }
 
+/// Of request (ix): how many of how many, and verdict and count as they were and as they are.
+pub fn print_counts(request: &Request, lines: &str, path: &str) {
+    let pairs = pairs(lines, path);
+    let questions = pairs.iter().filter(|(now, _)| written::stored_question(now).is_some()).count();
+    let listed: Vec<(&str, &str)> =
+        pairs.iter().filter_map(|(now, before)| before.as_deref().map(|before| (now.as_str(), before))).collect();
+    println!(
+        "## {path} ({} of {questions})\n\n| question | allowance | before | now |\n|---|---|---|---|",
+        listed.len()
+    );
+    for (now, before) in listed {
+        if let Err(how) = (request.why)(before, now) {
+            fail(lines, &format!("{}: {how}", name_of(now)));
+        }
+        let (was, is) = (verdict_of(before), verdict_of(now));
+        println!("| {} | {} | {} {} | {} {} |", name_of(now), allowance_of(now), was.0, was.1, is.0, is.1);
+    }
+    println!();
+}
+
+fn allowance_of(line: &str) -> u32 {
+    match written::stored_question(line).map(|question| question.expected) {
+        Some(Expected::Solver { allowance, .. }) => allowance,
+        _ => fail("stored", &format!("not a question to the solver: {line}")),
+    }
+}
+
 /// Of request (v): how many of each sort, and a row for each whose verdict or count is another.
 pub fn print_by_sort(request: &Request, lines: &str, path: &str) {
     let mut sorts: BTreeMap<String, usize> = BTreeMap::new();

@@ -1,7 +1,7 @@
 //! Holds the second side and the archive to the stored questions and to the examples. After a change of the rules, `again` prints a
 //! stored file with the verdicts that the second solver now gives: its diff with the file lists the stored answers that change.
 //!
-//! `before` prints a stored file as it was before request iii, v or vi, and fails if more than that request asks has changed since; `changes`
+//! `before` prints a stored file as it was before request iii, v, vi or ix, and fails if more than that request asks has changed since; `changes`
 //! prints what the request changed.
 //!
 //! usage: check stored FILE... | check examples FILE... | check again FILE | check before|changes REQUEST LINES FILE

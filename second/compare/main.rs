@@ -15,6 +15,7 @@ mod draws;
 mod meaning;
 mod one_pass;
 mod ordered;
+mod overlap;
 mod path_rounds;
 mod path_sorts;
 mod paths;
@@ -28,6 +29,7 @@ mod small;
 mod small_capitals;
 mod small_document;
 mod small_draws;
+mod small_overlap;
 mod small_passes;
 mod small_shuffles;
 mod small_xml_texts;
@@ -43,9 +45,11 @@ use capitals::CAPITALS;
 use document::DOCUMENT;
 use draw_sorts::DRAWS;
 use one_pass::PASSES;
+use overlap::OVERLAP;
 use path_sorts::PathSorts;
 use questions::Random;
 use second::constraint;
+use second::search::Trace;
 use second::verdict::{MarkerVerdict, SolverVerdict};
 use second::Refusal;
 use selection::{Selections, SmallTrees};
@@ -71,6 +75,7 @@ struct Comparison {
     passes: CameUp,
     xml: CameUp,
     draws: CameUp,
+    overlap: CameUp,
     path_sorts: PathSorts,
     selections: Selections,
     small_trees: SmallTrees,
@@ -117,6 +122,7 @@ impl Comparison {
             passes: CameUp::new(&PASSES),
             xml: CameUp::new(&XML),
             draws: CameUp::new(&DRAWS),
+            overlap: CameUp::new(&OVERLAP),
             path_sorts: PathSorts::default(),
             selections: Selections::default(),
             small_trees: SmallTrees::default(),
@@ -156,12 +162,23 @@ impl Comparison {
     }
 
     fn solve(&mut self, sort: &'static str, file: &[u8], buffer: usize, allowance: u32) -> SolverVerdict {
+        self.solve_traced(sort, file, buffer, allowance).0
+    }
+
+    fn solve_traced(
+        &mut self,
+        sort: &'static str,
+        file: &[u8],
+        buffer: usize,
+        allowance: u32,
+    ) -> (SolverVerdict, Trace) {
         let (verdict, trace) = second::solve_traced(file, buffer, allowance);
         self.hold_solver(sort, file, buffer, allowance, &verdict);
         self.note_brothers(file, &verdict, &trace);
         self.note_document(file, buffer, &verdict, &trace);
         self.note_capitals(file, &verdict, &trace);
-        verdict
+        self.note_overlap(&trace);
+        (verdict, trace)
     }
 
     fn mark(&mut self, sort: &'static str, file: &[u8], answer_file: &[u8]) -> MarkerVerdict {
@@ -192,8 +209,16 @@ impl Comparison {
             .chain([18, 19, 20].map(|question| format!("draw refused {question}")))
             .chain(["xml write, written", "xml read, written", "draw granted"].map(String::from));
         let not_seen = must_be_seen.into_iter().find(|verdict| !self.seen.contains_key(verdict));
-        let came_up =
-            [&self.brothers, &self.document, &self.capitals, &self.shuffles, &self.passes, &self.xml, &self.draws];
+        let came_up = [
+            &self.brothers,
+            &self.document,
+            &self.capitals,
+            &self.shuffles,
+            &self.passes,
+            &self.xml,
+            &self.draws,
+            &self.overlap,
+        ];
         let not_seen = not_seen.or_else(|| came_up.into_iter().find_map(CameUp::missing));
         if let Some(sort) = not_seen.or_else(|| self.path_sort_not_seen()) {
             println!("compare: '{sort}' never came up; a longer run is needed");
@@ -211,6 +236,7 @@ impl Comparison {
         println!("compare: one pass: {}", self.passes);
         println!("compare: trees as XML: {}", self.xml);
         println!("compare: draws by centres: {}", self.draws);
+        println!("compare: the chain join's overlap: {}", self.overlap);
         let Selections { trees, nones, tree_by_tree } = self.selections;
         println!(
             "compare: paths against definition 2.3: variable 0 selected in {trees} trees found; {nones} times none, and no tree of up to \

@@ -3,6 +3,7 @@
 use crate::{disagree, Comparison};
 use questions::capitals::crowded_letters;
 use questions::document::{crowded_document, with_document};
+use questions::overlap::crowded_chain;
 use questions::{
     crowded_path, crowded_siblings, free, planted, random_assignment, random_constraint, random_tree, Mix,
 };
@@ -45,7 +46,7 @@ impl Comparison {
         let Drawn { sort, constraints, tree, assignment } = self.random_question();
         let allowance = self.affordable(number_of_variables(&constraints));
         let file = constraint::write(&constraints);
-        let verdict = self.solve(sort, &file, LEAST_BUFFER, allowance);
+        let (verdict, trace) = self.solve_traced(sort, &file, LEAST_BUFFER, allowance);
         if let SolverVerdict::Tree { count, .. } | SolverVerdict::None { count } = verdict {
             *self.counts.entry(count.to_string().len()).or_default() += 1;
         }
@@ -55,6 +56,9 @@ impl Comparison {
         self.check_some_meanings(&constraints, &verdict);
         let solved = Solved { file, allowance, verdict };
         self.allowances(&solved);
+        if trace.second_of_chain > 0 {
+            self.solved_by_both_rules(&solved);
+        }
         self.buffers(&solved);
         self.doubled(&solved, &constraints);
         self.solved_in_another_order(&solved);
@@ -78,7 +82,7 @@ impl Comparison {
         let number_of_nodes = 2 + self.random.below(variables + 3);
         let tree = random_tree(&mut self.random, number_of_nodes);
         let assignment = random_assignment(&mut self.random, variables, &tree);
-        let (sort, constraints) = match self.random.below(19) {
+        let (sort, constraints) = match self.random.below(20) {
             0 if self.random.one_in(2) => ("crowded paths", crowded_path(&mut self.random)),
             0 => ("crowded siblings", crowded_siblings(&mut self.random)),
             1 => ("crowded documents", crowded_document(&mut self.random)),
@@ -97,6 +101,7 @@ impl Comparison {
                 }
                 ("nearly planted questions", constraints)
             }
+            15 => ("crowded chains", crowded_chain(&mut self.random)),
             _ => ("free questions", free(&mut self.random, variables, records, &mix)),
         };
         Drawn { sort, constraints, tree, assignment }
@@ -176,6 +181,7 @@ impl Comparison {
             }
             let damaged = Solved { file, allowance, verdict };
             self.damaged_in_other_case(&damaged, buffer);
+            self.damaged_by_both_rules(&damaged, buffer);
             self.split_damaged(&damaged.file);
             let answer_file = match &solved.verdict {
                 SolverVerdict::Tree { answer, .. } => answer.clone(),

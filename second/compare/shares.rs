@@ -9,10 +9,11 @@ use std::thread;
 use std::time::{Duration, Instant};
 
 /// What is compared whatever the seed, what takes longest first.
-const PARTS: [fn(&mut Comparison); 14] = [
+const PARTS: [fn(&mut Comparison); 15] = [
     Comparison::all_small_questions,
     Comparison::all_small_shuffles,
     Comparison::all_small_capitals,
+    Comparison::all_small_overlaps,
     Comparison::all_small_paths,
     Comparison::all_small_paths_with_capitals,
     Comparison::all_small_documents,
@@ -79,6 +80,7 @@ impl Comparison {
         self.passes.add(other.passes);
         self.xml.add(other.xml);
         self.draws.add(other.draws);
+        self.overlap.add(other.overlap);
         add(&mut self.path_sorts, other.path_sorts);
         self.selections.trees += other.selections.trees;
         self.selections.nones += other.selections.nones;

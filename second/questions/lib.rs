@@ -3,6 +3,7 @@
 pub mod capitals;
 pub mod centres;
 pub mod document;
+pub mod overlap;
 pub mod paths;
 pub mod shuffle;
 pub mod xml;

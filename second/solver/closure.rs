@@ -102,10 +102,14 @@ pub struct Settling {
     pub made_one_child: bool,
 }
 
-/// The settled set of the constraints over variables 0 to n−1, or its clash.
-pub fn settle_constraints(constraints: &[Constraint], variables: usize) -> Settling {
+/// The settled set of the constraints over variables 0 to n−1 and of some more facts, or its clash.
+pub fn settle_constraints(
+    constraints: &[Constraint],
+    variables: usize,
+    more: impl IntoIterator<Item = Fact>,
+) -> Settling {
     let variables = (0..variables as u8).map(Variable).collect();
-    let facts = constraints.iter().flat_map(|&constraint| facts_of(constraint)).collect();
+    let facts = constraints.iter().flat_map(|&constraint| facts_of(constraint)).chain(more).collect();
     settle(variables, facts)
 }
 

@@ -19,7 +19,7 @@ pub mod verdict;
 pub mod xml;
 
 use centres::Centre;
-use search::{Outcome, Trace};
+use search::{Outcome, Rules, Trace};
 use verdict::{DrawVerdict, FillVerdict, MarkerVerdict, SolverVerdict};
 
 /// The number of the question that a file, buffer or draw fails.
@@ -40,6 +40,10 @@ pub fn solve(constraint_file: &[u8], buffer_length: usize, allowance: u32) -> So
 
 /// The verdict, and how the search came to it; a refused file is not searched.
 pub fn solve_traced(constraint_file: &[u8], buffer_length: usize, allowance: u32) -> (SolverVerdict, Trace) {
+    solve_by(Rules::Now, constraint_file, buffer_length, allowance)
+}
+
+pub fn solve_by(rules: Rules, constraint_file: &[u8], buffer_length: usize, allowance: u32) -> (SolverVerdict, Trace) {
     let refused = |refusal| (SolverVerdict::Refused(refusal), Trace::default());
     let constraints = match constraint::read(constraint_file) {
         Ok(constraints) => constraints,
@@ -48,7 +52,7 @@ pub fn solve_traced(constraint_file: &[u8], buffer_length: usize, allowance: u32
     if buffer_length < LEAST_BUFFER {
         return refused(Refusal(7));
     }
-    let (outcome, count, trace) = search::search(&constraints, allowance);
+    let (outcome, count, trace) = search::search(&constraints, allowance, rules);
     let verdict = match outcome {
         Outcome::None => SolverVerdict::None { count },
         Outcome::Spent => SolverVerdict::Spent { count },

@@ -1,5 +1,5 @@
 //! Joins, choices and the allowance (source 000, section 3.4, in document 01's fixed order; document 02, request (iii), for the third join,
-//! and request (v), for the fourth).
+//! request (v), for the fourth, and request (ix), for the chain join's second alternative).
 
 use crate::closure::{same, settle_constraints, Clash, Fact, Settled, Settling};
 use crate::constraint::{number_of_variables, Constraint, Variable};
@@ -37,12 +37,23 @@ pub enum Join {
     },
 }
 
+/// Those of before request (ix) are kept, since it says how the answers by both compare.
+#[derive(Clone, Copy, PartialEq, Eq, Debug)]
+pub enum Rules {
+    BeforeNine,
+    Now,
+}
+
 impl Join {
     /// In the order in which they are entered.
-    fn alternatives(self) -> [Vec<Fact>; 2] {
+    fn alternatives(self, rules: Rules) -> [Vec<Fact>; 2] {
         match self {
             Join::Parent { x, y, z } => [vec![Fact::Below(x, y)], same(x, z)],
-            Join::Chain { x, y } => [vec![Fact::Below(x, y)], vec![Fact::Below(y, x)]],
+            Join::Chain { x, y } => match rules {
+                Rules::BeforeNine => [vec![Fact::Below(x, y)], vec![Fact::Below(y, x)]],
+                // x and y on one node are the first one's.
+                Rules::Now => [vec![Fact::Below(x, y)], vec![Fact::Below(y, x), Fact::Differ(x, y)]],
+            },
             Join::Sibling { a, x, y } => [vec![Fact::Below(a, x)], same(a, y)],
             Join::Document { r, y, w } => [vec![Fact::Below(y, w)], same(w, r)],
         }
@@ -104,32 +115,44 @@ pub struct Trace {
     /// Was a fourth join come to, and how many alternatives of such joins were entered?
     pub came_to_fourth_join: bool,
     pub of_fourth_joins: u32,
-    /// The alternatives of the line that ended in a tree, the innermost first: the join, and 0 or 1.
+    /// How many second alternatives of chain joins were entered, and what ended those of them that clashed at once?
+    pub second_of_chain: u32,
+    pub second_of_chain_clashed: BTreeSet<Clash>,
+    /// Did a line end that would have gone on by the rules of before request (ix)?
+    pub ended_by_overlap: bool,
+    /// The alternatives of the line that ended in a tree, the outermost first: the join, and 0 or 1.
     pub line: Vec<(Join, usize)>,
 }
 
-struct Search {
+struct Search<'a> {
+    constraints: &'a [Constraint],
+    rules: Rules,
     allowance: u32,
     count: u32,
+    /// The alternatives of the line that is searched, the outermost first.
+    line: Vec<(Join, usize)>,
     trace: Trace,
 }
 
 /// The outcome, the count of choices, and how it came about.
-pub fn search(constraints: &[Constraint], allowance: u32) -> (Outcome, u32, Trace) {
+pub fn search(constraints: &[Constraint], allowance: u32, rules: Rules) -> (Outcome, u32, Trace) {
     let variables = number_of_variables(constraints);
-    let mut search = Search { allowance, count: 0, trace: Trace::default() };
-    let outcome = search.explore(settle_constraints(constraints, variables));
+    let mut search = Search { constraints, rules, allowance, count: 0, line: Vec::new(), trace: Trace::default() };
+    let outcome = search.explore(settle_constraints(constraints, variables, []));
+    if matches!(outcome, Outcome::Solved(_)) {
+        search.trace.line = search.line;
+    }
     (outcome, search.count, search.trace)
 }
 
-impl Search {
+impl Search<'_> {
     /// Searches one line to its end.
     fn explore(&mut self, settling: Settling) -> Outcome {
         self.trace.made_one_child |= settling.made_one_child;
         let settled = match settling.result {
             Ok(settled) => settled,
             Err(clash) => {
-                self.trace.clashes.insert(clash);
+                self.note_clash(clash);
                 return Outcome::None;
             }
         };
@@ -138,21 +161,41 @@ impl Search {
         };
         let is_fourth = matches!(join, Join::Document { .. });
         self.trace.came_to_fourth_join |= is_fourth;
-        for (at, alternative) in join.alternatives().iter().enumerate() {
+        for (at, alternative) in join.alternatives(self.rules).iter().enumerate() {
             if self.count == self.allowance {
                 return Outcome::Spent;
             }
             self.count += 1;
             self.trace.of_fourth_joins += is_fourth as u32;
+            self.trace.second_of_chain += is_second_of_chain(&(join, at)) as u32;
+            self.line.push((join, at));
             match self.explore(settled.with(alternative)) {
-                Outcome::None => continue,
-                Outcome::Spent => return Outcome::Spent,
-                solved => {
-                    self.trace.line.push((join, at));
-                    return solved;
-                }
+                Outcome::None => drop(self.line.pop()),
+                solved_or_spent => return solved_or_spent,
             }
         }
         Outcome::None
     }
+
+    fn note_clash(&mut self, clash: Clash) {
+        self.trace.clashes.insert(clash);
+        if self.line.last().is_some_and(is_second_of_chain) {
+            self.trace.second_of_chain_clashed.insert(clash);
+        }
+        let can_be_overlap = clash == Clash::DiffersFromItself && self.line.iter().any(is_second_of_chain);
+        if self.rules == Rules::Now && can_be_overlap && !self.trace.ended_by_overlap {
+            self.trace.ended_by_overlap = self.line_before_nine().result.is_ok();
+        }
+    }
+
+    /// The same line by the rules of before.
+    fn line_before_nine(&self) -> Settling {
+        let entered = |&(join, at): &(Join, usize)| join.alternatives(Rules::BeforeNine)[at].clone();
+        let more = self.line.iter().flat_map(entered);
+        settle_constraints(self.constraints, number_of_variables(self.constraints), more)
+    }
+}
+
+fn is_second_of_chain(entered: &(Join, usize)) -> bool {
+    matches!(entered, (Join::Chain { .. }, 1))
 }
