@@ -21,8 +21,8 @@ use Rattle.meaning.specs.Results.{Solved, solver-answers}
 use Rattle.meaning.specs.Promises.{SolverPromise}
 use Rattle.meaning.specs.Demand.{Answer, a-tree, a-none, a-spent, Answers, Demand3}
 use Rattle.theory.specs.Closure.{holds}
-use Rattle.theory.specs.Search.{clashes, searchBy}
-use Rattle.theory.specs.Overlap.{second-before, EndsBy, by-clash, by-tree, by-first, by-second, AnsweredBefore, solveBefore, countOf, Stays, SameVerdict, Overlap}
+use Rattle.theory.specs.Search.{clashes, EndsBy, by-clash, by-tree, by-first, by-second, searchBy}
+use Rattle.theory.specs.Overlap.{second-before, AnsweredBefore, solveBefore, countOf, Stays, SameVerdict, Overlap}
 use Rattle.meaning.proofs.Tests.{clash, yes-case}
 use Rattle.meaning.proofs.Labels.{FactLabel}
 use Rattle.meaning.proofs.Facts.{_⊆_, in-one, in-two, inside-of}
@@ -79,11 +79,11 @@ holds-rest A m = record { placed = m .placed; every = λ k. m .every (Memᴰ·ap
 -- ---- the searches
 
 -- T is S and differ facts that every tree of S keeps
-pub record Kin (n : ℕ) (S T : List Fact) : Type 0 where
-  pub beside : Beside S T
-  pub inside : Inside n T
-  pub labelled : (x : Var) (l : Label) → List·Memᴰ (label x l) T → FactLabel l
-  pub implied : (t : Tree) → IsTree t → (a : Assignment) → HoldsAll n t a S → HoldsAll n t a T
+record Kin (n : ℕ) (S T : List Fact) : Type 0 where
+  beside : Beside S T
+  inside : Inside n T
+  labelled : (x : Var) (l : Label) → List·Memᴰ (label x l) T → FactLabel l
+  implied : (t : Tree) → IsTree t → (a : Assignment) → HoldsAll n t a S → HoldsAll n t a T
 
 -- o by the rules of before, and p by those of now, beside differ facts
 abbrev Alike : ℕ → Outcome → Outcome → Type 0

@@ -1,13 +1,12 @@
 -- The rules of before (docs/FORMAT.md, "The chain join's overlap"), by which the second alternative of a chain join admitted both variables on one node,
 -- as the first does, and what is owed beside them (proofs/Overlap.antt). Nothing that runs cites them.
 use mathlib.Core.Path.{_≡_}
-use mathlib.Core.List.{List, [], _∷_, _++_}
-use Prim.Native.Nat.{ℕ, _+_, _≤_}
+use mathlib.Core.List.{List, [], _∷_}
+use Prim.Native.Nat.{ℕ, _≤_}
 use Rattle.meaning.specs.Constraint.{Constraint, Fact, below, factsOf}
-use Rattle.meaning.specs.Settled.{Clash}
-use Rattle.meaning.specs.FixedSearch.{parent-join, chain-join, sibling-join, document-join, Join, join, IsJoin, first-alternative, second-alternative, FirstJoin, Outcome, in-none, in-tree}
+use Rattle.meaning.specs.FixedSearch.{parent-join, chain-join, sibling-join, document-join, Join, join, second-alternative, Outcome}
 use Rattle.meaning.specs.Demand.{Answer, a-tree, a-none, a-spent, Answers, Demand3}
-use Rattle.theory.specs.Search.{searchBy}
+use Rattle.theory.specs.Search.{EndsBy, searchBy}
 use Rattle.theory.specs.Solve.{answer}
 
 -- "below(x,y), then below(y,x)"
@@ -16,17 +15,6 @@ second-before (join parent-join z x y) = second-alternative (join parent-join z 
 second-before (join chain-join z x y) = below y x ∷ []
 second-before (join sibling-join y a x) = second-alternative (join sibling-join y a x)
 second-before (join document-join r y w) = second-alternative (join document-join r y w)
-
--- the meaning's Ends, with these second alternatives
-pub data EndsBy (second : Join → List Fact) (n : ℕ) : List Fact → Outcome → ℕ → Type 0 where
-  by-clash : {S : List Fact} → Clash n S → EndsBy second n S in-none 0
-  by-tree : {S : List Fact} → ¬ Clash n S → ((j : Join) → ¬ IsJoin n S j) → EndsBy second n S (in-tree S) 0
-  by-first : {S R : List Fact} {c : ℕ} (j : Join) → ¬ Clash n S → FirstJoin n S j
-      → EndsBy second n (first-alternative j ++ S) (in-tree R) c
-      → EndsBy second n S (in-tree R) (1 + c)
-  by-second : {S : List Fact} {o : Outcome} {c d : ℕ} (j : Join) → ¬ Clash n S → FirstJoin n S j
-      → EndsBy second n (first-alternative j ++ S) in-none c → EndsBy second n (second j ++ S) o d
-      → EndsBy second n S o (2 + c + d)
 
 -- what was answered under the allowance A by the rules of before
 pub record AnsweredBefore (A n : ℕ) (cs : List Constraint) (was : Answer) : Type 0 where
