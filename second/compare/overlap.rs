@@ -89,7 +89,7 @@ impl Comparison {
         let under = before_nine(&solved.file, LEAST_BUFFER, solved.allowance);
         let more = match under {
             SolverVerdict::Spent { .. } if count_of(&solved.verdict).is_some() => {
-                before_nine(&solved.file, LEAST_BUFFER, MORE * solved.allowance)
+                before_nine(&solved.file, LEAST_BUFFER, solved.allowance.saturating_mul(MORE))
             }
             _ => under.clone(),
         };
