@@ -4,3 +4,4 @@ pub mod Drawn
 pub mod Told
 pub mod Shuffled
 pub mod Capitals
+pub mod Overlap

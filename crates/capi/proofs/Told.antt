@@ -18,13 +18,13 @@ use Rattle.capi.specs.Told.{verdict, middle, ToldSame}
 -- ---- a result taken apart
 
 -- what an answer puts at the front of the buffer
-frontOf : Solved → List ℕ
+unfoldable pub frontOf : Solved → List ℕ
 frontOf (solver-refuses q) = []
 frontOf (solver-answers (a-tree c bs)) = bs
 frontOf (solver-answers (a-none c)) = []
 frontOf (solver-answers (a-spent c)) = []
 
-written-front : (r : Solved) (buffer : List ℕ) → written r buffer ≡ frontOf r ++ drop (length (frontOf r)) buffer
+pub written-front : (r : Solved) (buffer : List ℕ) → written r buffer ≡ frontOf r ++ drop (length (frontOf r)) buffer
 unfolding written frontOf
 written-front (solver-refuses q) buffer = refl
 written-front (solver-answers (a-tree c bs)) buffer = refl
@@ -44,7 +44,7 @@ Fits (solver-answers (a-none c)) = c ≤ 4294967295
 Fits (solver-answers (a-spent c)) = c ≤ 4294967295
 Fits (solver-refuses q) = q ≤ 7
 
-middle-is : (r : Solved) → Fits r → middle (solvedNumber r) ≡ length (frontOf r)
+pub middle-is : (r : Solved) → Fits r → middle (solvedNumber r) ≡ length (frontOf r)
 unfolding middle solvedNumber told frontOf
 middle-is (solver-answers (a-tree c bs)) f = let l = f .0 in let k = f .1 in omega arith
 middle-is (solver-answers (a-none c)) f = omega arith

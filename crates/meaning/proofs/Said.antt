@@ -11,7 +11,7 @@ use lib.ListN.{length}
 use Rattle.meaning.specs.Constraint.{Constraint, CanBeMet, vars}
 use Rattle.meaning.specs.FixedSearch.{Outcome, in-none, in-tree}
 use Rattle.meaning.specs.ReadOff.{treeOf}
-use Rattle.meaning.specs.Demand.{Answer, a-tree, a-none, a-spent, FixedSearch, Demand3}
+use Rattle.meaning.specs.Demand.{Answer, a-tree, a-none, a-spent, countOf, FixedSearch, Demand3}
 use Rattle.meaning.specs.Files.{accepted, judge, assigned}
 use Rattle.meaning.specs.Results.{Solved, solver-answers}
 use Rattle.meaning.specs.Promises.{Answered, SolverPromise}
@@ -25,11 +25,6 @@ none-cannot f = (
   λ e w. f .none-iff .0 e (w .tree) (w .is-tree) (w .assignment) (w .meets),
   λ g. f .none-iff .1 (λ t i a m. g (record { tree = t; is-tree = i; assignment = a; meets = m })),
 )
-
-abbrev pub countOf : Answer → ℕ
-countOf (a-tree c bs) = c
-countOf (a-none c) = c
-countOf (a-spent c) = c
 
 module _ {A n : ℕ} {cs : List Constraint} {r : Answer} (d : Demand3 A n cs r) where
   -- none is answered only where the search ends in none

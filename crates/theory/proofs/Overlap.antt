@@ -19,16 +19,17 @@ use Rattle.meaning.specs.ReadOff.{FactSet, Decides, treeOf, nodes, place}
 use Rattle.meaning.specs.Files.{accepted, judge}
 use Rattle.meaning.specs.Results.{Solved, solver-answers}
 use Rattle.meaning.specs.Promises.{SolverPromise}
-use Rattle.meaning.specs.Demand.{Answer, a-tree, a-none, a-spent, Answers, Demand3}
+use Rattle.meaning.specs.Demand.{Answer, a-tree, a-none, a-spent, countOf, Answers, Demand3}
 use Rattle.theory.specs.Closure.{holds}
 use Rattle.theory.specs.Search.{clashes, EndsBy, by-clash, by-tree, by-first, by-second, searchBy}
-use Rattle.theory.specs.Overlap.{second-before, AnsweredBefore, solveBefore, countOf, Stays, SameVerdict, Overlap}
+use Rattle.theory.specs.Overlap.{second-before, AnsweredBefore, solveBefore, Stays, SameVerdict, Overlap}
 use Rattle.meaning.proofs.Tests.{clash, yes-case}
 use Rattle.meaning.proofs.Labels.{FactLabel}
 use Rattle.meaning.proofs.Facts.{_⊆_, in-one, in-two, inside-of}
 use Rattle.meaning.proofs.Least.{settled-within, clash-mono}
 use Rattle.meaning.proofs.Holds.{HoldsAll, clash-fails}
 use Rattle.meaning.proofs.Joins.{alternative-holds}
+use Rattle.meaning.proofs.Said.{count-within}
 use Rattle.meaning.proofs.Constraints.{facts-inside, fact-labels}
 use Rattle.theory.proofs.Closure.{holds-decides}
 use Rattle.theory.proofs.Absent.{Adds, adds, plain-below, Plain, first-adds, second-adds}
@@ -272,18 +273,6 @@ module _ (n : ℕ) (cs : List Constraint) (few : vars cs ≤ n) (b : ByteLabels 
     shown : u .count ≤ B → v .count ≤ A → ShownAlike (u .count) (v .count) was is
     shown = shown-alike (u .outcome) (v .outcome) alike (λ Q q. v .search .decided q) (u .answers) (v .answers)
 
-    -- the count given is at most the allowance
-    within : countOf is ≤ A
-    within = go (decLe (v .count) A) (v .outcome) refl
-      where
-        told : {a : Answer} → is ≡ a → countOf a ≤ A → countOf is ≤ A
-        told e l = subst (λ (a : Answer). countOf a ≤ A) (sym e) l
-
-        go : Dec (v .count ≤ A) → (p : Outcome) → v .outcome ≡ p → countOf is ≤ A
-        go (yes l) in-none q = told (v .answers .none l q) l
-        go (yes l) (in-tree R) q = let h = v .search .decided q in told (v .answers .tree l q (h .0) (h .1)) l
-        go (no l) p q = told (v .answers .spent-iff .0 (omega arith)) (le-refl _)
-
     sooner : ¬ (was ≡ a-spent B) → ¬ (is ≡ a-spent A) → SameVerdict was is
     sooner k l = go (decLe (u .count) B) (decLe (v .count) A)
       where
@@ -307,7 +296,7 @@ module _ (n : ℕ) (cs : List Constraint) (few : vars cs ≤ n) (b : ByteLabels 
           record {
             tree = λ f. absurd (let z : _≡_ {A = ℕ} 0 1 = cc in omega arith);
             none = λ f. absurd (let z : _≡_ {A = ℕ} 0 1 = cc in omega arith);
-            no-more = subst (λ (a : Answer). countOf is ≤ countOf a) (sym e) (within u v);
+            no-more = subst (λ (a : Answer). countOf is ≤ countOf a) (sym e) (count-within v);
           }
 
   pub overlap : Overlap n cs

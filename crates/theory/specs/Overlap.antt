@@ -5,7 +5,7 @@ use mathlib.Core.List.{List, [], _∷_}
 use Prim.Native.Nat.{ℕ, _≤_}
 use Rattle.meaning.specs.Constraint.{Constraint, Fact, below, factsOf}
 use Rattle.meaning.specs.FixedSearch.{parent-join, chain-join, sibling-join, document-join, Join, join, second-alternative, Outcome}
-use Rattle.meaning.specs.Demand.{Answer, a-tree, a-none, a-spent, Answers, Demand3}
+use Rattle.meaning.specs.Demand.{Answer, a-tree, a-none, a-spent, countOf, Answers, Demand3}
 use Rattle.theory.specs.Search.{EndsBy, searchBy}
 use Rattle.theory.specs.Solve.{answer}
 
@@ -26,11 +26,6 @@ pub record AnsweredBefore (A n : ℕ) (cs : List Constraint) (was : Answer) : Ty
 -- the same, computed
 unfoldable pub solveBefore : ℕ → ℕ → List Constraint → Answer
 solveBefore A n cs = answer A n (searchBy second-before n (factsOf cs))
-
-abbrev pub countOf : Answer → ℕ
-countOf (a-tree c bs) = c
-countOf (a-none c) = c
-countOf (a-spent c) = c
 
 -- "under one allowance a tree stays that tree, a none stays none and no count rises": of what it was and what it is
 pub record Stays (was is : Answer) : Type 0 where
