@@ -24,6 +24,7 @@ use Rattle.tables.specs.declared.Facts.{Facts}
 use Rattle.tables.proofs.Bits.{in-both, both-in, in-row, same-row}
 use Rattle.tables.proofs.Clashes.{free-clash, clash-free}
 use Rattle.tables.proofs.Groups.{rules-same}
+use Rattle.tables.proofs.Known.{ready-more}
 use Rattle.tables.proofs.Parted.{Parted, parted-least, Whole, parted-rules}
 use Rattle.tables.proofs.Rises.{Rises, rises, raised-out, raised-keeps, raised-has}
 use Rattle.grouping.specs.Rows.{In}
@@ -180,3 +181,7 @@ module _ (n : ℕ) (few : n ≤ 16) (S : List Fact) (f : Facts) (a b : ℕ) (ha 
     where
       no-clash : Free P
       no-clash = clash-free n S f (r .decides) (r .free)
+
+-- where they differ already, nothing changes
+pub differ-known : (n : ℕ) (S : List Fact) (f : Facts) (a b : ℕ) → Ready n S f → Held f (differ a b) → Ready n (differ b a ∷ S) f
+differ-known n S f a b r u = ready-more n S (differ b a) (differ-back (r .decides .sound {f = differ a b} u)) r

@@ -58,8 +58,12 @@ pub fn enter_below(f: Facts, n: usize, a: Var, b: Var, apart: bool) -> Settled
     g.above = above;
     if apart {
         let old = f.differ;
-        let differ = parted(old, rows, columns, i, j);
-        g.differ = differ;
+        let known = old[i];
+        // in many sets they differ already
+        if !rowbits::has(known, j) {
+            let differ = parted(old, rows, columns, i, j);
+            g.differ = differ;
+        }
     }
     Settled {
         clash: false,

@@ -1,21 +1,21 @@
--- A fact that is settled already changes nothing when it is given, so entering one below fact enters either alternative of a join, but for the differ fact of a chain
--- join's second.
-use mathlib.Core.Path.{_≡_, refl, sym, ap, subst, _∙_}
+-- Entering one below fact enters either alternative of a join, since a fact that is settled already changes nothing when it is given (tables/proofs/Known);
+-- but for the differ fact of a chain join's second.
+use mathlib.Core.Path.{_≡_, refl, sym, ap, _∙_}
 use mathlib.Core.Logic.{⊎-elim}
 use mathlib.Core.Bool.{Bool, true, false, false≢true}
 use mathlib.Core.List.{List, [], _∷_, Memᴰ·append-left, List·Memᴰ, List·Memᴰ·head, List·Memᴰ·tail, List·Memᴰ·cases-cons}
 use mathlib.Core.Option.{some}
 use Prim.Native.Nat.{ℕ}
 use Rattle.meaning.specs.Constraint.{Fact, differ}
-use Rattle.meaning.specs.Settled.{Settled, given, Clash, differs, labels, above-sibling, under-sibling, leaf-document, label-document}
+use Rattle.meaning.specs.Settled.{Settled}
 use Rattle.meaning.specs.FixedSearch.{Join, join, IsJoin, ChainJoin, first-alternative, second-alternative}
 use Rattle.meaning.specs.Finite.{Yes}
-use Rattle.meaning.specs.Closed.{Within}
-use Rattle.meaning.proofs.Least.{settled-least, settled-rules, settled-mono, settled-within, clash-mono}
+use Rattle.meaning.proofs.Least.{settled-mono, clash-mono}
 use Rattle.theory.proofs.Absent.{first-adds, second-adds}
 use Rattle.theory.proofs.Search.{first-join-found}
 use Rattle.tables.specs.Tables.{has, Ready}
 use Rattle.tables.specs.declared.Facts.{Facts}
+use Rattle.tables.proofs.Known.{ready-more}
 use Rattle.stages.specs.Found.{kindOf, joinOf}
 use Rattle.joins.specs.Found.{FoundOf}
 use Rattle.stages.specs.declared.Found.{Found}
@@ -26,29 +26,6 @@ use Rattle.enter.specs.Entered.{Forked}
 use Rattle.search.specs.Searching.{fact, Enters, StepOf}
 use Rattle.search.specs.declared.Below.{Below}
 use Rattle.search.specs.declared.Step.the-variants.{Solved, Split}
-
-module _ (n : ℕ) (T : List Fact) (φ : Fact) (s : Settled n T φ) where
-  more-same : {f : Fact} → Settled n (φ ∷ T) f → Settled n T f
-  more-same = settled-least n (φ ∷ T) (Settled n T) (settled-rules n T) (λ f m. ⊎-elim (λ e. subst (Settled n T) (sym e) s) given (List·Memᴰ·cases-cons m))
-
-  fewer-same : {f : Fact} → Settled n T f → Settled n (φ ∷ T) f
-  fewer-same = settled-mono n T (φ ∷ T) (λ g m. List·Memᴰ·tail m)
-
-  clash-same : Clash n (φ ∷ T) → Clash n T
-  clash-same (differs d) = differs (more-same d)
-  clash-same (labels a b e) = labels (more-same a) (more-same b) e
-  clash-same (above-sibling b d) = above-sibling (more-same b) (more-same d)
-  clash-same (under-sibling b d) = under-sibling (more-same b) (more-same d)
-  clash-same (leaf-document b d) = leaf-document (more-same b) (more-same d)
-  clash-same (label-document b d) = label-document (more-same b) (more-same d)
-
-  ready-more : {g : Facts} → Ready n T g → Ready n (φ ∷ T) g
-  ready-more r = record {
-    inside = λ f m. ⊎-elim (λ e. subst (Within n) (sym e) (settled-within n T (r .inside) s)) (r .inside f) (List·Memᴰ·cases-cons m);
-    free = λ c. r .free (clash-same c);
-    decides = record { sound = λ y. fewer-same (r .decides .sound y); complete = λ d. r .decides .complete (more-same d) };
-    mirrored = r .mirrored;
-  }
 
 -- the fact itself, and with differ
 pub enters-one : (n : ℕ) (S : List Fact) (p : Below) → Enters n S p false (fact p ∷ [])

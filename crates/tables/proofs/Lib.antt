@@ -8,4 +8,5 @@ pub mod Rises
 pub mod Groups
 pub mod Wider
 pub mod Parted
+pub mod Known
 pub mod Clashes

@@ -7,11 +7,12 @@ use mathlib.Core.Path.{refl, sym, _∙_, subst}
 use mathlib.Core.Logic.{⊎-elim}
 use mathlib.Core.Bool.{false, false≢true}
 use borrow.Author.Needs.{needs}
+use borrow.Author.Tests.{not-false}
 use Rattle.tables.specs.Tables.{has}
 use Rattle.tables.specs.Rows.{Crossed}
 use Rattle.tables.proofs.Bits.{meets-in}
 use Rattle.tables.proofs.Clashes.{blank-crossed}
-use Rattle.enter.proofs.Apart.{differ-ready}
+use Rattle.enter.proofs.Apart.{differ-ready, differ-known}
 use Rattle.enter.proofs.Enter.{raised-ready, raised-clash, entered-well, entered-clash, entered-as, clash-entering, follows, entered-same}
 use Rattle.tables.proofs.Tested.{or-no}
 use Rattle.enter.proofs.enter_below.Statement.{statement}
@@ -88,6 +89,15 @@ returns-2 c =
     (λ u. false≢true (sym (o .0) ∙ m .before .has .ensures ∙ u))
     (λ k u v. false≢true (sym (o .1) ∙ m .meet .ensures ∙ meets-in _ _ k u v)) _ (test .crossed .ensures) (c .if3 .taken)))
 
+mul-known : tie.Need-mul-known
+mul-known c = search needs
+
+array-read-known : tie.Need-array-read-known
+array-read-known c = search needs
+
+has-requires-2 : tie.Need-has-requires-2
+has-requires-2 c κs = search needs
+
 parted-requires : tie.Need-parted-requires
 parted-requires c κs = search needs
 
@@ -104,22 +114,41 @@ uncrossed c =
 returns-3 : tie.Need-returns-3
 unfolding has
 returns-3 c =
-    let rows = c .before .before .before in
+    let flag = c .before .before .before .before in
+    let rows = flag .before in
     let above = rows .before .before .before in
     let below = above .before in
     let apart = below .before in
     let m = apart .before in
     let s = m .before .before .before .before .before .before in
     let o = or-no _ _ (apart .if1 .left) in
-    entered-as _ _ (c .before .before .if4 .taken) (entered-well _ _ _ _ (λ S q. raised-ready _ (s .pre .0 .2) _ _ _ _ (s .pre .0 .0) (s .pre .0 .1)
+    entered-as _ _ (flag .if4 .taken) (entered-well _ _ _ _ (λ S q. raised-ready _ (s .pre .0 .2) _ _ _ _ (s .pre .0 .0) (s .pre .0 .1)
     (differ-ready _ (s .pre .0 .2) S _ _ _ (s .pre .0 .0) (s .pre .0 .1) (below-small s) q (λ u. false≢true (sym (o .0) ∙ m .before .has .ensures ∙ u)) _ (c .parted .ensures))
     (above-small s _) (below-small s _) _ _ (below .raise .ensures) (above .raise2 .ensures)
     (λ u. false≢true (sym (o .0) ∙ m .before .has .ensures ∙ u))
     (λ k u v. false≢true (sym (o .1) ∙ m .meet .ensures ∙ meets-in _ _ k u v)) false (uncrossed rows) refl))
 
+-- where they differ already, below(a, b) alone
 returns-4 : tie.Need-returns-4
 unfolding has
 returns-4 c =
+    let flag = c .before .before .before in
+    let rows = flag .before in
+    let above = rows .before .before .before in
+    let below = above .before in
+    let apart = below .before in
+    let m = apart .before in
+    let s = m .before .before .before .before .before .before in
+    let o = or-no _ _ (apart .if1 .left) in
+    entered-as _ _ (flag .if4 .taken) (entered-well _ _ _ _ (λ S q. raised-ready _ (s .pre .0 .2) _ _ _ _ (s .pre .0 .0) (s .pre .0 .1)
+    (differ-known _ S _ _ _ q (sym (c .before .has2 .ensures) ∙ not-false _ (c .if5 .left)))
+    (above-small s _) (below-small s _) _ _ (below .raise .ensures) (above .raise2 .ensures)
+    (λ u. false≢true (sym (o .0) ∙ m .before .has .ensures ∙ u))
+    (λ k u v. false≢true (sym (o .1) ∙ m .meet .ensures ∙ meets-in _ _ k u v)) false (uncrossed rows) refl))
+
+returns-5 : tie.Need-returns-5
+unfolding has
+returns-5 c =
     let rows = c .before in
     let above = rows .before .before .before in
     let below = above .before in
@@ -150,6 +179,10 @@ enter-below-spec =
     blank-requires
     crossed-requires
     returns-2
+    mul-known
+    array-read-known
+    has-requires-2
     parted-requires
     returns-3
-    returns-4)
+    returns-4
+    returns-5)
