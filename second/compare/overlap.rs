@@ -3,8 +3,7 @@
 
 use crate::rounds::Solved;
 use crate::{disagree, Comparison};
-use second::closure::Clash;
-use second::search::{Join, Rules, Trace};
+use second::search::{Rules, Trace};
 use second::verdict::{hex, SolverVerdict};
 use second::LEAST_BUFFER;
 use std::collections::BTreeSet;
@@ -40,12 +39,10 @@ type Enough<'a> = Option<&'a SolverVerdict>;
 
 impl Comparison {
     pub fn note_overlap(&mut self, trace: &Trace) {
-        let is_second = |entered: &(Join, usize)| matches!(entered, (Join::Chain { .. }, 1));
-        self.overlap.note_if(trace.line.iter().any(is_second), "a tree by the second alternative of a chain join");
+        self.overlap.note_if(trace.found_by_second_of_chain(), "a tree by the second alternative of a chain join");
         self.overlap.note_if(trace.ended_by_overlap, "a line ended by the differ of a chain join's second alternative");
-        let siblings = [Clash::LaterSiblingBelow, Clash::EarlierSiblingBelow];
         self.overlap.note_if(
-            siblings.iter().any(|clash| trace.second_of_chain_clashed.contains(clash)),
+            trace.second_of_chain_crossed(),
             "a second alternative of a chain join that clashes at once, before with below",
         );
     }
@@ -75,7 +72,7 @@ impl Comparison {
 
     /// Under each allowance both rules are run anew.
     pub fn hold_under_allowances(&mut self, file: &[u8], before: &SolverVerdict, now: &SolverVerdict) {
-        let (Some(was), Some(is)) = (count_of(before), count_of(now)) else { return };
+        let (Some(was), Some(is)) = (before.unspent_count(), now.unspent_count()) else { return };
         for allowance in allowances_around(was, is) {
             let under = before_nine(file, LEAST_BUFFER, allowance);
             self.solve("allowances around both counts", file, LEAST_BUFFER, allowance);
@@ -88,12 +85,12 @@ impl Comparison {
         const MORE: u32 = 8;
         let under = before_nine(&solved.file, LEAST_BUFFER, solved.allowance);
         let more = match under {
-            SolverVerdict::Spent { .. } if count_of(&solved.verdict).is_some() => {
+            SolverVerdict::Spent { .. } if solved.verdict.unspent_count().is_some() => {
                 before_nine(&solved.file, LEAST_BUFFER, solved.allowance.saturating_mul(MORE))
             }
             _ => under.clone(),
         };
-        let enough = Some(&more).filter(|more| count_of(more).is_some());
+        let enough = Some(&more).filter(|more| more.unspent_count().is_some());
         self.hold_to_before_nine(&solved.file, LEAST_BUFFER, solved.allowance, &under, enough);
         match (&under, &solved.verdict) {
             (SolverVerdict::Tree { count: was, .. }, SolverVerdict::Tree { count, .. }) => {
@@ -104,7 +101,7 @@ impl Comparison {
             }
             _ => {}
         }
-        if let Some(enough) = enough.filter(|enough| count_of(enough) > count_of(&solved.verdict)) {
+        if let Some(enough) = enough.filter(|enough| enough.unspent_count() > solved.verdict.unspent_count()) {
             self.overlap.note("a random spent that becomes a verdict");
             self.hold_under_allowances(&solved.file, enough, &solved.verdict);
         }
@@ -150,14 +147,6 @@ fn what_became_of(before: &SolverVerdict, now: &SolverVerdict) -> Option<&'stati
         (Spent { .. }, None { .. }) => Some("spent that becomes none"),
         (Spent { .. }, Spent { .. }) => Some("spent by both rules"),
         _ => Option::None,
-    }
-}
-
-/// Of a search that was ended by no allowance.
-pub fn count_of(verdict: &SolverVerdict) -> Option<u32> {
-    match verdict {
-        SolverVerdict::Tree { count, .. } | SolverVerdict::None { count } => Some(*count),
-        SolverVerdict::Spent { .. } | SolverVerdict::Refused(_) => None,
     }
 }
 

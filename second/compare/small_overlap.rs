@@ -1,7 +1,7 @@
 //! The chain join's overlap, whatever the seed: every small set, by both rules where a second alternative of a chain join is entered.
 
 use crate::meaning::MORE_NODES;
-use crate::overlap::{before_nine, count_of};
+use crate::overlap::before_nine;
 use crate::small::{for_each_choice, plain_records};
 use crate::Comparison;
 use second::constraint::{self, number_of_variables, Constraint, Variable};
@@ -82,7 +82,7 @@ impl Comparison {
         }
         let before = before_nine(&file, LEAST_BUFFER, u32::MAX);
         self.hold_under_allowances(&file, &before, &now);
-        let has_fallen = count_of(&now) < count_of(&before);
+        let has_fallen = now.unspent_count() < before.unspent_count();
         // Of more variables there are too many assignments.
         let variables = number_of_variables(constraints);
         if has_fallen && variables <= 5 {

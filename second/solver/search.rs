@@ -124,6 +124,19 @@ pub struct Trace {
     pub line: Vec<(Join, usize)>,
 }
 
+impl Trace {
+    /// Did the line that ended in a tree enter a second alternative of a chain join?
+    pub fn found_by_second_of_chain(&self) -> bool {
+        self.line.iter().any(is_second_of_chain)
+    }
+
+    /// Did a second alternative of a chain join clash at once, before with below?
+    pub fn second_of_chain_crossed(&self) -> bool {
+        let clashed = &self.second_of_chain_clashed;
+        clashed.contains(&Clash::LaterSiblingBelow) || clashed.contains(&Clash::EarlierSiblingBelow)
+    }
+}
+
 struct Search<'a> {
     constraints: &'a [Constraint],
     rules: Rules,

@@ -34,6 +34,16 @@ pub enum DrawVerdict {
     Refused(Refusal),
 }
 
+impl SolverVerdict {
+    /// Of a search that was ended by no allowance.
+    pub fn unspent_count(&self) -> Option<u32> {
+        match self {
+            SolverVerdict::Tree { count, .. } | SolverVerdict::None { count } => Some(*count),
+            SolverVerdict::Spent { .. } | SolverVerdict::Refused(_) => None,
+        }
+    }
+}
+
 impl fmt::Display for SolverVerdict {
     fn fmt(&self, f: &mut fmt::Formatter) -> fmt::Result {
         match self {

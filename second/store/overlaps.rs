@@ -1,21 +1,16 @@
 //! Questions to the solver in whose search a second alternative of a chain join is entered, most of them with a smaller count than by the
 //! rules of before request (ix).
 
-use crate::share::{is_full, keep, print, share, Share};
+use crate::share::{is_full, keep, print, share, Share, ALLOWANCE, LARGEST_COUNT};
 use questions::document::crowded_document;
 use questions::overlap::crowded_chain;
 use questions::{crowded_path, crowded_siblings, has_root, has_siblings, Random};
-use second::closure::Clash;
 use second::constraint::{self, Constraint};
-use second::search::{Join, Rules, Trace};
+use second::search::{Rules, Trace};
 use second::verdict::{hex, SolverVerdict};
 use second::LEAST_BUFFER;
 
-const ALLOWANCE: u32 = 1_000_000;
-/// Above this count the naive search takes too long to be run again at every check.
-const LARGEST_COUNT: u32 = 999;
-
-/// A question, what it was put with, what came of it, and what did by the rules of before.
+/// A question, what came of it, and what did by the rules of before.
 struct Asked {
     constraints: Vec<Constraint>,
     verdict: SolverVerdict,
@@ -45,7 +40,8 @@ fn store_under_allowances(random: &mut Random, shares: &mut [Share<Asked>], cons
     let file = constraint::write(constraints);
     let solve = |rules, allowance| second::solve_by(rules, &file, LEAST_BUFFER, allowance);
     let (now, trace) = solve(Rules::Now, LARGEST_COUNT);
-    let (Some(is), Some(was)) = (count_of(&now), count_of(&solve(Rules::BeforeNine, LARGEST_COUNT).0)) else { return };
+    let before = solve(Rules::BeforeNine, LARGEST_COUNT).0;
+    let (Some(is), Some(was)) = (now.unspent_count(), before.unspent_count()) else { return };
     if trace.second_of_chain == 0 {
         return;
     }
@@ -57,13 +53,6 @@ fn store_under_allowances(random: &mut Random, shares: &mut [Share<Asked>], cons
         let before = solve(Rules::BeforeNine, allowance).0;
         let line = format!("solve {} {LEAST_BUFFER} {allowance} {verdict}", hex(&file));
         keep(shares, &Asked { constraints: constraints.to_vec(), verdict, trace, before }, line);
-    }
-}
-
-fn count_of(verdict: &SolverVerdict) -> Option<u32> {
-    match verdict {
-        SolverVerdict::Tree { count, .. } | SolverVerdict::None { count } => Some(*count),
-        SolverVerdict::Spent { .. } | SolverVerdict::Refused(_) => None,
     }
 }
 
@@ -79,11 +68,9 @@ fn shares() -> Vec<Share<Asked>> {
         share("spent-becomes-tree", 12, |asked: &Asked| is_spent(&asked.before) && is_tree(asked)),
         share("spent-becomes-none", 12, |asked: &Asked| is_spent(&asked.before) && is_none(asked)),
         share("spent-by-both", 10, |asked: &Asked| is_spent(&asked.verdict) && asked.trace.ended_by_overlap),
-        share("tree-stays", 10, |asked| {
-            is_tree(asked) && asked.verdict == asked.before && is_by_second_of_chain(asked)
-        }),
-        share("none-stays", 6, |asked: &Asked| is_none(asked) && asked.verdict == asked.before),
-        share("clashes-at-once", 6, |asked: &Asked| asked.verdict == asked.before && clashes_by_siblings(asked)),
+        share("tree-stays", 10, |asked| is_tree(asked) && stays(asked) && asked.trace.found_by_second_of_chain()),
+        share("none-stays", 6, |asked| is_none(asked) && stays(asked)),
+        share("clashes-at-once", 6, |asked| stays(asked) && asked.trace.second_of_chain_crossed()),
     ]
 }
 
@@ -99,16 +86,11 @@ fn is_none(asked: &Asked) -> bool {
     matches!(asked.verdict, SolverVerdict::None { .. })
 }
 
+fn stays(asked: &Asked) -> bool {
+    asked.verdict == asked.before
+}
+
 /// The count, from a verdict that is no spent.
 fn falls(asked: &Asked) -> bool {
-    count_of(&asked.before).is_some_and(|was| count_of(&asked.verdict) < Some(was))
-}
-
-fn is_by_second_of_chain(asked: &Asked) -> bool {
-    asked.trace.line.iter().any(|entered| matches!(entered, (Join::Chain { .. }, 1)))
-}
-
-fn clashes_by_siblings(asked: &Asked) -> bool {
-    let clashed = &asked.trace.second_of_chain_clashed;
-    [Clash::LaterSiblingBelow, Clash::EarlierSiblingBelow].iter().any(|clash| clashed.contains(clash))
+    asked.before.unspent_count().is_some_and(|was| asked.verdict.unspent_count() < Some(was))
 }

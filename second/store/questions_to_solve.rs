@@ -1,6 +1,6 @@
 //! Questions to the solver, each with a label 65 to 90 or with labels beside the letters.
 
-use crate::share::{is_full, keep, print, share, Share};
+use crate::share::{is_full, keep, print, share, Share, ALLOWANCE, LARGEST_COUNT};
 use questions::capitals::{apart, crowded_letters, has_both_cases, question_has_capital, relabelled_question};
 use questions::document::with_document;
 use questions::{free, planted, random_assignment, random_constraint, random_tree, Mix, Random};
@@ -10,10 +10,6 @@ use second::search::Trace;
 use second::verdict::{hex, SolverVerdict};
 use second::{Refusal, LEAST_BUFFER};
 use std::collections::BTreeSet;
-
-const ALLOWANCE: u32 = 1_000_000;
-/// Above this count the naive search takes too long to be run again at every check.
-const LARGEST_COUNT: u32 = 999;
 
 /// A question, what it was put with, what came of it, and what would if case counted.
 struct Asked {

@@ -1,4 +1,8 @@
-//! Shares of what is kept.
+//! Shares of what is kept, and what questions to the solver are put with.
+
+pub const ALLOWANCE: u32 = 1_000_000;
+/// Above this count the naive search takes too long to be run again at every check.
+pub const LARGEST_COUNT: u32 = 999;
 
 /// How many to keep of what `fits`; what is kept is printed under `name` and a number.
 pub struct Share<V> {

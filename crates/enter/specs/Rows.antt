@@ -9,7 +9,7 @@ use Rattle.tables.specs.Rows.{RaisedAlike}
 abbrev pub group : List ℕ → List ℕ → ℕ → ℕ
 group below above x = bitAnd (row below x) (row above x)
 
--- the rows of the one group gain the other, and the other way round; of the same variables below has the same row
+-- the rows of the one group gain the other, and the other way round; variables that are the same are known by their row of below
 pub record PartedOf (t below above : List ℕ) (a b : ℕ) (r : List ℕ) : Type 0 where
   pub half : List ℕ
   pub there : RaisedAlike t below (row below a) (group below above b) half

@@ -10,7 +10,8 @@ use ids::Var;
 use tables::Facts;
 use tables::Settled;
 
-// The rows t, with the variables that are the same as a apart from those that are the same as b. These have the row of a in `below`, and no others do.
+// The rows t, with the variables that are the same as a apart from those that are the same as b. Variables are the same exactly where they have one row of
+// `below`: rows are compared eight at a time, where the bits of a group would be looked at one by one.
 fn parted(t: [u16; 16], below: [u16; 16], above: [u16; 16], a: usize, b: usize) -> [u16; 16]
     requires { ⌜ (a < 16) × (b < 16) ⌝ }
     ensures { λ r. ⌜ PartedOf t below above a b r ⌝ }
