@@ -40,6 +40,7 @@ static int run(int count, char **words)
 int main(int count, char **words)
 {
     keep_standard_descriptors();
-    signal(SIGPIPE, SIG_IGN); /* a closed output is reported, and not the end */
+    signal(SIGPIPE, SIG_IGN); /* a closed output and a file that may not grow are reported, and not the end */
+    signal(SIGXFSZ, SIG_IGN);
     return finish(run(count, words));
 }

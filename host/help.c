@@ -104,7 +104,7 @@ int help_command(int count, char **words)
 int version_command(int count, char **words)
 {
     if (count > 0) {
-        complain("version: one word too many: '%s'", words[0]);
+        complain("version: one word too many: '%s'; see cudreth help version", words[0]);
         return UNUSABLE;
     }
     struct buffer line = {0};

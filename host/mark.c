@@ -31,6 +31,17 @@ static void stop(int signal)
     interrupted = 1;
 }
 
+/* An interrupt that was ignored, as in the background of a shell, stays ignored. */
+static void catch_interrupts(void)
+{
+    struct sigaction action = {.sa_handler = stop}, before;
+    sigemptyset(&action.sa_mask);
+    sigaction(SIGTERM, &action, NULL);
+    sigaction(SIGINT, &action, &before);
+    if (before.sa_handler == SIG_IGN)
+        sigaction(SIGINT, &before, NULL);
+}
+
 static void worst(struct marking *marking, int status)
 {
     if (status > marking->status)
@@ -155,6 +166,14 @@ static bool part(char *line, char **question, char **answer)
     return **answer && !more;
 }
 
+/* Complaints stand behind the lines that are done. */
+static void complain_of_list(struct marking *marking, const char *list, const char *words)
+{
+    put_out(&marking->lines);
+    complain_of(list, words);
+    worst(marking, UNUSABLE);
+}
+
 static void mark_pair(struct marking *marking, const char *list, size_t number, char *line, size_t length)
 {
     char *question, *answer;
@@ -164,32 +183,29 @@ static void mark_pair(struct marking *marking, const char *list, size_t number, 
         return;
     if (whole && part(line, &question, &answer)) {
         mark_answer(marking, load_and_judge(marking, question), answer);
-        return;
+    } else {
+        char words[64];
+        snprintf(words, sizeof words, "line %zu is not a question and an answer", number);
+        complain_of_list(marking, list, words);
     }
-    put_out(&marking->lines);
-    char words[64];
-    snprintf(words, sizeof words, "line %zu is not a question and an answer", number);
-    complain_of(list, words);
-    worst(marking, UNUSABLE);
 }
 
 static void mark_pairs(struct marking *marking, const char *list)
 {
     FILE *lines = strcmp(list, "-") == 0 ? stdin : fopen(list, "r");
+    if (!lines) {
+        complain_of_list(marking, list, strerror(errno));
+        return;
+    }
     char *line = NULL;
     size_t room = 0;
-    ssize_t length = 0;
-    errno = 0;
-    for (size_t number = 1; lines && going_on() && (length = getline(&line, &room, lines)) >= 0; number++)
+    ssize_t length;
+    for (size_t number = 1; going_on() && (length = getline(&line, &room, lines)) >= 0; number++)
         mark_pair(marking, list, number, line, (size_t)length);
-    if (!lines || ferror(lines)) {
-        put_out(&marking->lines);
-        complain_of(list, strerror(errno));
-        worst(marking, UNUSABLE);
-    }
+    if (ferror(lines))
+        complain_of_list(marking, list, strerror(errno));
     free(line);
-    if (lines && lines != stdin)
-        fclose(lines);
+    fclose(lines);
 }
 
 /* Lines that are done go out, also where the rest is not. */
@@ -215,10 +231,7 @@ int mark_command(int count, char **words)
         complain("mark: %s; see cudreth help mark", arguments.pairs ? "a list has its names in it" : "a question and an answer are needed");
         return UNUSABLE;
     }
-    struct sigaction action = {.sa_handler = stop};
-    sigemptyset(&action.sa_mask);
-    sigaction(SIGINT, &action, NULL);
-    sigaction(SIGTERM, &action, NULL);
+    catch_interrupts();
     marking.terminal = isatty(STDOUT_FILENO);
     if (arguments.pairs)
         mark_pairs(&marking, arguments.pairs);

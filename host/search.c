@@ -19,6 +19,7 @@
  * than twice however they grow, since the last one that is spent may be one choice short.
  */
 #define FIRST_ALLOWANCE ((uint32_t)1 << 24) /* half a second and more */
+#define LEAST_KNOWN ((uint32_t)1 << 20)
 
 static struct {
     pthread_mutex_t lock;
@@ -93,34 +94,56 @@ static void leave(int signal)
     siglongjmp(out_of_the_search, 1);
 }
 
+#define INTERRUPTS 2
+static const int interrupts[INTERRUPTS] = {SIGINT, SIGTERM};
+
+/* An interrupt that was ignored, as in the background of a shell, stays ignored. */
 static void catch_interrupts(struct sigaction *before)
 {
     struct sigaction action = {.sa_handler = leave};
     sigemptyset(&action.sa_mask);
-    sigaction(SIGINT, &action, &before[0]);
-    sigaction(SIGTERM, &action, &before[1]);
+    for (int at = 0; at < INTERRUPTS; at++) {
+        sigaction(interrupts[at], &action, &before[at]);
+        if (before[at].sa_handler == SIG_IGN)
+            sigaction(interrupts[at], &before[at], NULL);
+    }
+}
+
+static void search_under(struct search *search, uint32_t allowance)
+{
+    search->result = cudreth_solve(search->records, search->length, search->answer, sizeof search->answer, allowance);
+}
+
+/* Behind an interrupt: what the other thread knows, or else what a tenth of a second tells, which may be the verdict itself. */
+static void learn_what_is_known(struct search *search, uint32_t known)
+{
+    uint32_t least = search->allowance < LEAST_KNOWN ? search->allowance : LEAST_KNOWN;
+    if (known == 0)
+        search_under(search, least);
+    search->interrupted = known > 0 || (cudreth_verdict(search->result) == CUDRETH_SPENT && least < search->allowance);
+    search->known = known > 0 ? known : least;
 }
 
 void search_run(struct search *search)
 {
-    sigset_t interrupts, before;
-    struct sigaction actions[2];
-    sigemptyset(&interrupts);
-    sigaddset(&interrupts, SIGINT);
-    sigaddset(&interrupts, SIGTERM);
+    sigset_t caught, before;
+    struct sigaction actions[INTERRUPTS];
+    sigemptyset(&caught);
+    for (int at = 0; at < INTERRUPTS; at++)
+        sigaddset(&caught, interrupts[at]);
     /* Interrupts are let in while the archive runs, in this thread alone, and at no other time. */
-    pthread_sigmask(SIG_BLOCK, &interrupts, &before);
+    pthread_sigmask(SIG_BLOCK, &caught, &before);
     start_watching(search);
     catch_interrupts(actions);
     if (sigsetjmp(out_of_the_search, 1) == 0) {
         pthread_sigmask(SIG_SETMASK, &before, NULL);
-        search->result = cudreth_solve(search->records, search->length, search->answer, sizeof search->answer, search->allowance);
-        pthread_sigmask(SIG_BLOCK, &interrupts, NULL);
+        search_under(search, search->allowance);
+        pthread_sigmask(SIG_BLOCK, &caught, NULL);
+        stop_watching();
     } else {
-        search->interrupted = true;
+        learn_what_is_known(search, stop_watching());
     }
-    search->known = stop_watching();
-    sigaction(SIGINT, &actions[0], NULL);
-    sigaction(SIGTERM, &actions[1], NULL);
+    for (int at = 0; at < INTERRUPTS; at++)
+        sigaction(interrupts[at], &actions[at], NULL);
     pthread_sigmask(SIG_SETMASK, &before, NULL);
 }

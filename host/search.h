@@ -15,7 +15,7 @@ struct search {
     uint8_t answer[CUDRETH_ANSWER_BYTES];
     uint64_t result;
     bool interrupted; /* then there is no result, */
-    uint32_t known;   /* but the search is known to enter more choices than this, if it is not 0 */
+    uint32_t known;   /* but the search is known to enter more choices than this */
 };
 
 void search_run(struct search *search);

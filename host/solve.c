@@ -58,9 +58,8 @@ static void put_verdict(const char *word, uint32_t count, const struct arguments
 
 static int interrupted(const struct search *search, const struct arguments *arguments, const char *name)
 {
-    if (search->known > 0)
-        put_verdict("spent", search->known, arguments);
-    complain_of(name, search->known > 0 ? "interrupted" : "interrupted; nothing is known yet");
+    put_verdict("spent", search->known, arguments);
+    complain_of(name, "interrupted");
     return SPENT;
 }
 
