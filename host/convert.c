@@ -50,7 +50,7 @@ static int put_nodes_of(struct loaded *xml, bool bytes)
 static int put_xml_of(struct loaded *tree)
 {
     uint8_t text[CUDRETH_XML_BYTES];
-    uint64_t result = cudreth_xml_write(tree->records, tree->length, text, sizeof text);
+    uint64_t result = cudreth_xml_write(tree->records, nodes_alone(tree), text, sizeof text);
     if (cudreth_verdict(result) == CUDRETH_REFUSED) {
         refuse_answer(tree, cudreth_question(result), NULL);
         return complain_refused(tree);

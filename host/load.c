@@ -105,17 +105,15 @@ const char *load_paths(struct loaded *loaded, const char *name)
     return reason ? reason : translate(loaded);
 }
 
-/* Places, if nothing else is behind the nodes, are left out: XML has none. */
-static void leave_out_places(struct loaded *loaded)
+size_t nodes_alone(const struct loaded *tree)
 {
     size_t nodes = 0;
-    while (nodes < loaded->length && loaded->records[nodes] == CUDRETH_NODE)
+    while (nodes < tree->length && tree->records[nodes] == CUDRETH_NODE)
         nodes += CUDRETH_RECORD_BYTES;
     size_t end = nodes;
-    while (end < loaded->length && loaded->records[end] == CUDRETH_PLACE)
+    while (end < tree->length && tree->records[end] == CUDRETH_PLACE)
         end += CUDRETH_RECORD_BYTES;
-    if (end == loaded->length)
-        loaded->length = nodes;
+    return end == tree->length ? nodes : tree->length;
 }
 
 const char *load_tree(struct loaded *loaded, const char *name)
@@ -129,11 +127,9 @@ const char *load_tree(struct loaded *loaded, const char *name)
     } else if (file_too_long(&loaded->file)) {
         refuse_too_long(loaded);
     } else if (loaded->form == RECORDS) {
-        reason = load_text(loaded, ANSWER);
+        return load_text(loaded, ANSWER);
     }
-    if (!reason && !loaded->refused && loaded->form != XML)
-        leave_out_places(loaded);
-    return reason;
+    return NULL;
 }
 
 /* Of bytes the record itself, of text the word for one of its bytes. */

@@ -34,8 +34,10 @@ const char *load_question(struct loaded *loaded, const char *name);
 const char *load_answer(struct loaded *loaded, const char *name);
 /* A text of paths and nothing else. */
 const char *load_paths(struct loaded *loaded, const char *name);
-/* Node records, or XML as it stands, without a newline at its end. */
+/* An answer, or XML as it stands, without a newline at its end. */
 const char *load_tree(struct loaded *loaded, const char *name);
+/* How many bytes its nodes are, if only places are behind them, which XML has not; else all of it. */
+size_t nodes_alone(const struct loaded *tree);
 
 /* Asks the archive about a question alone, without an answer. */
 void judge_question(struct loaded *question);
