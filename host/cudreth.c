@@ -1,6 +1,14 @@
 /*
  * cudreth: solves and marks questions on trees, from the command line. Every verdict is that of the proved functions in libcapi.a; here files are
  * read and results are printed. docs/FORMAT.md, "The text form" and "The command", says what; cudreth.1 is the manual.
+ *
+ *   solve, mark, convert, help    the commands
+ *   command                       what they share: options, exit status, standard output
+ *   load                          a file of any form, as the bytes that the archive is asked about
+ *   text, place                   the text form; where in a file a refusal is
+ *   search                        the solver, watched and interrupted
+ *   tree                          drawings
+ *   file, buffer                  files whole, text whole
  */
 #include <signal.h>
 #include <string.h>
