@@ -38,6 +38,8 @@ static int run(int count, char **words)
         complain("a command is needed; see cudreth help");
         return UNUSABLE;
     }
+    if (count == 3 && strcmp(words[2], "--help") == 0)
+        return help_command(1, words + 1);
     for (size_t at = 0; at < COMMANDS; at++)
         if (strcmp(commands[at].word, words[1]) == 0)
             return commands[at].run(count - 2, words + 2);
