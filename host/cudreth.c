@@ -9,6 +9,9 @@
  *   search                        the solver, watched and interrupted
  *   tree                          drawings
  *   file, buffer                  files whole, text whole
+ *
+ * A new kind of record is a line in text.c; a new number of a refusal needs nothing, but for its place in place.c; a new function of the
+ * archive is a command here, in command.h, help.c and the manual.
  */
 #include <signal.h>
 #include <string.h>
