@@ -1,0 +1,70 @@
+//! One run of the command, in the folder of the files that it is given, and what it is held to.
+
+use crate::says::Expected;
+use crate::{fail, Trial};
+use std::fs::File;
+use std::process::Command;
+
+/// Where the files lie that the command is given, and where it is run.
+pub const FILES: &str = "target/second/command-files";
+const INPUT: &str = "standard-input";
+
+pub struct Said {
+    pub output: Vec<u8>,
+    pub errors: Vec<u8>,
+    /// Nothing if a signal has ended it.
+    pub status: Option<i32>,
+}
+
+pub fn empty_folder() {
+    if std::fs::exists(FILES).unwrap_or_else(|error| fail(FILES, &error)) {
+        std::fs::remove_dir_all(FILES).unwrap_or_else(|error| fail(FILES, &error));
+    }
+    std::fs::create_dir_all(FILES).unwrap_or_else(|error| fail(FILES, &error));
+}
+
+/// A file with these bytes.
+pub fn write(name: &str, bytes: &[u8]) {
+    let path = format!("{FILES}/{name}");
+    std::fs::write(&path, bytes).unwrap_or_else(|error| fail(&path, &error));
+}
+
+impl Trial {
+    /// With this standard input.
+    pub fn run_on(&mut self, words: &[&str], input: &[u8]) -> Said {
+        write(INPUT, input);
+        let path = format!("{FILES}/{INPUT}");
+        let input = File::open(&path).unwrap_or_else(|error| fail(&path, &error));
+        let mut command = Command::new(&self.program);
+        command.args(words).current_dir(FILES).stdin(input);
+        let said = command.output().unwrap_or_else(|error| fail(&self.program.display().to_string(), &error));
+        self.runs += 1;
+        Said { output: said.stdout, errors: said.stderr, status: said.status.code() }
+    }
+
+    pub fn run(&mut self, words: &[&str]) -> Said {
+        self.run_on(words, b"")
+    }
+}
+
+/// Holds a run to what is expected; `files` are shown if it differs.
+pub fn hold(name: &str, words: &[&str], said: &Said, expected: &Expected, files: &[&[u8]]) {
+    let wrong = if said.output != expected.output {
+        format!("printed  \"{}\"\nexpected \"{}\"", shown(&said.output), shown(&expected.output))
+    } else if said.errors != expected.errors {
+        format!("standard error has \"{}\"\nexpected           \"{}\"", shown(&said.errors), shown(&expected.errors))
+    } else if said.status != Some(expected.status) {
+        format!("exit status {:?}, expected {}", said.status, expected.status)
+    } else {
+        return;
+    };
+    let files: String = files.iter().map(|file| format!("\nfile \"{}\"", shown(file))).collect();
+    fail(name, &format!("cudreth {}\n{wrong}{files}", words.join(" ").escape_debug()));
+}
+
+pub fn shown(bytes: &[u8]) -> String {
+    match bytes.get(..2_000) {
+        None => bytes.escape_ascii().to_string(),
+        Some(front) => format!("{} and so on, {} bytes", front.escape_ascii(), bytes.len()),
+    }
+}
