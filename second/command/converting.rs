@@ -2,11 +2,10 @@
 
 use crate::judge::{self, Converted};
 use crate::lines::Side;
-use crate::run::{hold, write};
 use crate::says;
 use crate::{damage, draws, fail, forms, Trial};
 use questions::xml::{damaged_nodes, damaged_xml, named_tree, numbered_otherwise};
-use second::answer;
+use second::{answer, xml};
 use written::Expected as Written;
 
 impl Trial {
@@ -25,11 +24,8 @@ impl Trial {
     }
 
     fn paths(&mut self, name: &str, text: &[u8]) {
-        // A file with a byte 0 is bytes, of which "Paths" says nothing.
-        if text.contains(&0) {
-            return;
-        }
         let bytes = self.random.one_in(2);
+        let given = self.given("paths", &bytes_option(bytes));
         let expected = match judge::paths(text) {
             Ok(held) => {
                 self.seen.note(format!("paths: written as {}", if bytes { "bytes" } else { "text" }));
@@ -37,14 +33,10 @@ impl Trial {
             }
             Err(refused) => {
                 self.seen.note(format!("paths: {}", refused.sort));
-                says::refused("text", &refused)
+                says::refused(&given.name, &refused)
             }
         };
-        write("text", text);
-        let words = ["paths", "text", "--bytes"];
-        let words = if bytes { &words[..] } else { &words[..2] };
-        let said = self.run(words);
-        hold(name, words, &said, &expected, &[text]);
+        self.hold_given(name, &given, text, &expected);
     }
 
     pub fn trees_as_xml(&mut self) {
@@ -61,6 +53,11 @@ impl Trial {
         }
         for _ in 0..300 {
             self.random_tree_as_xml();
+        }
+        for nodes in (65..=80).chain([500, 5_000]) {
+            let tree = named_tree(&mut self.random, nodes);
+            let text = xml::write(&tree).expect("a tree whose labels are names");
+            self.xml("more elements than there may be", &text);
         }
     }
 
@@ -93,6 +90,7 @@ impl Trial {
 
     fn xml(&mut self, name: &str, file: &[u8]) {
         let bytes = self.random.one_in(2);
+        let given = self.given("xml", &bytes_option(bytes));
         let expected = match judge::xml(file) {
             Ok(converted) => {
                 self.note_xml(file, &converted, bytes);
@@ -100,14 +98,10 @@ impl Trial {
             }
             Err(refused) => {
                 self.seen.note(format!("xml: {}", refused.sort));
-                says::refused("tree", &refused)
+                says::refused(&given.name, &refused)
             }
         };
-        write("tree", file);
-        let words = ["xml", "--bytes", "tree"];
-        let words = if bytes { &words[..] } else { &["xml", "tree"][..] };
-        let said = self.run(words);
-        hold(name, words, &said, &expected, &[file]);
+        self.hold_given(name, &given, file, &expected);
     }
 
     fn note_xml(&mut self, file: &[u8], converted: &Converted, bytes: bool) {
@@ -126,4 +120,8 @@ impl Trial {
             }
         }
     }
+}
+
+fn bytes_option(bytes: bool) -> Vec<String> {
+    bytes.then(|| "--bytes".to_string()).into_iter().collect()
 }

@@ -63,13 +63,9 @@ impl Held {
     }
 }
 
-/// A text of paths or of XML that is refused at a byte.
-fn refused_at(number: u8, form: Form, file: &[u8], at: usize) -> Refused {
-    let which = match at {
-        at if at == file.len() => "at the end",
-        _ => "at a byte",
-    };
-    let sort = format!("{}: refused {number} {which}", form.name());
+/// A text of paths or of XML that is refused at a byte, or at its end.
+fn refused_at(number: u8, form: Form, file: &[u8], (at, why): (usize, &str)) -> Refused {
+    let sort = format!("{}: refused {number} {why}", form.name());
     let words = words::of_question(number).to_string();
     Refused { number: Some(number), words, place: spot_of(file, at).to_string(), sort }
 }
@@ -106,7 +102,9 @@ pub fn paths(file: &[u8]) -> Result<Held, Refused> {
     assert_eq!(path_machine::is_of_form(file), verdict != FillVerdict::Refused(Refusal(13)), "{}", file.escape_ascii());
     match verdict {
         FillVerdict::Refused(Refusal(13)) => Err(refused_at(13, Form::Paths, file, path_machine::no_form(file))),
-        FillVerdict::Refused(_) => Err(refused_at(14, Form::Paths, file, path_machine::too_many_variables(file))),
+        FillVerdict::Refused(_) => {
+            Err(refused_at(14, Form::Paths, file, (path_machine::too_many_variables(file), "at a byte")))
+        }
         FillVerdict::Written(records) => {
             let lines = path::read(file).expect("a text of paths");
             let written_by = |end: usize| translate::translate(&lines[..end]).records.len();
@@ -171,7 +169,7 @@ fn xml_read(file: &[u8]) -> Result<Vec<u8>, Refused> {
     let text = file.strip_suffix(b"\n").unwrap_or(file);
     match (second::xml_read(text, LEAST_NODES_BUFFER), xml_machine::no_form(text)) {
         (FillVerdict::Written(nodes), None) => Ok(nodes),
-        (FillVerdict::Refused(_), Some(at)) => Err(refused_at(16, Form::Xml, text, at)),
+        (FillVerdict::Refused(_), Some(found)) => Err(refused_at(16, Form::Xml, text, found)),
         _ => panic!("the two readers of XML differ on {}", text.escape_ascii()),
     }
 }

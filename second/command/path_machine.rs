@@ -132,18 +132,22 @@ fn axis_is(word: &str) -> bool {
     AXES.iter().any(|(_, name)| *name == word)
 }
 
-/// Of a text that 13 refuses: the first byte that no text of paths has there, or the end, where one lacks.
-pub fn no_form(text: &[u8]) -> usize {
+/// Of a text that 13 refuses: the first byte that no text of paths has there, or the end, where one lacks; and a name for why.
+pub fn no_form(text: &[u8]) -> (usize, &'static str) {
     let mut machine = Machine::new();
     for (at, &byte) in text.iter().enumerate() {
         let before = machine.clone();
-        if machine.step(byte).is_none() || at + 1 + machine.completion().len() > MOST_BYTES {
-            hold_to_second(&before, &text[..at]);
-            return at;
-        }
+        let why = match machine.step(byte) {
+            None if before.lines == MOST_LINES => "for its lines",
+            None => "for its form",
+            Some(()) if at + 1 + machine.completion().len() > MOST_BYTES => "for its bytes",
+            Some(()) => continue,
+        };
+        hold_to_second(&before, &text[..at]);
+        return (at, why);
     }
     hold_to_second(&machine, text);
-    text.len()
+    (text.len(), "at the end")
 }
 
 /// Of a text of paths: the first byte behind which 16 variables are not enough.

@@ -5,6 +5,12 @@ use crate::{fail, Trial};
 use std::fs::File;
 use std::process::Command;
 
+/// How a command is given its file: the words of the call, and the name that it has for the file.
+pub struct Given {
+    pub words: Vec<String>,
+    pub name: String,
+}
+
 /// Where the files lie that the command is given, and where it is run.
 pub const FILES: &str = "target/second/command-files";
 const INPUT: &str = "standard-input";
@@ -44,6 +50,35 @@ impl Trial {
 
     pub fn run(&mut self, words: &[&str]) -> Said {
         self.run_on(words, b"")
+    }
+
+    /// "Options may stand before or behind the names; `--` ends them. Without FILE it is standard input."
+    pub fn given(&mut self, command: &str, options: &[String]) -> Given {
+        let (sort, name, names) = match self.random.below(12) {
+            0 => ("from standard input", "-", vec![]),
+            1 => ("from -", "-", vec!["-"]),
+            2 => ("-- before the name", "-file", vec!["--", "-file"]),
+            3 => ("a name with control characters", "a\tfi\nle", vec!["a\tfi\nle"]),
+            4..=7 if !options.is_empty() => ("options behind the name", "file", vec!["file"]),
+            _ => ("a file", "file", vec!["file"]),
+        };
+        self.seen.note(format!("{command}: {sort}"));
+        let names: Vec<String> = names.into_iter().map(String::from).collect();
+        let (first, then) =
+            if sort == "options behind the name" { (&names[..], options) } else { (options, &names[..]) };
+        Given { words: [&[command.to_string()], first, then].concat(), name: name.to_string() }
+    }
+
+    /// Runs the command on this file, and holds it to what is expected.
+    pub fn hold_given(&mut self, name: &str, given: &Given, file: &[u8], expected: &Expected) {
+        let words: Vec<&str> = given.words.iter().map(String::as_str).collect();
+        let said = if given.name == "-" {
+            self.run_on(&words, file)
+        } else {
+            write(&given.name, file);
+            self.run(&words)
+        };
+        hold(name, &words, &said, expected, &[file]);
     }
 }
 

@@ -23,7 +23,7 @@ impl Seen {
 }
 
 fn must_be_seen() -> Vec<String> {
-    [noises(), marks(), solves(), conversions()].concat()
+    [noises(), given(), marks(), solves(), conversions()].concat()
 }
 
 fn noises() -> Vec<String> {
@@ -31,8 +31,21 @@ fn noises() -> Vec<String> {
     sorts.map(|sort| format!("noise: {sort}")).collect()
 }
 
+/// How a command is given its file.
+fn given() -> Vec<String> {
+    const SORTS: [&str; 6] = [
+        "from standard input",
+        "from -",
+        "-- before the name",
+        "a name with control characters",
+        "options behind the name",
+        "a file",
+    ];
+    ["solve", "paths", "xml"].iter().flat_map(|command| SORTS.map(|sort| format!("{command}: {sort}"))).collect()
+}
+
 /// Refusals of questions, with where they stand in text.
-const REFUSED_QUESTIONS: [&str; 14] = [
+const REFUSED_QUESTIONS: [&str; 16] = [
     "bytes: refused 1",
     "bytes: refused 2",
     "bytes: refused 3",
@@ -43,7 +56,9 @@ const REFUSED_QUESTIONS: [&str; 14] = [
     "text: refused 4 at word 1",
     "text: refused 4 at word 2",
     "text: refused 5 at word 2",
-    "paths: refused 13 at a byte",
+    "paths: refused 13 for its form",
+    "paths: refused 13 for its bytes",
+    "paths: refused 13 for its lines",
     "paths: refused 13 at the end",
     "paths: refused 14 at a byte",
     "text: no record in the text",
@@ -116,17 +131,14 @@ fn solves() -> Vec<String> {
     }
     sorts.push("solve: bytes, Bytes: spent".to_string());
     sorts.extend(REFUSED_QUESTIONS.map(|sort| format!("solve: {sort}")));
-    sorts.extend(
-        ["from standard input", "from -", "options behind the name", "-- before the name", "then marked"]
-            .map(|sort| format!("solve: {sort}")),
-    );
+    sorts.push("solve: then marked".to_string());
     sorts
 }
 
 fn conversions() -> Vec<String> {
     let mut sorts = Vec::new();
     sorts.extend(["text", "bytes"].map(|printed| format!("paths: written as {printed}")));
-    let refused = ["13 at a byte", "13 at the end", "14 at a byte"];
+    let refused = ["13 for its form", "13 for its bytes", "13 for its lines", "13 at the end", "14 at a byte"];
     sorts.extend(refused.map(|sort| format!("paths: paths: refused {sort}")));
     let converted = [
         "bytes to XML",
@@ -148,7 +160,8 @@ fn conversions() -> Vec<String> {
         "15 at word 3",
     ];
     sorts.extend(text.map(|sort| format!("xml: text: refused {sort}")));
-    sorts.extend(["a byte", "the end"].map(|place| format!("xml: XML: refused 16 at {place}")));
+    let xml = ["for its form", "for its elements", "at the end"];
+    sorts.extend(xml.map(|sort| format!("xml: XML: refused 16 {sort}")));
     sorts.push("xml: text: no record in the text".to_string());
     sorts
 }

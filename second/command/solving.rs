@@ -72,11 +72,12 @@ impl Trial {
         verdict_of: impl Fn(&Held) -> SolverVerdict,
     ) {
         let form = forms::of_question(file).name();
-        let (words, file_name) = self.words_for(allowance, printing);
+        let options = self.options_for(allowance, printing);
+        let given = self.given("solve", &options);
         let expected = match judge::question(file) {
             Err(refused) => {
                 self.seen.note(format!("solve: {}", refused.sort));
-                says::refused(&file_name, &refused)
+                says::refused(&given.name, &refused)
             }
             Ok(held) => {
                 let verdict = verdict_of(&held);
@@ -84,18 +85,10 @@ impl Trial {
                 says::solve(&verdict, printing)
             }
         };
-        let words: Vec<&str> = words.iter().map(String::as_str).collect();
-        let said = if file_name == "-" {
-            self.run_on(&words, file)
-        } else {
-            write(&file_name, file);
-            self.run(&words)
-        };
-        hold(name, &words, &said, &expected, &[file]);
+        self.hold_given(name, &given, file, &expected);
     }
 
-    /// "Options may stand before or behind the names; `--` ends them. Without FILE it is standard input."
-    fn words_for(&mut self, allowance: u32, printing: Printing) -> (Vec<String>, String) {
+    fn options_for(&mut self, allowance: u32, printing: Printing) -> Vec<String> {
         let mut options = Vec::new();
         if allowance != ALLOWANCE || self.random.one_in(9) {
             options.extend(["--allowance".to_string(), allowance.to_string()]);
@@ -105,20 +98,7 @@ impl Trial {
             Printing::Drawing => options.push("--draw".to_string()),
             Printing::Bytes => options.push("--bytes".to_string()),
         }
-        let word = |word: &str| vec![word.to_string()];
-        let (sort, file, names) = match self.random.below(8) {
-            0 => ("from standard input", "-", Vec::new()),
-            1 => ("from -", "-", word("-")),
-            2 => ("-- before the name", "-file", vec!["--".to_string(), "-file".to_string()]),
-            _ => ("a file", "file", word("file")),
-        };
-        self.seen.note(format!("solve: {sort}"));
-        let behind = file == "file" && self.random.one_in(2) && !options.is_empty();
-        if behind {
-            self.seen.note("solve: options behind the name");
-        }
-        let words = if behind { [word("solve"), names, options] } else { [word("solve"), options, names] };
-        (words.concat(), file.to_string())
+        options
     }
 
     fn damaged_question(&mut self) -> Vec<u8> {

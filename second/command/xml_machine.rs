@@ -33,6 +33,7 @@ struct Machine {
     /// The names of the elements that are open.
     open: Vec<u8>,
     elements: usize,
+    most: usize,
 }
 
 impl Machine {
@@ -42,12 +43,12 @@ impl Machine {
             (After::Nothing | After::OpenTag, b'<') => After::Opening,
             (After::Element, b'<') if !self.open.is_empty() => After::Either,
             (After::Either, b'/') => After::CloseSlash,
-            (After::Opening | After::Either, b'a'..=b'z' | b'A'..=b'Z' | b'_') if self.elements < MOST_ELEMENTS => {
+            (After::Opening | After::Either, b'a'..=b'z' | b'A'..=b'Z' | b'_') if self.elements < self.most => {
                 self.elements += 1;
                 After::Name(byte)
             }
             (After::Name(_), b'/') => After::LeafSlash,
-            (After::Name(name), b'>') if self.elements < MOST_ELEMENTS => {
+            (After::Name(name), b'>') if self.elements < self.most => {
                 self.open.push(name);
                 After::OpenTag
             }
@@ -79,11 +80,18 @@ impl Machine {
     }
 }
 
-/// The first byte that no text of a tree has there, or the end, where one lacks; nothing if the text is that of a tree.
-pub fn no_form(text: &[u8]) -> Option<usize> {
-    let mut machine = Machine { after: After::Nothing, open: Vec::new(), elements: 0 };
+/// The first byte that no text of a tree has there, or the end, where one lacks, and a name for why; nothing if the text is that of a tree.
+pub fn no_form(text: &[u8]) -> Option<(usize, &'static str)> {
+    let mut machine = Machine { after: After::Nothing, open: Vec::new(), elements: 0, most: MOST_ELEMENTS };
     let wrong = text.iter().position(|&byte| machine.step(byte).is_none());
     let whole = [&text[..wrong.unwrap_or(text.len())], &machine.completion()].concat();
     assert!(xml::read(&whole).is_some(), "the second reader takes {}", whole.escape_ascii());
-    wrong.or((whole != text).then_some(text.len()))
+    match wrong {
+        None if whole == text => None,
+        None => Some((text.len(), "at the end")),
+        Some(at) => {
+            machine.most += 1;
+            Some((at, if machine.step(text[at]).is_some() { "for its elements" } else { "for its form" }))
+        }
+    }
 }
