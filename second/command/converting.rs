@@ -88,7 +88,7 @@ impl Trial {
         self.xml("a damaged tree", &damaged);
     }
 
-    fn xml(&mut self, name: &str, file: &[u8]) {
+    pub fn xml(&mut self, name: &str, file: &[u8]) {
         let bytes = self.random.one_in(2);
         let given = self.given("xml", &bytes_option(bytes));
         let expected = match judge::xml(file) {

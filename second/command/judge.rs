@@ -15,8 +15,8 @@ pub struct Refused {
     /// A text that is not of the text form is refused without a number.
     pub number: Option<u8>,
     pub words: String,
-    /// "`line L, column C` of text and `record N` of bytes."
-    pub place: String,
+    /// "`line L, column C` of text and `record N` of bytes." A file that is too large has none.
+    pub place: Option<String>,
     /// A name for what has come up.
     pub sort: String,
 }
@@ -59,7 +59,7 @@ impl Held {
         };
         let sort = format!("{}: refused {number} {}", self.form.name(), if self.text.is_some() { &*which } else { "" });
         let words = words::of_question(number).to_string();
-        Refused { number: Some(number), words, place: self.place(at), sort: sort.trim_end().to_string() }
+        Refused { number: Some(number), words, place: Some(self.place(at)), sort: sort.trim_end().to_string() }
     }
 }
 
@@ -67,15 +67,26 @@ impl Held {
 fn refused_at(number: u8, form: Form, file: &[u8], (at, why): (usize, &str)) -> Refused {
     let sort = format!("{}: refused {number} {why}", form.name());
     let words = words::of_question(number).to_string();
-    Refused { number: Some(number), words, place: spot_of(file, at).to_string(), sort }
+    Refused { number: Some(number), words, place: Some(spot_of(file, at).to_string()), sort }
 }
 
 fn not_of_the_form((complaint, at): (Complaint, Spot)) -> Refused {
     let sort = format!("text: {}", complaint.sort());
-    Refused { number: None, words: complaint.words(), place: at.to_string(), sort }
+    Refused { number: None, words: complaint.words(), place: Some(at.to_string()), sort }
+}
+
+/// The largest file that is read; a larger question of bytes gets 1 all the same, and larger XML 16.
+pub const MOST_BYTES: usize = 16_777_216;
+
+fn too_large(form: Form) -> Refused {
+    let words = format!("the file has more than {MOST_BYTES} bytes");
+    Refused { number: None, words, place: None, sort: format!("{}: too large", form.name()) }
 }
 
 fn held(side: Side, form: Form, file: &[u8]) -> Result<Held, Refused> {
+    if file.len() > MOST_BYTES && !(side == Side::Question && form == Form::Bytes) {
+        return Err(too_large(form));
+    }
     if form == Form::Bytes {
         return Ok(Held { form, records: file.to_vec(), text: None, records_by_line: Vec::new() });
     }

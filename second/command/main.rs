@@ -11,6 +11,7 @@ mod drawing;
 mod draws;
 mod forms;
 mod judge;
+mod large;
 mod lines;
 mod noise;
 mod pairs;
@@ -43,13 +44,14 @@ pub struct Trial {
 }
 
 /// What is run, in this order.
-const PARTS: [(&str, fn(&mut Trial)); 6] = [
+const PARTS: [(&str, fn(&mut Trial)); 7] = [
     ("lists of pairs", Trial::lists_of_pairs),
     ("several answers", Trial::several_answers),
     ("questions solved", Trial::solving),
     ("solved and then marked", Trial::solved_and_marked),
     ("texts of paths", Trial::texts_of_paths),
     ("trees as XML", Trial::trees_as_xml),
+    ("large files", Trial::large_files),
 ];
 
 fn main() {

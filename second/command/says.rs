@@ -39,7 +39,8 @@ fn refused_words(refused: &Refused) -> String {
 
 /// What `solve`, `paths` and `xml` say on standard error.
 pub fn refused(file: &str, refused: &Refused) -> Expected {
-    let line = format!("cudreth: {}: {} ({})\n", name(file), refused_words(refused), refused.place);
+    let place = refused.place.as_ref().map(|place| format!(" ({place})")).unwrap_or_default();
+    let line = format!("cudreth: {}: {}{place}\n", name(file), refused_words(refused));
     Expected { output: Vec::new(), errors: line.into_bytes(), status: REFUSED }
 }
 
@@ -55,10 +56,12 @@ pub fn mark(question: &str, answer: &str, marked: &Marked) -> (String, i32) {
             (format!("{answer}: unmet {position} {kind}: {}{place}\n", shown.trim_end()), 1)
         }
         Marked::RefusedQuestion(refused) => {
-            (format!("{answer}: {} ({question}, {})\n", refused_words(refused), refused.place), REFUSED)
+            let place = refused.place.as_ref().map(|place| format!(", {place}")).unwrap_or_default();
+            (format!("{answer}: {} ({question}{place})\n", refused_words(refused)), REFUSED)
         }
         Marked::RefusedAnswer(refused) => {
-            (format!("{answer}: {} ({})\n", refused_words(refused), refused.place), REFUSED)
+            let place = refused.place.as_ref().map(|place| format!(" ({place})")).unwrap_or_default();
+            (format!("{answer}: {}{place}\n", refused_words(refused)), REFUSED)
         }
     }
 }

@@ -110,6 +110,9 @@ fn marks() -> Vec<String> {
         let kinds = KIND_NAMES.iter().filter(|&&kind| form != "paths" || !["differ", "leaf"].contains(&kind));
         sorts.extend(kinds.map(|kind| format!("mark: question in {form}: unmet {kind}")));
     }
+    sorts.extend(
+        ["question in text", "answer in bytes", "answer in text"].map(|file| format!("mark: {file}: too large")),
+    );
     sorts.extend([0, 1, 3, 4].map(|status| format!("mark: several answers, status {status}")));
     sorts.extend(["question", "answer", "list"].map(|file| format!("mark: {file} on standard input")));
     sorts.extend(["question", "answer"].map(|file| format!("mark: {file} that is not there")));
@@ -131,7 +134,7 @@ fn solves() -> Vec<String> {
     }
     sorts.push("solve: bytes, Bytes: spent".to_string());
     sorts.extend(REFUSED_QUESTIONS.map(|sort| format!("solve: {sort}")));
-    sorts.push("solve: then marked".to_string());
+    sorts.extend(["solve: then marked", "solve: text: too large"].map(String::from));
     sorts
 }
 
@@ -163,5 +166,6 @@ fn conversions() -> Vec<String> {
     let xml = ["for its form", "for its elements", "at the end"];
     sorts.extend(xml.map(|sort| format!("xml: XML: refused 16 {sort}")));
     sorts.push("xml: text: no record in the text".to_string());
+    sorts.extend(["bytes", "text"].map(|form| format!("xml: {form}: too large")));
     sorts
 }

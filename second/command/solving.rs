@@ -27,9 +27,11 @@ impl Trial {
     pub fn solving(&mut self) {
         for known in known_questions() {
             let text = self.as_text(Side::Question, &known.records);
-            for file in [&known.records, &text] {
-                self.solve_each_way(&known, file);
-            }
+            self.solve_known(&known, &known.records, Printing::Text);
+            self.solve_known(&known, &text, Printing::Text);
+            let file = if self.random.one_in(2) { &known.records } else { &text };
+            let printing = if self.random.one_in(2) { Printing::Bytes } else { Printing::Drawing };
+            self.solve_known(&known, file, printing);
         }
         for _ in 0..150 {
             let text = draws::paths_text(&mut self.random);
@@ -41,13 +43,6 @@ impl Trial {
         }
     }
 
-    /// One of the other two ways beside the text, and in text both.
-    fn solve_each_way(&mut self, known: &Known, file: &[u8]) {
-        self.solve_known(known, file, Printing::Text);
-        let other = if self.random.one_in(2) { Printing::Bytes } else { Printing::Drawing };
-        self.solve_known(known, file, other);
-    }
-
     fn solve_known(&mut self, known: &Known, file: &[u8], printing: Printing) {
         let verdict_of = |held: &Held| {
             assert_eq!(held.records, known.records, "{}: the text form has the same records", known.name);
@@ -57,7 +52,7 @@ impl Trial {
     }
 
     /// Where no verdict is written the second solver is asked.
-    fn solve_afresh(&mut self, name: &str, file: &[u8]) {
+    pub fn solve_afresh(&mut self, name: &str, file: &[u8]) {
         let printing = self.random.pick(&[Printing::Text, Printing::Bytes, Printing::Drawing]);
         let allowance = self.random.pick(&[0, 1, 3, AFFORDABLE, AFFORDABLE]);
         self.solve(name, file, allowance, printing, |held| second::solve(&held.records, LEAST_BUFFER, allowance));
