@@ -23,7 +23,7 @@ impl Trial {
         }
     }
 
-    fn paths(&mut self, name: &str, text: &[u8]) {
+    pub fn paths(&mut self, name: &str, text: &[u8]) {
         let bytes = self.random.one_in(2);
         let given = self.given("paths", &bytes_option(bytes));
         let expected = match judge::paths(text) {

@@ -22,18 +22,22 @@ impl Form {
     }
 }
 
+/// "An empty file is bytes, and so is a file with a byte 0. Any other is text."
+fn is_bytes(file: &[u8]) -> bool {
+    file.is_empty() || file.contains(&0)
+}
+
 /// "A question's text is of paths if there is a `/` or a `:` in its first word, comments passed over; else it is of records."
 pub fn of_question(file: &[u8]) -> Form {
     match first_word_of(file) {
-        _ if file.contains(&0) => Form::Bytes,
+        _ if is_bytes(file) => Form::Bytes,
         Some(word) if word.contains(&b'/') || word.contains(&b':') => Form::Paths,
         _ => Form::Records,
     }
 }
 
-/// "A file with a byte 0 is bytes. Any other is text."
 pub fn of_answer(file: &[u8]) -> Form {
-    if file.contains(&0) {
+    if is_bytes(file) {
         Form::Bytes
     } else {
         Form::Records

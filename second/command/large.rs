@@ -15,9 +15,11 @@ impl Trial {
             let bytes = long(b"", 0);
             let (question, answer) = (long(b"# a long comment", b'.'), long(&[ANSWER, b"#"].concat(), b'.'));
             let with_record = [b"child 0 1\n", &question[..length - 10]].concat();
-            for file in [&bytes, &with_record] {
+            let paths = long(b"/child::a\n/child::", b'.');
+            for file in [&bytes, &with_record, &paths] {
                 self.large_question(file);
             }
+            self.paths("a large text of paths", &paths);
             for file in [&bytes, &answer] {
                 self.large_answer(file);
                 self.xml("a large tree", file);

@@ -11,10 +11,11 @@ use second::constraint::KIND_NAMES;
 use written::Expected as Written;
 
 /// Questions that are drawn; those that are not refused get so many answers.
-const QUESTIONS: usize = 16_000;
+const QUESTIONS: usize = 10_000;
 const ANSWERS: usize = 4;
 
 /// A pair in a list, and the line that is expected of it.
+#[derive(Clone)]
 struct Pair {
     question: String,
     answer: String,
@@ -44,7 +45,8 @@ impl Trial {
             self.list(&format!("pairs up to status {status}"), &below);
         }
         self.list_on_input(&pairs[..1_000]);
-        self.list_with_absent(&pairs[..10]);
+        self.list_with_absent(&pairs[..1_000]);
+        self.list_with_wrong_lines(&pairs[..2]);
         self.list::<Pair>("no pair", &[]);
     }
 
@@ -217,19 +219,21 @@ impl Trial {
         self.seen.note("mark: list on standard input");
     }
 
-    /// Questions and answers that are not there, among others that are.
+    /// Questions and answers that are not there, among others that are: "of two files at fault the question comes first, and a file that
+    /// cannot be read before one that is refused".
     fn list_with_absent(&mut self, pairs: &[Pair]) {
         let mut with_absent = Vec::new();
         for pair in pairs {
-            for (question, answer) in [("absent", pair.answer.as_str()), (&pair.question, "absent too")] {
-                let absent = if question == "absent" { question } else { answer };
-                let line = format!("{answer}: unread: {absent}: No such file or directory\n");
-                let pair = Pair { question: question.to_string(), answer: answer.to_string(), line, status: UNREAD };
-                with_absent.push(pair);
+            let absent = [
+                ("absent", &*pair.answer, "absent"),
+                (&pair.question, "not there", "not there"),
+                ("absent", "not there", "absent"),
+            ];
+            for (question, answer, which) in absent {
+                let (line, status) = says::unread(answer, which);
+                with_absent.push(Pair { question: question.to_string(), answer: answer.to_string(), line, status });
             }
-            let Pair { question, answer, line, status } = pair;
-            let (question, answer, line) = (question.clone(), answer.clone(), line.clone());
-            with_absent.push(Pair { question, answer, line, status: *status });
+            with_absent.push(pair.clone());
         }
         let list: String = with_absent.iter().map(|pair| format!("{}\t{}\n", pair.question, pair.answer)).collect();
         write("list", list.as_bytes());
@@ -238,6 +242,19 @@ impl Trial {
         self.hold_list("a list with files that are not there", &words, said, &with_absent);
         self.seen.note("mark: question that is not there");
         self.seen.note("mark: answer that is not there");
+    }
+
+    /// "A line of LIST that is not two names is told on standard error; one without a word is passed over."
+    fn list_with_wrong_lines(&mut self, pairs: &[Pair]) {
+        let lines: Vec<String> = pairs.iter().map(|pair| format!("{} {}\n", pair.question, pair.answer)).collect();
+        let list = format!("\n{}one\n  \none two three\n{}\n", lines[0], lines[1]);
+        write("a list", list.as_bytes());
+        let words = ["mark", "--pairs", "a list"];
+        let said = self.run(&words);
+        let output = format!("{}{}", pairs[0].line, pairs[1].line).into_bytes();
+        let told = |line: usize| format!("cudreth: a list: line {line} is not a question and an answer\n");
+        let errors = format!("{}{}", told(3), told(5)).into_bytes();
+        hold("a list with lines that are wrong", &words, &said, &Expected { output, errors, status: UNREAD }, &[]);
     }
 
     /// The first line that differs is told with its files.
@@ -257,9 +274,8 @@ impl Trial {
                 );
             }
         }
-        let output: String = pairs.iter().map(|pair| pair.line.as_str()).collect();
-        let status = pairs.iter().map(|pair| pair.status).max().unwrap_or(0);
-        hold(name, words, &said, &Expected { output: output.into_bytes(), errors: Vec::new(), status }, &[]);
+        let expected = says::marks(pairs.iter().map(|pair| (pair.line.as_str(), pair.status)));
+        hold(name, words, &said, &expected, &[]);
         self.pairs += pairs.len() as u64;
     }
 }

@@ -64,8 +64,7 @@ pub fn read(side: Side, file: &[u8]) -> Result<Text, (Complaint, Spot)> {
         text.records.push(record);
         text.words.push(words.iter().map(|word| word.at).collect());
     }
-    // "An empty file is a file of no records in either form."
-    if text.records.is_empty() && !file.is_empty() {
+    if text.records.is_empty() {
         return Err((Complaint::Empty, text.end));
     }
     Ok(text)

@@ -66,6 +66,28 @@ pub fn mark(question: &str, answer: &str, marked: &Marked) -> (String, i32) {
     }
 }
 
+/// A file that cannot be read, the question or the answer, since it is not there.
+pub fn unread(answer: &str, absent: &str) -> (String, i32) {
+    (format!("{}: unread: {}: No such file or directory\n", name(answer), name(absent)), UNREAD)
+}
+
+/// The lines of several answers, with the highest status.
+pub fn marks<'a>(marks: impl Iterator<Item = (&'a str, i32)>) -> Expected {
+    let mut expected = written(Vec::new());
+    let mut unread = 0;
+    for (line, status) in marks {
+        expected.output.extend(line.bytes());
+        expected.status = expected.status.max(status);
+        unread += usize::from(status == UNREAD);
+    }
+    expected.errors = match unread {
+        0 => Vec::new(),
+        1 => b"cudreth: 1 pair could not be read\n".to_vec(),
+        pairs => format!("cudreth: {pairs} pairs could not be read\n").into_bytes(),
+    };
+    expected
+}
+
 /// How `solve` prints a tree.
 #[derive(Clone, Copy, PartialEq, Eq, Debug)]
 pub enum Printing {

@@ -3,7 +3,7 @@
 use crate::judge;
 use crate::lines::Side;
 use crate::run::{hold, write};
-use crate::says::{self, Expected, UNREAD};
+use crate::says::{self, Expected};
 use crate::{damage, draws, Trial};
 
 const ROUNDS: usize = 300;
@@ -42,23 +42,21 @@ impl Trial {
 
     fn several(&mut self, question: &[u8], names: &[String], answers: &[Option<Vec<u8>>]) {
         write("question", question);
-        let mut expected = Expected { output: Vec::new(), errors: Vec::new(), status: 0 };
+        let mut words = vec!["mark".to_string(), "question".to_string()];
+        let mut marks = Vec::new();
         for (name, answer) in names.iter().zip(answers) {
-            let (line, status) = match answer {
+            let absent = format!("{name}-absent");
+            let (given, mark) = match answer {
                 Some(answer) => {
                     write(name, answer);
-                    self.marked("question", question, name, answer)
+                    (name, self.marked("question", question, name, answer))
                 }
-                None => (format!("{name}-absent: unread: {name}-absent: No such file or directory\n"), UNREAD),
+                None => (&absent, says::unread(&absent, &absent)),
             };
-            expected.output.extend(line.bytes());
-            expected.status = expected.status.max(status);
+            words.push(given.clone());
+            marks.push(mark);
         }
-        let given = names.iter().zip(answers).map(|(name, answer)| match answer {
-            Some(_) => name.clone(),
-            None => format!("{name}-absent"),
-        });
-        let words: Vec<String> = ["mark", "question"].map(String::from).into_iter().chain(given).collect();
+        let expected = says::marks(marks.iter().map(|(line, status)| (line.as_str(), *status)));
         let words: Vec<&str> = words.iter().map(String::as_str).collect();
         let said = self.run(&words);
         hold("several answers", &words, &said, &expected, &[question]);
