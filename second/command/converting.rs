@@ -23,7 +23,7 @@ impl Trial {
         }
     }
 
-    pub fn paths(&mut self, name: &str, text: &[u8]) {
+    fn paths(&mut self, name: &str, text: &[u8]) {
         let bytes = self.random.one_in(2);
         let given = self.given("paths", &bytes_option(bytes));
         let expected = match judge::paths(text) {
@@ -88,7 +88,7 @@ impl Trial {
         self.xml("a damaged tree", &damaged);
     }
 
-    pub fn xml(&mut self, name: &str, file: &[u8]) {
+    fn xml(&mut self, name: &str, file: &[u8]) {
         let bytes = self.random.one_in(2);
         let given = self.given("xml", &bytes_option(bytes));
         let expected = match judge::xml(file) {

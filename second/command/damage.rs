@@ -53,17 +53,16 @@ const WORDS: [&[u8]; 42] = [
 pub fn text(random: &mut Random, text: &[u8]) -> Vec<u8> {
     let mut bytes = text.to_vec();
     for _ in 0..random.pick(&[1, 1, 1, 2]) {
-        bytes = match random.below(14) {
+        bytes = match random.below(16) {
             0..=3 => with_byte_wrong(random, bytes),
             4..=6 => with_lines_wrong(random, &bytes),
-            7 => random
-                .pick(&[&b"tree 0\n"[..], b"tree\n", b"tree 1 2\n", b"tree 4294967296\n"])
-                .iter()
-                .chain(&bytes)
-                .copied()
-                .collect(),
+            7 => {
+                let line = random.pick(&[&b"tree 0\n"[..], b"tree\n", b"tree 1 2\n", b"tree 4294967296\n"]);
+                [line, &bytes].concat()
+            }
             8 => bytes.into_iter().filter(|&byte| byte != b'\n').collect(),
             9 => without_records(random),
+            10..=12 => with_line_too_long_or_short(random, &bytes),
             _ => with_word_wrong(random, &bytes),
         };
     }
@@ -94,6 +93,21 @@ fn with_lines_wrong(random: &mut Random, bytes: &[u8]) -> Vec<u8> {
         0 => drop(lines.remove(at)),
         1 => lines.insert(other, lines[at]),
         _ => lines.swap(at, other),
+    }
+    lines.concat()
+}
+
+/// A word more or less in one line, in front of its comment.
+fn with_line_too_long_or_short(random: &mut Random, bytes: &[u8]) -> Vec<u8> {
+    let mut lines: Vec<Vec<u8>> = bytes.split_inclusive(|&byte| byte == b'\n').map(<[u8]>::to_vec).collect();
+    if let [_, ..] = lines.as_slice() {
+        let at = random.below(lines.len());
+        let line = &mut lines[at];
+        let end = line.iter().position(|byte| b"#\r\n".contains(byte)).unwrap_or(line.len());
+        let behind = line[..end].iter().rposition(|byte| !b" \t".contains(byte)).map_or(0, |last| last + 1);
+        let start = line[..behind].iter().rposition(|byte| b" \t".contains(byte)).unwrap_or(0);
+        let other = random.pick(&[&b""[..], b"", b" 0", b"\t1", b"  16 256"]);
+        drop(line.splice(if other.is_empty() { start..behind } else { behind..behind }, other.iter().copied()));
     }
     lines.concat()
 }

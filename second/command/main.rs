@@ -15,6 +15,7 @@ mod large;
 mod lines;
 mod noise;
 mod pairs;
+mod papers;
 mod path_machine;
 mod places;
 mod reader;

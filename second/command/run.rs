@@ -2,8 +2,8 @@
 
 use crate::says::Expected;
 use crate::{fail, Trial};
-use std::fs::File;
-use std::process::Command;
+use std::io::Write;
+use std::process::{Child, Command, Stdio};
 
 /// How a command is given its file: the words of the call, and the name that it has for the file.
 pub struct Given {
@@ -13,7 +13,6 @@ pub struct Given {
 
 /// Where the files lie that the command is given, and where it is run.
 pub const FILES: &str = "target/second/command-files";
-const INPUT: &str = "standard-input";
 
 pub struct Said {
     pub output: Vec<u8>,
@@ -36,20 +35,32 @@ pub fn write(name: &str, bytes: &[u8]) {
 }
 
 impl Trial {
-    /// With this standard input.
+    /// With this standard input, through a pipe. What is printed before all of it is read fits into a pipe.
     pub fn run_on(&mut self, words: &[&str], input: &[u8]) -> Said {
-        write(INPUT, input);
-        let path = format!("{FILES}/{INPUT}");
-        let input = File::open(&path).unwrap_or_else(|error| fail(&path, &error));
-        let mut command = Command::new(&self.program);
-        command.args(words).current_dir(FILES).stdin(input);
-        let said = command.output().unwrap_or_else(|error| fail(&self.program.display().to_string(), &error));
-        self.runs += 1;
-        Said { output: said.stdout, errors: said.stderr, status: said.status.code() }
+        let mut child = self.spawn(words, Stdio::piped());
+        let mut pipe = child.stdin.take().expect("a pipe is made");
+        // A command may end before it has read all.
+        let _ = pipe.write_all(input);
+        drop(pipe);
+        self.wait(child)
     }
 
+    /// With nothing on standard input.
     pub fn run(&mut self, words: &[&str]) -> Said {
-        self.run_on(words, b"")
+        let child = self.spawn(words, Stdio::null());
+        self.wait(child)
+    }
+
+    fn spawn(&self, words: &[&str], input: Stdio) -> Child {
+        let mut command = Command::new(&self.program);
+        command.args(words).current_dir(FILES).stdin(input).stdout(Stdio::piped()).stderr(Stdio::piped());
+        command.spawn().unwrap_or_else(|error| fail(&self.program.display().to_string(), &error))
+    }
+
+    fn wait(&mut self, child: Child) -> Said {
+        self.runs += 1;
+        let said = child.wait_with_output().expect("a child is waited for");
+        Said { output: said.stdout, errors: said.stderr, status: said.status.code() }
     }
 
     /// "Options may stand before or behind the names; `--` ends them. Without FILE it is standard input."

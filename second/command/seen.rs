@@ -83,8 +83,18 @@ const REFUSED_ANSWERS: [&str; 16] = [
     "text: no record in the text",
 ];
 
-/// Of every first word of a line, by its line.
-const LINES_OF_QUESTIONS: [&str; 4] = ["child X Y", "root X", "label X LABEL", "before X Y"];
+/// Of every line.
+const LINES_OF_QUESTIONS: [&str; 9] = [
+    "child X Y",
+    "below X Y",
+    "strictly-below X Y",
+    "same X Y",
+    "differ X Y",
+    "root X",
+    "leaf X",
+    "label X LABEL",
+    "before X Y",
+];
 const LINES_OF_ANSWERS: [&str; 3] = ["node NUMBER PARENT LABEL", "var VARIABLE NODE", "tree COUNT"];
 
 /// Complaints that come up of either file.

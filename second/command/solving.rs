@@ -52,7 +52,7 @@ impl Trial {
     }
 
     /// Where no verdict is written the second solver is asked.
-    pub fn solve_afresh(&mut self, name: &str, file: &[u8]) {
+    fn solve_afresh(&mut self, name: &str, file: &[u8]) {
         let printing = self.random.pick(&[Printing::Text, Printing::Bytes, Printing::Drawing]);
         let allowance = self.random.pick(&[0, 1, 3, AFFORDABLE, AFFORDABLE]);
         self.solve(name, file, allowance, printing, |held| second::solve(&held.records, LEAST_BUFFER, allowance));
