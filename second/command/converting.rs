@@ -76,13 +76,14 @@ impl Trial {
         for file in [&records, &text, &xml, &with_newline] {
             self.xml("a tree", file);
         }
-        let damaged = match self.random.below(4) {
+        let damaged = match self.random.below(5) {
             0 => damaged_nodes(&mut self.random, &records),
             1 => damage::text(&mut self.random, &text),
             2 => {
                 let nodes = damaged_nodes(&mut self.random, &records);
                 self.as_text(Side::Answer, &nodes)
             }
+            3 => [&xml[..], self.random.pick(&[&b"\n\n"[..], b"\r\n", b" ", b"\n ", b"\0", b"<a/>"])].concat(),
             _ => damaged_xml(&mut self.random, &xml),
         };
         self.xml("a damaged tree", &damaged);

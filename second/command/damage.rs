@@ -53,7 +53,7 @@ const WORDS: [&[u8]; 42] = [
 pub fn text(random: &mut Random, text: &[u8]) -> Vec<u8> {
     let mut bytes = text.to_vec();
     for _ in 0..random.pick(&[1, 1, 1, 2]) {
-        bytes = match random.below(16) {
+        bytes = match random.below(18) {
             0..=3 => with_byte_wrong(random, bytes),
             4..=6 => with_lines_wrong(random, &bytes),
             7 => {
@@ -63,6 +63,7 @@ pub fn text(random: &mut Random, text: &[u8]) -> Vec<u8> {
             8 => bytes.into_iter().filter(|&byte| byte != b'\n').collect(),
             9 => without_records(random),
             10..=12 => with_line_too_long_or_short(random, &bytes),
+            13 | 14 => with_line_more(random, &bytes),
             _ => with_word_wrong(random, &bytes),
         };
     }
@@ -93,6 +94,31 @@ fn with_lines_wrong(random: &mut Random, bytes: &[u8]) -> Vec<u8> {
         0 => drop(lines.remove(at)),
         1 => lines.insert(other, lines[at]),
         _ => lines.swap(at, other),
+    }
+    lines.concat()
+}
+
+/// Lines that are of the form, with more than one thing wrong that the records are asked.
+const LINES: [&[u8]; 10] = [
+    b"child 16 16\n",
+    b"below 255 16\n",
+    b"before 16 17\n",
+    b"label 16 0\n",
+    b"label 15 0\n",
+    b"node 0 1 2\n",
+    b"node 7 9 0\n",
+    b"node 2 0 0\n",
+    b"var 16 255\n",
+    b"var 0 64\n",
+];
+
+fn with_line_more(random: &mut Random, bytes: &[u8]) -> Vec<u8> {
+    let mut lines: Vec<&[u8]> = bytes.split_inclusive(|&byte| byte == b'\n').collect();
+    let at = random.below(lines.len() + 1);
+    let line = random.pick(&LINES);
+    match lines.get_mut(at) {
+        Some(other) if random.one_in(2) => *other = line,
+        _ => lines.insert(at, line),
     }
     lines.concat()
 }
@@ -184,7 +210,7 @@ pub fn answer(random: &mut Random, file: &[u8]) -> Vec<u8> {
         }
         let record = 4 * random.below(bytes.len() / 4);
         let nodes = bytes.chunks_exact(4).take_while(|record| record[0] == 1).count();
-        match random.below(12) {
+        match random.below(14) {
             0 => bytes.extend(&[2, 0, 0][..1 + random.below(3)]),
             1 => bytes[record] = random.pick(&[0, 1, 2, 3, 255]),
             2 => bytes.extend([1, 1, 0, 0]),
@@ -196,6 +222,8 @@ pub fn answer(random: &mut Random, file: &[u8]) -> Vec<u8> {
             8 => bytes[record + 3] = random.pick(&[0, 1, 97, 255]),
             9 => bytes.truncate(record),
             10 => drop(bytes.drain(record..record + 4)),
+            11 => bytes[2..4].copy_from_slice(&[random.below(2) as u8, b'a']),
+            12 => bytes[record + 1..record + 3].copy_from_slice(&[random.byte() | 1, random.byte() | 64]),
             _ => {
                 let at = random.below(bytes.len());
                 bytes[at] = random.byte();

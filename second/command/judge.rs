@@ -52,14 +52,34 @@ impl Held {
     }
 
     fn refused(&self, number: u8, at: At) -> Refused {
-        let which = match at {
-            At::Record(_) => "at a record".to_string(),
-            At::Word(_, word) => format!("at word {word}"),
-            At::End => "at the end".to_string(),
+        let which = match (at, &self.text) {
+            (_, None) => String::new(),
+            (At::Record(_), _) => " at a record".to_string(),
+            (At::Word(record, word), _) if self.has_other_fault(number, record, word) => {
+                format!(" at word {word} first")
+            }
+            (At::Word(_, word), _) => format!(" at word {word}"),
+            (At::End, _) => " at the end".to_string(),
         };
-        let sort = format!("{}: refused {number} {}", self.form.name(), if self.text.is_some() { &*which } else { "" });
+        let sort = format!("{}: refused {number}{which}", self.form.name());
         let words = words::of_question(number).to_string();
-        Refused { number: Some(number), words, place: Some(self.place(at)), sort: sort.trim_end().to_string() }
+        Refused { number: Some(number), words, place: Some(self.place(at)), sort }
+    }
+}
+
+impl Held {
+    /// Is the next word of the record wrong too, so that the order shows? Of x and y, of number and parent, of parent and label of node 0, and of
+    /// variable and node.
+    fn has_other_fault(&self, number: u8, record: usize, word: usize) -> bool {
+        let nodes = self.records.chunks(4).take_while(|record| record[0] == 1).count();
+        let [kind, _, second, third] = self.records[4 * record..][..4] else { return false };
+        match (number, word) {
+            (4, 1) => ![6, 7, 8].contains(&kind) && second > 15,
+            (11, 1) => second as usize >= record.max(1),
+            (11, 2) => record == 0 && third != 0,
+            (12, 1) => second as usize >= nodes,
+            _ => false,
+        }
     }
 }
 

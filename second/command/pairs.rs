@@ -102,6 +102,9 @@ impl Trial {
 
     pub fn note_mark(&mut self, question: &[u8], marked: &Marked) {
         let form = forms::of_question(question).name();
+        if let Marked::Unmet { line: Some(2..), .. } = marked {
+            self.seen.note(format!("mark: question in {form}: unmet behind line 1"));
+        }
         self.seen.note(match marked {
             Marked::Met => format!("mark: question in {form}: met"),
             Marked::Unmet { record, .. } => {

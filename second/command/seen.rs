@@ -45,7 +45,7 @@ fn given() -> Vec<String> {
 }
 
 /// Refusals of questions, with where they stand in text.
-const REFUSED_QUESTIONS: [&str; 16] = [
+const REFUSED_QUESTIONS: [&str; 17] = [
     "bytes: refused 1",
     "bytes: refused 2",
     "bytes: refused 3",
@@ -54,6 +54,7 @@ const REFUSED_QUESTIONS: [&str; 16] = [
     "bytes: refused 6",
     "text: refused 1 at a record",
     "text: refused 4 at word 1",
+    "text: refused 4 at word 1 first",
     "text: refused 4 at word 2",
     "text: refused 5 at word 2",
     "paths: refused 13 for its form",
@@ -64,7 +65,7 @@ const REFUSED_QUESTIONS: [&str; 16] = [
     "text: no record in the text",
 ];
 
-const REFUSED_ANSWERS: [&str; 16] = [
+const REFUSED_ANSWERS: [&str; 19] = [
     "bytes: refused 8",
     "bytes: refused 9",
     "bytes: refused 10",
@@ -74,9 +75,12 @@ const REFUSED_ANSWERS: [&str; 16] = [
     "text: refused 10 at a record",
     "text: refused 10 at the end",
     "text: refused 11 at word 1",
+    "text: refused 11 at word 1 first",
     "text: refused 11 at word 2",
+    "text: refused 11 at word 2 first",
     "text: refused 11 at word 3",
     "text: refused 12 at word 1",
+    "text: refused 12 at word 1 first",
     "text: refused 12 at word 2",
     "text: refused 12 at the end",
     "text: no number from 0 to 4294967295",
@@ -123,6 +127,7 @@ fn marks() -> Vec<String> {
     sorts.extend(
         ["question in text", "answer in bytes", "answer in text"].map(|file| format!("mark: {file}: too large")),
     );
+    sorts.extend(["text", "paths"].map(|form| format!("mark: question in {form}: unmet behind line 1")));
     sorts.extend([0, 1, 3, 4].map(|status| format!("mark: several answers, status {status}")));
     sorts.extend(["question", "answer", "list"].map(|file| format!("mark: {file} on standard input")));
     sorts.extend(["question", "answer"].map(|file| format!("mark: {file} that is not there")));
@@ -144,6 +149,13 @@ fn solves() -> Vec<String> {
     }
     sorts.push("solve: bytes, Bytes: spent".to_string());
     sorts.extend(REFUSED_QUESTIONS.map(|sort| format!("solve: {sort}")));
+    for name in ["the document node", "a blank"] {
+        sorts.extend(["no", "one", "several"].map(|on_it| format!("drawing: {name}, {on_it} variables")));
+    }
+    // A label is asked of a variable.
+    for name in ["a letter", "a number"] {
+        sorts.extend(["one", "several"].map(|on_it| format!("drawing: {name}, {on_it} variables")));
+    }
     sorts.extend(["solve: then marked", "solve: text: too large"].map(String::from));
     sorts
 }

@@ -77,6 +77,7 @@ impl Trial {
             Ok(held) => {
                 let verdict = verdict_of(&held);
                 self.seen.note(format!("solve: {form}, {printing:?}: {}", sort_of(&verdict)));
+                self.note_drawing(&verdict, printing);
                 says::solve(&verdict, printing)
             }
         };
@@ -94,6 +95,20 @@ impl Trial {
             Printing::Bytes => options.push("--bytes".to_string()),
         }
         options
+    }
+
+    fn note_drawing(&mut self, verdict: &SolverVerdict, printing: Printing) {
+        let (SolverVerdict::Tree { answer, .. }, Printing::Drawing) = (verdict, printing) else { return };
+        for node in answer.chunks(4).filter(|record| record[0] == 1) {
+            let on_it = answer.chunks(4).filter(|record| record[0] == 2 && record[2] == node[1]).count();
+            let name = match node[3] {
+                _ if node[1] == 0 => "the document node",
+                0 => "a blank",
+                label if label.is_ascii_alphabetic() => "a letter",
+                _ => "a number",
+            };
+            self.seen.note(format!("drawing: {name}, {} variables", ["no", "one"].get(on_it).unwrap_or(&"several")));
+        }
     }
 
     fn damaged_question(&mut self) -> Vec<u8> {
