@@ -12,11 +12,11 @@ mod paths;
 mod questions;
 mod run;
 mod seen;
-mod text;
 mod together;
 mod xml;
 
 use call::{nothing, open, written, Call};
+use printed as text;
 use run::Said;
 use second::verdict::{hex, FillVerdict, MarkerVerdict, SolverVerdict};
 use seen::Seen;

@@ -12,14 +12,8 @@ const AFFORDABLE: u32 = 2_000;
 
 impl Trial {
     pub fn written_questions(&mut self) {
-        let read: [(&str, fn(&str) -> Result<Vec<Question>, String>); 2] =
-            [("stored", written::stored), ("examples", written::examples)];
-        for (folder, read) in read {
-            for path in text_files(folder) {
-                for question in read(&text_of(&path)).unwrap_or_else(|error| fail(&path, &error)) {
-                    self.written_question(&format!("{path}: {}", question.name), &question);
-                }
-            }
+        for (name, question) in written::all().unwrap_or_else(|error| fail("written questions", &error)) {
+            self.written_question(&name, &question);
         }
     }
 
@@ -97,14 +91,6 @@ fn holds_for_the_program(verdict: &SolverVerdict) -> bool {
         SolverVerdict::Spent { count } => *count == ALLOWANCE,
         SolverVerdict::Refused(Refusal(question)) => *question <= 6,
     }
-}
-
-fn text_files(folder: &str) -> Vec<String> {
-    let entries = std::fs::read_dir(folder).unwrap_or_else(|error| fail(folder, &error));
-    let paths = entries.map(|entry| entry.expect("a folder is listed").path().display().to_string());
-    let mut paths: Vec<String> = paths.filter(|path| path.ends_with(".txt")).collect();
-    paths.sort();
-    paths
 }
 
 fn text_of(path: &str) -> String {

@@ -23,6 +23,28 @@ pub enum Expected {
     Draw { centres: Vec<Centre>, total: u32, centre: usize, amount: u32, verdict: DrawVerdict },
 }
 
+/// Every stored question and every example, with the path of its file in front of its name. From the root of the repository.
+pub fn all() -> Result<Vec<(String, Question)>, String> {
+    let folders: [(&str, fn(&str) -> Result<Vec<Question>, String>); 2] = [("stored", stored), ("examples", examples)];
+    let mut all = Vec::new();
+    for (folder, read) in folders {
+        for path in text_files(folder)? {
+            let text = std::fs::read_to_string(&path).map_err(|error| format!("{path}: {error}"))?;
+            let questions = read(&text).map_err(|error| format!("{path}: {error}"))?;
+            all.extend(questions.into_iter().map(|question| (format!("{path}: {}", question.name), question)));
+        }
+    }
+    Ok(all)
+}
+
+fn text_files(folder: &str) -> Result<Vec<String>, String> {
+    let entries = std::fs::read_dir(folder).map_err(|error| format!("{folder}: {error}"))?;
+    let paths = entries.map(|entry| entry.expect("a folder is listed").path().display().to_string());
+    let mut paths: Vec<String> = paths.filter(|path| path.ends_with(".txt")).collect();
+    paths.sort();
+    Ok(paths)
+}
+
 /// One question a line: its name, `solve`, constraints, buffer, allowance, verdict; or its name, `mark`, constraints, answer, verdict.
 pub fn stored(text: &str) -> Result<Vec<Question>, String> {
     let lines = text.lines().filter(|line| !line.is_empty() && !line.starts_with('#'));
