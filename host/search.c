@@ -94,19 +94,24 @@ static void leave(int signal)
     siglongjmp(out_of_the_search, 1);
 }
 
-#define INTERRUPTS 2
-static const int interrupts[INTERRUPTS] = {SIGINT, SIGTERM};
+static const int interrupts[] = {SIGINT, SIGTERM};
+#define INTERRUPTS (sizeof interrupts / sizeof interrupts[0])
 
 /* An interrupt that was ignored, as in the background of a shell, stays ignored. */
-static void catch_interrupts(struct sigaction *before)
+static void catch_interrupts(void)
 {
-    struct sigaction action = {.sa_handler = leave};
+    struct sigaction action = {.sa_handler = leave}, before;
     sigemptyset(&action.sa_mask);
-    for (int at = 0; at < INTERRUPTS; at++) {
-        sigaction(interrupts[at], &action, &before[at]);
-        if (before[at].sa_handler == SIG_IGN)
-            sigaction(interrupts[at], &before[at], NULL);
-    }
+    for (size_t at = 0; at < INTERRUPTS; at++)
+        if (sigaction(interrupts[at], NULL, &before) == 0 && before.sa_handler != SIG_IGN)
+            sigaction(interrupts[at], &action, NULL);
+}
+
+/* Behind the search all that is left is to print what is known, so one that comes late, or twice, is too late. */
+static void ignore_interrupts(void)
+{
+    for (size_t at = 0; at < INTERRUPTS; at++)
+        signal(interrupts[at], SIG_IGN);
 }
 
 static void search_under(struct search *search, uint32_t allowance)
@@ -127,14 +132,13 @@ static void learn_what_is_known(struct search *search, uint32_t known)
 void search_run(struct search *search)
 {
     sigset_t caught, before;
-    struct sigaction actions[INTERRUPTS];
     sigemptyset(&caught);
-    for (int at = 0; at < INTERRUPTS; at++)
+    for (size_t at = 0; at < INTERRUPTS; at++)
         sigaddset(&caught, interrupts[at]);
     /* Interrupts are let in while the archive runs, in this thread alone, and at no other time. */
     pthread_sigmask(SIG_BLOCK, &caught, &before);
     start_watching(search);
-    catch_interrupts(actions);
+    catch_interrupts();
     if (sigsetjmp(out_of_the_search, 1) == 0) {
         pthread_sigmask(SIG_SETMASK, &before, NULL);
         search_under(search, search->allowance);
@@ -143,7 +147,6 @@ void search_run(struct search *search)
     } else {
         learn_what_is_known(search, stop_watching());
     }
-    for (int at = 0; at < INTERRUPTS; at++)
-        sigaction(interrupts[at], &actions[at], NULL);
+    ignore_interrupts();
     pthread_sigmask(SIG_SETMASK, &before, NULL);
 }
