@@ -4,7 +4,7 @@
 #include "load.h"
 
 /* One file of a command that takes --bytes; `bytes` says whether it was asked for. */
-static int read_one(struct loaded *loaded, const char *(*load)(struct loaded *, const char *), const char *command, int count, char **words, bool *bytes)
+static int read_one(struct loaded *loaded, loader *load, const char *command, int count, char **words, bool *bytes)
 {
     struct arguments arguments;
     if (!arguments_read(&arguments, TAKES_BYTES, command, count, words))

@@ -8,6 +8,8 @@
 #include <sys/stat.h>
 #include <unistd.h>
 
+#include "command.h"
+
 #define FIRST_ROOM ((size_t)1 << 16)
 
 bool file_too_long(const struct file *file) { return file->length > FILE_MOST; }
@@ -126,5 +128,5 @@ void keep_standard_descriptors(void)
     static const int unusable[] = {O_WRONLY, O_RDONLY, O_RDONLY};
     for (int descriptor = 0; descriptor < 3; descriptor++)
         if (fcntl(descriptor, F_GETFD) < 0 && errno == EBADF && open("/dev/null", unusable[descriptor]) < 0)
-            exit(4);
+            exit(UNUSABLE);
 }

@@ -22,7 +22,7 @@ static const char general[] =
     "cannot be read or written. The manual, man cudreth, has examples.\n";
 
 static const char solve[] =
-    "usage: cudreth solve [--allowance N] [--draw] [--bytes] [--svg PICTURE] [FILE]\n"
+    "usage: cudreth solve [--allowance N] [--draw | --bytes] [--svg PICTURE] [FILE]\n"
     "\n"
     "Prints tree COUNT and a tree that meets the question, none COUNT if no tree of any size does,\n"
     "or spent COUNT if the search would enter more choices than it is allowed. What is printed of a\n"

@@ -11,7 +11,7 @@
 
 static const uint8_t no_byte[1]; /* what an empty file begins with: the archive takes no NULL */
 
-static const char *load(struct loaded *loaded, const char *name)
+static const char *load_file(struct loaded *loaded, const char *name)
 {
     loaded->refused = false;
     loaded->refusal.words.length = 0;
@@ -76,7 +76,7 @@ static const char *translate(struct loaded *loaded)
 
 const char *load_question(struct loaded *loaded, const char *name)
 {
-    const char *reason = load(loaded, name);
+    const char *reason = load_file(loaded, name);
     if (reason || loaded->form == BYTES)
         return reason; /* bytes that are too long are the archive's to refuse, with 1 */
     if (text_is_paths(loaded->file.bytes, loaded->file.length))
@@ -89,7 +89,7 @@ const char *load_question(struct loaded *loaded, const char *name)
 
 const char *load_answer(struct loaded *loaded, const char *name)
 {
-    const char *reason = load(loaded, name);
+    const char *reason = load_file(loaded, name);
     if (reason)
         return reason;
     if (file_too_long(&loaded->file))
@@ -101,7 +101,7 @@ const char *load_answer(struct loaded *loaded, const char *name)
 
 const char *load_paths(struct loaded *loaded, const char *name)
 {
-    const char *reason = load(loaded, name);
+    const char *reason = load_file(loaded, name);
     return reason ? reason : translate(loaded);
 }
 
@@ -118,7 +118,7 @@ size_t nodes_alone(const struct loaded *tree)
 
 const char *load_tree(struct loaded *loaded, const char *name)
 {
-    const char *reason = load(loaded, name);
+    const char *reason = load_file(loaded, name);
     if (reason)
         return reason;
     if (loaded->form == RECORDS && loaded->records[0] == '<') {
@@ -202,7 +202,7 @@ int complain_refused(const struct loaded *loaded)
     return REFUSED;
 }
 
-int load_or_complain(struct loaded *loaded, const char *(*load)(struct loaded *, const char *), const char *name)
+int load_or_complain(struct loaded *loaded, loader *load, const char *name)
 {
     const char *reason = load(loaded, name);
     if (reason) {

@@ -29,13 +29,12 @@ struct loaded {
     struct refusal refusal; /* if it is */
 };
 
-/* Each is NULL, or why the file cannot be read. The archive has yet to be asked about the records; what it does not get to see is refused here. */
-const char *load_question(struct loaded *loaded, const char *name);
-const char *load_answer(struct loaded *loaded, const char *name);
-/* A text of paths and nothing else. */
-const char *load_paths(struct loaded *loaded, const char *name);
-/* An answer, or XML as it stands, without a newline at its end. */
-const char *load_tree(struct loaded *loaded, const char *name);
+/* Answers NULL, or why the file cannot be read. The archive has yet to be asked about the records; what it does not get to see is refused here. */
+typedef const char *loader(struct loaded *loaded, const char *name);
+loader load_question;
+loader load_answer;
+loader load_paths; /* any file is taken for a text of paths */
+loader load_tree;  /* an answer, or XML as it stands, without a newline at its end */
 /* How many bytes its nodes are, if only places are behind them, which XML has not; else all of it. */
 size_t nodes_alone(const struct loaded *tree);
 
@@ -48,7 +47,7 @@ void refuse_answer(struct loaded *answer, uint32_t number, const struct loaded *
 void refuse_text(struct loaded *text, uint32_t number);
 
 /* Of a command that reads one file: FOUND, or the exit status, with the complaint printed. */
-int load_or_complain(struct loaded *loaded, const char *(*load)(struct loaded *, const char *), const char *name);
+int load_or_complain(struct loaded *loaded, loader *load, const char *name);
 /* Prints the refusal on standard error; REFUSED. */
 int complain_refused(const struct loaded *loaded);
 
