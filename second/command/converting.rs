@@ -54,6 +54,9 @@ impl Trial {
         for _ in 0..300 {
             self.random_tree_as_xml();
         }
+        for text in [&b"# nothing\n"[..], b"tree 0\n", b"\xef\xbb\xbf", b"var 0 0\n", b"node 0 0 0\nvar 0 0\n"] {
+            self.xml("no tree in the text", text);
+        }
         for nodes in (65..=80).chain([500, 5_000]) {
             let tree = named_tree(&mut self.random, nodes);
             let text = xml::write(&tree).expect("a tree whose labels are names");

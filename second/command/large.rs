@@ -1,6 +1,7 @@
 //! Files of as many bytes as are read, and of one more. They come through a pipe, so that none is written.
 
-use crate::judge::{self, MOST_BYTES};
+use crate::held::MOST_BYTES;
+use crate::judge;
 use crate::run::{hold, write};
 use crate::says::{self, Expected, Printing};
 use crate::Trial;

@@ -10,6 +10,7 @@ mod damage;
 mod drawing;
 mod draws;
 mod forms;
+mod held;
 mod judge;
 mod large;
 mod lines;

@@ -1,6 +1,7 @@
 //! Questions and answers as files: in bytes, in text with or without noise, as paths, whole and damaged.
 
-use crate::judge::{self, Held, Refused};
+use crate::held::{Held, Refused};
+use crate::judge;
 use crate::lines::{as_letter, as_number, has_lines, plain, Side};
 use crate::noise::noisy;
 use crate::{damage, draws, Trial};

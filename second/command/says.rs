@@ -1,7 +1,8 @@
 //! What the command prints and its exit status, made of what the second side tells ("The command" in docs/FORMAT.md).
 
 use crate::drawing;
-use crate::judge::{Converted, Marked, Refused};
+use crate::held::Refused;
+use crate::judge::{Converted, Marked};
 use crate::lines::{as_letter, plain, Side};
 use printed as text;
 use second::constraint::KIND_NAMES;

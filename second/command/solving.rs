@@ -1,7 +1,8 @@
 //! Questions solved: every written one for the solver, as bytes and as text, printed as text, as a drawing and as bytes; texts of paths; and damaged
 //! ones, whose place is told. A tree that was printed is then marked.
 
-use crate::judge::{self, Held};
+use crate::held::Held;
+use crate::judge;
 use crate::lines::Side;
 use crate::run::{hold, write};
 use crate::says::{self, Expected, Printing};
