@@ -25,7 +25,7 @@ const ANSWER_LINES: [&str; 2] = ["node NUMBER PARENT LABEL", "var VARIABLE NODE"
 pub const TREE_LINE: &str = "tree COUNT";
 
 impl Side {
-    fn lines(self) -> &'static [&'static str] {
+    pub fn lines(self) -> &'static [&'static str] {
         match self {
             Side::Question => &QUESTION_LINES,
             Side::Answer => &ANSWER_LINES,

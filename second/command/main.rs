@@ -30,6 +30,7 @@ mod xml_machine;
 
 use questions::Random;
 use run::FILES;
+use runner::Part;
 use seen::Seen;
 use std::fmt::Display;
 use std::path::PathBuf;
@@ -46,7 +47,7 @@ pub struct Trial {
 }
 
 /// What is run, in this order.
-const PARTS: [(&str, fn(&mut Trial)); 7] = [
+const PARTS: [Part<Trial>; 7] = [
     ("lists of pairs", Trial::lists_of_pairs),
     ("several answers", Trial::several_answers),
     ("questions solved", Trial::solving),
@@ -66,14 +67,7 @@ fn main() {
     run::empty_folder();
     let start = Instant::now();
     let mut trial = Trial { program, random: Random::new(SEED), runs: 0, pairs: 0, seen: Seen::default() };
-    let tried: Vec<String> = PARTS
-        .iter()
-        .map(|(name, part)| {
-            let before = trial.runs;
-            part(&mut trial);
-            format!("{} {name}", trial.runs - before)
-        })
-        .collect();
+    let tried = runner::tried(&mut trial, &PARTS, |trial| trial.runs);
     let sorts = trial.seen.all_that_must().unwrap_or_else(|sort| fail("coverage", &format!("'{sort}' never came up")));
     println!(
         "command: {} runs and {} pairs of files in {} s, each as expected on standard output, on standard error and in its status: {}; all \
@@ -81,7 +75,7 @@ fn main() {
         trial.runs,
         trial.pairs,
         start.elapsed().as_secs(),
-        tried.join(", "),
+        tried,
     );
 }
 

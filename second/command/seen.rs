@@ -1,24 +1,21 @@
 //! The sorts of what has been run, and which must come up.
 
+use crate::lines::{Side, TREE_LINE};
 use crate::noise;
+use runner::Sorts;
 use second::constraint::KIND_NAMES;
-use std::collections::BTreeSet;
 
 #[derive(Default)]
-pub struct Seen(BTreeSet<String>);
+pub struct Seen(Sorts);
 
 impl Seen {
     pub fn note(&mut self, sort: impl Into<String>) {
-        self.0.insert(sort.into());
+        self.0.note(sort);
     }
 
     /// How many sorts must come up, or the first of them that did not.
     pub fn all_that_must(&self) -> Result<usize, String> {
-        let sorts = must_be_seen();
-        match sorts.iter().find(|&sort| !self.0.contains(sort)) {
-            Some(sort) => Err(sort.clone()),
-            None => Ok(sorts.len()),
-        }
+        self.0.all_of(must_be_seen())
     }
 }
 
@@ -87,20 +84,6 @@ const REFUSED_ANSWERS: [&str; 19] = [
     "text: no record in the text",
 ];
 
-/// Of every line.
-const LINES_OF_QUESTIONS: [&str; 9] = [
-    "child X Y",
-    "below X Y",
-    "strictly-below X Y",
-    "same X Y",
-    "differ X Y",
-    "root X",
-    "leaf X",
-    "label X LABEL",
-    "before X Y",
-];
-const LINES_OF_ANSWERS: [&str; 3] = ["node NUMBER PARENT LABEL", "var VARIABLE NODE", "tree COUNT"];
-
 /// Complaints that come up of either file.
 fn complaints(lines: &[&str]) -> Vec<String> {
     let words = ["tree", "of the other file", "cut", "with octal digits", "as it stands"];
@@ -114,9 +97,10 @@ fn complaints(lines: &[&str]) -> Vec<String> {
 
 fn marks() -> Vec<String> {
     let mut sorts = Vec::new();
-    let questions = REFUSED_QUESTIONS.map(String::from).into_iter().chain(complaints(&LINES_OF_QUESTIONS));
+    let questions = REFUSED_QUESTIONS.map(String::from).into_iter().chain(complaints(Side::Question.lines()));
     sorts.extend(questions.map(|sort| format!("mark: question in {sort}")));
-    let answers = REFUSED_ANSWERS.map(String::from).into_iter().chain(complaints(&LINES_OF_ANSWERS));
+    let answer_lines = [Side::Answer.lines(), &[TREE_LINE]].concat();
+    let answers = REFUSED_ANSWERS.map(String::from).into_iter().chain(complaints(&answer_lines));
     sorts.extend(answers.map(|sort| format!("mark: answer in {sort}")));
     for form in ["bytes", "text", "paths"] {
         sorts.push(format!("mark: question in {form}: met"));

@@ -18,6 +18,7 @@ mod xml;
 use call::{nothing, open, written, Call};
 use printed as text;
 use run::Said;
+use runner::Part;
 use second::verdict::{hex, FillVerdict, MarkerVerdict, SolverVerdict};
 use seen::Seen;
 use std::fmt::Display;
@@ -48,7 +49,7 @@ struct Trial {
 }
 
 /// What is run, in this order.
-const PARTS: [(&str, fn(&mut Trial)); 21] = [
+const PARTS: [Part<Trial>; 21] = [
     ("written questions", Trial::written_questions),
     ("benchmark files", Trial::known_counts),
     ("constraint files by length", Trial::lengths_of_constraints),
@@ -91,21 +92,14 @@ fn main() {
         asked_anew: 0,
         left_out: 0,
     };
-    let tried: Vec<String> = PARTS
-        .iter()
-        .map(|(name, part)| {
-            let before = trial.runs;
-            part(&mut trial);
-            format!("{} {name}", trial.runs - before)
-        })
-        .collect();
+    let tried = runner::tried(&mut trial, &PARTS, |trial| trial.runs);
     let sorts = trial.seen.all_that_must().unwrap_or_else(|sort| fail("coverage", &format!("'{sort}' never came up")));
     println!(
         "programs: {} runs in {} s, each as expected and each verdict in one write: {}; of the written questions the second solver \
          answered {} anew for solve's allowance and buffer, and {} were left out as too long; all {sorts} sorts came up",
         trial.runs,
         start.elapsed().as_secs(),
-        tried.join(", "),
+        tried,
         trial.asked_anew,
         trial.left_out,
     );

@@ -1,16 +1,16 @@
 //! The sorts of what has been run, and which must come up.
 
+use runner::Sorts;
 use second::constraint::KIND_NAMES;
 use second::verdict::{FillVerdict, MarkerVerdict, SolverVerdict};
 use second::Refusal;
-use std::collections::BTreeSet;
 
 #[derive(Default)]
-pub struct Seen(BTreeSet<String>);
+pub struct Seen(Sorts);
 
 impl Seen {
     pub fn note(&mut self, sort: impl Into<String>) {
-        self.0.insert(sort.into());
+        self.0.note(sort);
     }
 
     pub fn solve(&mut self, constraints: &[u8], verdict: &SolverVerdict) {
@@ -111,11 +111,7 @@ impl Seen {
 
     /// How many sorts must come up, or the first of them that did not.
     pub fn all_that_must(&self) -> Result<usize, String> {
-        let sorts = must_be_seen();
-        match sorts.iter().find(|&sort| !self.0.contains(sort)) {
-            Some(sort) => Err(sort.clone()),
-            None => Ok(sorts.len()),
-        }
+        self.0.all_of(must_be_seen())
     }
 }
 
