@@ -43,21 +43,26 @@ static bool read_all(struct file *file, int descriptor)
     return true;
 }
 
+bool take_standard_input(void)
+{
+    static bool taken;
+    bool there = !taken;
+    taken = true;
+    return there;
+}
+
 const char *file_read(struct file *file, const char *name)
 {
-    static bool standard_input_read;
     bool standard = strcmp(name, "-") == 0;
     file->name = name;
     file->length = 0;
-    if (standard && standard_input_read)
+    if (standard && !take_standard_input())
         return "it was read already";
     int descriptor = standard ? STDIN_FILENO : open(name, O_RDONLY);
     if (descriptor < 0)
         return strerror(errno);
     const char *reason = read_all(file, descriptor) ? NULL : strerror(errno);
-    if (standard)
-        standard_input_read = true;
-    else
+    if (!standard)
         close(descriptor);
     return reason;
 }

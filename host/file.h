@@ -21,6 +21,8 @@ struct file {
 /* NULL, or why the file cannot be read. "-" is standard input, which can be read once. */
 const char *file_read(struct file *file, const char *name);
 bool file_too_long(const struct file *file);
+/* Whether standard input is there to be read; from then on it is not. */
+bool take_standard_input(void);
 
 /* Writes a file; one that is there already is kept until the new one is whole. False, with errno set, where it cannot be written. */
 bool file_write(const char *name, struct buffer *text);

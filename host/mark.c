@@ -174,11 +174,21 @@ static void complain_of_list(struct marking *marking, const char *list, const ch
     worst(marking, UNUSABLE);
 }
 
+/* The end of a line, byte 10 or bytes 13 and 10; a byte 13 elsewhere is a name's. */
+static void cut_end(char *line, size_t length)
+{
+    if (length == 0 || line[length - 1] != '\n')
+        return;
+    line[--length] = '\0';
+    if (length > 0 && line[length - 1] == '\r')
+        line[length - 1] = '\0';
+}
+
 static void mark_pair(struct marking *marking, const char *list, size_t number, char *line, size_t length)
 {
     char *question, *answer;
     bool whole = strlen(line) == length; /* no name has a byte 0 */
-    line[strcspn(line, "\r\n")] = '\0';
+    cut_end(line, length);
     if (whole && line[strspn(line, " \t")] == '\0')
         return;
     if (whole && part(line, &question, &answer)) {
@@ -192,7 +202,8 @@ static void mark_pair(struct marking *marking, const char *list, size_t number, 
 
 static void mark_pairs(struct marking *marking, const char *list)
 {
-    FILE *lines = strcmp(list, "-") == 0 ? stdin : fopen(list, "r");
+    bool standard = strcmp(list, "-") == 0 && take_standard_input();
+    FILE *lines = standard ? stdin : fopen(list, "r");
     if (!lines) {
         complain_of_list(marking, list, strerror(errno));
         return;

@@ -36,7 +36,10 @@ struct spot text_spot_at(const uint8_t *text, size_t length, size_t at);
 /* Whether the first word has a '/' or a ':', as every path has and no record. */
 bool text_is_paths(const uint8_t *text, size_t length);
 
-/* A record as a line, without its end. A question's labels are letters where they can be; an answer's are numbers, as solve has always printed them. */
+/*
+ * A record as a line, without its end. A question's labels are letters where they can be; an answer's are numbers, as the program solve prints
+ * them.
+ */
 void text_print(struct buffer *buffer, enum side side, const uint8_t *record);
 /* Records of a file, each a line. */
 void text_print_all(struct buffer *buffer, enum side side, const uint8_t *records, size_t length);
