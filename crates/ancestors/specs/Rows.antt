@@ -6,7 +6,7 @@ use Rattle.rowbits.specs.Bit.{bit}
 use Rattle.tables.specs.Tables.{row}
 use Rattle.tables.specs.declared.Facts.{Facts}
 use Rattle.stages.specs.declared.Found.{Found}
-use Rattle.stages.specs.Found.{StageOf, withBelow}
+use Rattle.stages.specs.Found.{StageOf, with_below}
 
 -- what of a row is missing in one of the rows named
 pub record Missing (t : List ℕ) (rows of r : ℕ) : Type 0 where
@@ -16,11 +16,11 @@ pub record Missing (t : List ℕ) (rows of r : ℕ) : Type 0 where
 abbrev pub with_before : List ℕ → List ℕ → Facts → Facts
 with_before b a f = record { child = f.child; parent = f.parent; below = f.below; above = f.above; differ = f.differ; before = b; after = a; root = f.root; label = f.label; leaf = f.leaf }
 
-abbrev pub withDocument : List ℕ → ℕ → Facts → Facts
-withDocument c r f = record { child = c; parent = f.parent; below = f.below; above = f.above; differ = f.differ; before = f.before; after = f.after; root = r; label = f.label; leaf = f.leaf }
+abbrev pub with_document : List ℕ → ℕ → Facts → Facts
+with_document c r f = record { child = c; parent = f.parent; below = f.below; above = f.above; differ = f.differ; before = f.before; after = f.after; root = r; label = f.label; leaf = f.leaf }
 
 abbrev pub SiblingIn : ℕ → List ℕ → List ℕ → List ℕ → List ℕ → Found → Type 0
-SiblingIn n before after below above r = (f : Facts) → StageOf sibling-join n (with_before before after (withBelow below above f)) r
+SiblingIn n before after below above r = (f : Facts) → StageOf sibling-join n (with_before before after (with_below below above f)) r
 
 abbrev pub DocumentIn : ℕ → List ℕ → List ℕ → ℕ → Found → Type 0
-DocumentIn n child below root r = (f : Facts) → StageOf document-join n (withDocument child root (withBelow below f.above f)) r
+DocumentIn n child below root r = (f : Facts) → StageOf document-join n (with_document child root (with_below below f.above f)) r

@@ -10,79 +10,79 @@ use lib.Seq.{take-length}
 use borrow.Author.Tests.{eq-eqb, ne_eqb, lt-leb, le-leb}
 use Rattle.meaning.specs.Finite.{pick, ◌and◌}
 use Rattle.meaning.specs.ReadOff.{NodeRecord}
-use Rattle.meaning.specs.Files.{Quad, quads, nodesFine, node_of, allNodes, JudgedNodes, refused-nodes, accepted-nodes, judgeNodes}
-use Rattle.meaning.proofs.Records.{length-quads}
-use Rattle.answers.specs.Judgement.{leading, judgedNodesAs, nodesJudgement}
+use Rattle.meaning.specs.Files.{Quad, quads, nodes_fine, node_of, all_nodes, JudgedNodes, refused_nodes, accepted_nodes, judge_nodes}
+use Rattle.meaning.proofs.Records.{length_quads}
+use Rattle.answers.specs.Judgement.{leading, judged_nodes_as, nodes_judgement}
 use Rattle.answers.specs.declared.Judgement.TheVariants.{Accepted, Refused}
-use Rattle.answers.proofs.Parts.{leading-most}
+use Rattle.answers.proofs.Parts.{leading_most}
 
-pub leading-all-nodes : (qs : List Quad) → leading qs ≡ length qs → allNodes qs ≡ true
-unfolding leading allNodes pick ◌and◌
-leading-all-nodes [] e = refl
-leading-all-nodes (q ∷ qs) e = by (eqb q.first 1) (leading-all-nodes qs) e
+pub leading_all_nodes : (qs : List Quad) → leading qs ≡ length qs → all_nodes qs ≡ true
+unfolding leading all_nodes pick ◌and◌
+leading_all_nodes [] e = refl
+leading_all_nodes (q ∷ qs) e = by (eqb q.first 1) (leading_all_nodes qs) e
   where
-    by : (b : Bool) → (leading qs ≡ length qs → allNodes qs ≡ true) → pick b (suc (leading qs)) 0 ≡ suc (length qs) → b and allNodes qs ≡ true
+    by : (b : Bool) → (leading qs ≡ length qs → all_nodes qs ≡ true) → pick b (suc (leading qs)) 0 ≡ suc (length qs) → b and all_nodes qs ≡ true
     by true r d = r (omega arith)
     by false r d = absurd (omega arith)
 
-pub leading-some-nodes : (qs : List Quad) → (leading qs ≡ length qs → ⊥) → allNodes qs ≡ false
-unfolding leading allNodes pick ◌and◌
-leading-some-nodes [] n = absurd (n refl)
-leading-some-nodes (q ∷ qs) n = by (eqb q.first 1) (leading-some-nodes qs) n
+pub leading_some_nodes : (qs : List Quad) → (leading qs ≡ length qs → ⊥) → all_nodes qs ≡ false
+unfolding leading all_nodes pick ◌and◌
+leading_some_nodes [] n = absurd (n refl)
+leading_some_nodes (q ∷ qs) n = by (eqb q.first 1) (leading_some_nodes qs) n
   where
-    by : (b : Bool) → ((leading qs ≡ length qs → ⊥) → allNodes qs ≡ false) → (pick b (suc (leading qs)) 0 ≡ suc (length qs) → ⊥) → b and allNodes qs ≡ false
+    by : (b : Bool) → ((leading qs ≡ length qs → ⊥) → all_nodes qs ≡ false) → (pick b (suc (leading qs)) 0 ≡ suc (length qs) → ⊥) → b and all_nodes qs ≡ false
     by true r m = r (λ e. m (ap suc e))
     by false r m = refl
 
 module _ (bs : List ℕ) where
-  pub nodes-8 : (length bs % 4 ≡ 0 → ⊥) → judgeNodes bs ≡ refused-nodes 8
-  unfolding judgeNodes pick
-  nodes-8 h = rw (ne_eqb _ _ h)
+  pub nodes_8 : (length bs % 4 ≡ 0 → ⊥) → judge_nodes bs ≡ refused_nodes 8
+  unfolding judge_nodes pick
+  nodes_8 h = rw (ne_eqb _ _ h)
 
   module _ (m : length bs % 4 ≡ 0) (k : ℕ) (e : k ≡ leading (quads bs)) where
-    pub nodes-9 : (k ≡ length bs / 4 → ⊥) → judgeNodes bs ≡ refused-nodes 9
-    unfolding judgeNodes pick
-    nodes-9 n = rw (eq-eqb _ _ m, leading-some-nodes (quads bs) (λ d. n (e ∙ d ∙ length-quads bs)))
+    pub nodes_9 : (k ≡ length bs / 4 → ⊥) → judge_nodes bs ≡ refused_nodes 9
+    unfolding judge_nodes pick
+    nodes_9 n = rw (eq-eqb _ _ m, leading_some_nodes (quads bs) (λ d. n (e ∙ d ∙ length_quads bs)))
 
-    pub nodes-within : k ≤ length bs / 4
-    nodes-within = omega (arith, leading-most (quads bs), length-quads bs)
+    pub nodes_within : k ≤ length bs / 4
+    nodes_within = omega (arith, leading_most (quads bs), length_quads bs)
 
     module _ (d : k ≡ length bs / 4) where
-      is_all : allNodes (quads bs) ≡ true
-      is_all = leading-all-nodes (quads bs) (omega (arith, length-quads bs))
+      is_all : all_nodes (quads bs) ≡ true
+      is_all = leading_all_nodes (quads bs) (omega (arith, length_quads bs))
 
-      pub count-is : length (quads bs) ≡ k
-      count-is = omega (arith, length-quads bs)
+      pub count_is : length (quads bs) ≡ k
+      count_is = omega (arith, length_quads bs)
 
-      pub nodes-few : k < 2 → judgeNodes bs ≡ refused-nodes 10
-      unfolding judgeNodes pick ◌and◌
-      nodes-few l = rw (eq-eqb _ _ m, is_all, count-is, lt-leb _ _ l)
+      pub nodes_few : k < 2 → judge_nodes bs ≡ refused_nodes 10
+      unfolding judge_nodes pick ◌and◌
+      nodes_few l = rw (eq-eqb _ _ m, is_all, count_is, lt-leb _ _ l)
 
-      pub nodes-many : 64 < k → judgeNodes bs ≡ refused-nodes 10
-      unfolding judgeNodes pick ◌and◌
-      nodes-many l = rw (eq-eqb _ _ m, is_all, count-is, le-leb 2 k (omega arith), lt-leb _ _ l)
+      pub nodes_many : 64 < k → judge_nodes bs ≡ refused_nodes 10
+      unfolding judge_nodes pick ◌and◌
+      nodes_many l = rw (eq-eqb _ _ m, is_all, count_is, le-leb 2 k (omega arith), lt-leb _ _ l)
 
-      pub nodes-11 : 2 ≤ k → k ≤ 64 → judgeNodes bs ≡ pick (nodesFine 0 (take k (quads bs))) (accepted-nodes (map node_of (quads bs))) (refused-nodes 11)
-      unfolding judgeNodes pick ◌and◌
-      nodes-11 l n =
-          let z : k ≡ length (quads bs) = omega (arith, count-is) in
+      pub nodes_11 : 2 ≤ k → k ≤ 64 → judge_nodes bs ≡ pick (nodes_fine 0 (take k (quads bs))) (accepted_nodes (map node_of (quads bs))) (refused_nodes 11)
+      unfolding judge_nodes pick ◌and◌
+      nodes_11 l n =
+          let z : k ≡ length (quads bs) = omega (arith, count_is) in
           let t : take k (quads bs) ≡ quads bs = ap (λ (j : ℕ). take j (quads bs)) z ∙ take-length (quads bs) in
-          rw (eq-eqb _ _ m, is_all, count-is, le-leb _ _ l, le-leb _ _ n, t)
+          rw (eq-eqb _ _ m, is_all, count_is, le-leb _ _ l, le-leb _ _ n, t)
 
 -- ---- what the code's judgement says
 
-pub accepted-alone : (bs : List ℕ) (k : ℕ) → nodesJudgement bs ≡ Accepted k → (vs : List NodeRecord) × (judgeNodes bs ≡ accepted-nodes vs)
-unfolding nodesJudgement judgedNodesAs
-accepted-alone bs k d = by (judgeNodes bs) refl d
+pub accepted_alone : (bs : List ℕ) (k : ℕ) → nodes_judgement bs ≡ Accepted k → (vs : List NodeRecord) × (judge_nodes bs ≡ accepted_nodes vs)
+unfolding nodes_judgement judged_nodes_as
+accepted_alone bs k d = by (judge_nodes bs) refl d
   where
-    by : (j : JudgedNodes) → judgeNodes bs ≡ j → judgedNodesAs j ≡ Accepted k → (vs : List NodeRecord) × (judgeNodes bs ≡ accepted-nodes vs)
-    by (refused-nodes q) e t = let z : ◌≡◌ {A = ℕ} 0 1 = cc in absurd (omega arith)
-    by (accepted-nodes vs) e t = (vs, e)
+    by : (j : JudgedNodes) → judge_nodes bs ≡ j → judged_nodes_as j ≡ Accepted k → (vs : List NodeRecord) × (judge_nodes bs ≡ accepted_nodes vs)
+    by (refused_nodes q) e t = let z : ◌≡◌ {A = ℕ} 0 1 = cc in absurd (omega arith)
+    by (accepted_nodes vs) e t = (vs, e)
 
-pub refused-alone : (bs : List ℕ) (q : ℕ) → nodesJudgement bs ≡ Refused q → judgeNodes bs ≡ refused-nodes q
-unfolding nodesJudgement judgedNodesAs
-refused-alone bs q d = by (judgeNodes bs) d
+pub refused_alone : (bs : List ℕ) (q : ℕ) → nodes_judgement bs ≡ Refused q → judge_nodes bs ≡ refused_nodes q
+unfolding nodes_judgement judged_nodes_as
+refused_alone bs q d = by (judge_nodes bs) d
   where
-    by : (j : JudgedNodes) → judgedNodesAs j ≡ Refused q → j ≡ refused-nodes q
-    by (refused-nodes p) t = cc
-    by (accepted-nodes vs) t = let z : ◌≡◌ {A = ℕ} 0 1 = cc in absurd (omega arith)
+    by : (j : JudgedNodes) → judged_nodes_as j ≡ Refused q → j ≡ refused_nodes q
+    by (refused_nodes p) t = cc
+    by (accepted_nodes vs) t = let z : ◌≡◌ {A = ℕ} 0 1 = cc in absurd (omega arith)

@@ -11,82 +11,82 @@ use lib.ListN.{length, drop, length-append}
 use lib.Seq.{drop-length}
 use borrow.Author.Tests.{eq-eqb, ne_eqb, le-leb, lt-leb}
 use Rattle.meaning.specs.Finite.{pick, ◌and◌}
-use Rattle.meaning.specs.Files.{Quad, quads, allPlaces, allNodes, refused-nodes, judgeNodes}
+use Rattle.meaning.specs.Files.{Quad, quads, all_places, all_nodes, refused_nodes, judge_nodes}
 use Rattle.answers.specs.Judgement.{leading}
-use Rattle.answers.specs.Shorter.{kindOfAll, shortened}
+use Rattle.answers.specs.Shorter.{kind_of_all, shortened}
 use Rattle.answers.specs.Pieces.{kept, joined, NodesAsJoined}
 use Rattle.answers.proofs.Steps.{and_assoc}
-use Rattle.answers.proofs.NodesAlone.{leading-all-nodes, leading-some-nodes}
-use Rattle.answers.proofs.Shorter.{standIn, kind-after-nodes, front, first81, behind81, is-81, front-quads, all-quads, same_rest, is-shortened, short-kept, part-kept}
+use Rattle.answers.proofs.NodesAlone.{leading_all_nodes, leading_some_nodes}
+use Rattle.answers.proofs.Shorter.{stand_in, kind_after_nodes, front, first81, behind81, is_81, front_quads, all_quads, same_rest, is_shortened, short_kept, part_kept}
 
 -- ---- all are node records
 
-all-nodes-append : (f u : List Quad) → allNodes (f ++ u) ≡ allNodes f and allNodes u
-unfolding allNodes ◌and◌
-all-nodes-append [] u = refl
-all-nodes-append (q ∷ f) u = rw (all-nodes-append f u) (and_assoc (eqb q.first 1) _ _)
+all_nodes_append : (f u : List Quad) → all_nodes (f ++ u) ≡ all_nodes f and all_nodes u
+unfolding all_nodes ◌and◌
+all_nodes_append [] u = refl
+all_nodes_append (q ∷ f) u = rw (all_nodes_append f u) (and_assoc (eqb q.first 1) _ _)
 
-kind-nodes : (g : List Quad) → eqb (kindOfAll g) 1 ≡ allNodes g
-unfolding kindOfAll allPlaces pick
-kind-nodes g = by (ℕ_discrete (leading g) (length g))
+kind_nodes : (g : List Quad) → eqb (kind_of_all g) 1 ≡ all_nodes g
+unfolding kind_of_all all_places pick
+kind_nodes g = by (ℕ_discrete (leading g) (length g))
   where
     other : (b : Bool) → eqb (pick b 2 0) 1 ≡ false
     other true = refl
     other false = refl
 
-    by : Dec (leading g ≡ length g) → eqb (pick (allPlaces (drop (leading g) g)) (pick (eqb (leading g) (length g)) 1 2) 0) 1 ≡ allNodes g
-    by (yes e) = rw (e, drop-length g, eq-eqb (length g) (length g) refl, leading-all-nodes g e)
-    by (no n) = rw (ne_eqb (leading g) (length g) n, leading-some-nodes g n) (other (allPlaces (drop (leading g) g)))
+    by : Dec (leading g ≡ length g) → eqb (pick (all_places (drop (leading g) g)) (pick (eqb (leading g) (length g)) 1 2) 0) 1 ≡ all_nodes g
+    by (yes e) = rw (e, drop-length g, eq-eqb (length g) (length g) refl, leading_all_nodes g e)
+    by (no n) = rw (ne_eqb (leading g) (length g) n, leading_some_nodes g n) (other (all_places (drop (leading g) g)))
 
-same_nodes : (f g w : List Quad) → allNodes (f ++ (standIn (kindOfAll (f ++ g)) ∷ w)) ≡ allNodes (f ++ (g ++ w))
-unfolding allNodes ◌and◌
-same_nodes f g w = rw (all-nodes-append f (standIn (kindOfAll (f ++ g)) ∷ w), all-nodes-append f (g ++ w), all-nodes-append g w) (by (ℕ_discrete (leading f) (length f)))
+same_nodes : (f g w : List Quad) → all_nodes (f ++ (stand_in (kind_of_all (f ++ g)) ∷ w)) ≡ all_nodes (f ++ (g ++ w))
+unfolding all_nodes ◌and◌
+same_nodes f g w = rw (all_nodes_append f (stand_in (kind_of_all (f ++ g)) ∷ w), all_nodes_append f (g ++ w), all_nodes_append g w) (by (ℕ_discrete (leading f) (length f)))
   where
-    by : Dec (leading f ≡ length f) → allNodes f and (eqb (kindOfAll (f ++ g)) 1 and allNodes w) ≡ allNodes f and (allNodes g and allNodes w)
-    by (yes e) = rw (kind-after-nodes f g e, kind-nodes g)
-    by (no n) = rw (leading-some-nodes f n)
+    by : Dec (leading f ≡ length f) → all_nodes f and (eqb (kind_of_all (f ++ g)) 1 and all_nodes w) ≡ all_nodes f and (all_nodes g and all_nodes w)
+    by (yes e) = rw (kind_after_nodes f g e, kind_nodes g)
+    by (no n) = rw (leading_some_nodes f n)
 
 -- ---- more than 64 records
 
-many : (bs : List ℕ) → 64 < length (quads bs) → judgeNodes bs ≡ pick (eqb (length bs % 4) 0) (pick (allNodes (quads bs)) (refused-nodes 10) (refused-nodes 9)) (refused-nodes 8)
-unfolding judgeNodes pick ◌and◌
+many : (bs : List ℕ) → 64 < length (quads bs) → judge_nodes bs ≡ pick (eqb (length bs % 4) 0) (pick (all_nodes (quads bs)) (refused_nodes 10) (refused_nodes 9)) (refused_nodes 8)
+unfolding judge_nodes pick ◌and◌
 many bs l = rw (le-leb 2 (length (quads bs)) (omega arith), lt-leb (length (quads bs)) 64 l)
 
 module _ (bs : List ℕ) (m : length bs % 4 ≡ 0) (h : 328 ≤ length bs) (more : List ℕ) where
-  long-front : 64 < length (quads (front bs ++ more))
-  long-front =
-      let a = ap length (front-quads bs m h more) in
-      let b = length-append (first81 bs m h) (standIn (kindOfAll (first81 bs m h ++ behind81 bs m h)) ∷ quads more) in
-      let c = is-81 bs m h in
+  long_front : 64 < length (quads (front bs ++ more))
+  long_front =
+      let a = ap length (front_quads bs m h more) in
+      let b = length-append (first81 bs m h) (stand_in (kind_of_all (first81 bs m h ++ behind81 bs m h)) ∷ quads more) in
+      let c = is_81 bs m h in
       omega arith
 
-  long-all : 64 < length (quads (bs ++ more))
-  long-all =
-      let a = ap length (all-quads bs m h more) in
+  long_all : 64 < length (quads (bs ++ more))
+  long_all =
+      let a = ap length (all_quads bs m h more) in
       let b = length-append (first81 bs m h) (behind81 bs m h ++ quads more) in
-      let c = is-81 bs m h in
+      let c = is_81 bs m h in
       omega arith
 
-  front-nodes : judgeNodes (front bs ++ more) ≡ judgeNodes (bs ++ more)
-  front-nodes =
-      let s : allNodes (quads (front bs ++ more)) ≡ allNodes (quads (bs ++ more)) =
-      ap allNodes (front-quads bs m h more) ∙ same_nodes (first81 bs m h) (behind81 bs m h) (quads more) ∙ ap allNodes (sym (all-quads bs m h more)) in
-      rw (many (front bs ++ more) long-front, many (bs ++ more) long-all, same_rest bs m h more, s)
+  front_nodes : judge_nodes (front bs ++ more) ≡ judge_nodes (bs ++ more)
+  front_nodes =
+      let s : all_nodes (quads (front bs ++ more)) ≡ all_nodes (quads (bs ++ more)) =
+      ap all_nodes (front_quads bs m h more) ∙ same_nodes (first81 bs m h) (behind81 bs m h) (quads more) ∙ ap all_nodes (sym (all_quads bs m h more)) in
+      rw (many (front bs ++ more) long_front, many (bs ++ more) long_all, same_rest bs m h more, s)
 
-shorter-nodes : (bs more : List ℕ) → judgeNodes (shortened bs ++ more) ≡ judgeNodes (bs ++ more)
-shorter-nodes bs more = by (dec_lt (length bs) 328) (ℕ_discrete (length bs % 4) 0)
+shorter_nodes : (bs more : List ℕ) → judge_nodes (shortened bs ++ more) ≡ judge_nodes (bs ++ more)
+shorter_nodes bs more = by (dec_lt (length bs) 328) (ℕ_discrete (length bs % 4) 0)
   where
-    by : Dec (length bs < 328) → Dec (length bs % 4 ≡ 0) → judgeNodes (shortened bs ++ more) ≡ judgeNodes (bs ++ more)
-    by (yes l) d = rw (short-kept bs l)
-    by (no l) (no n) = rw (part-kept bs n)
-    by (no l) (yes m) = rw (is-shortened bs m (omega arith)) (front-nodes bs m (omega arith) more)
+    by : Dec (length bs < 328) → Dec (length bs % 4 ≡ 0) → judge_nodes (shortened bs ++ more) ≡ judge_nodes (bs ++ more)
+    by (yes l) d = rw (short_kept bs l)
+    by (no l) (no n) = rw (part_kept bs n)
+    by (no l) (yes m) = rw (is_shortened bs m (omega arith)) (front_nodes bs m (omega arith) more)
 
 -- ---- the pieces
 
-kept_then : (pieces : List (List ℕ)) (more : List ℕ) → judgeNodes (kept pieces ++ more) ≡ judgeNodes (joined pieces ++ more)
+kept_then : (pieces : List (List ℕ)) (more : List ℕ) → judge_nodes (kept pieces ++ more) ≡ judge_nodes (joined pieces ++ more)
 unfolding kept joined
 kept_then [] more = refl
-kept_then (piece ∷ pieces) more = shorter-nodes (kept pieces ++ piece) more ∙ rw (append_assoc, append_assoc) (kept_then pieces (piece ++ more))
+kept_then (piece ∷ pieces) more = shorter_nodes (kept pieces ++ piece) more ∙ rw (append_assoc, append_assoc) (kept_then pieces (piece ++ more))
 
-pub nodes-as-joined : NodesAsJoined
-nodes-as-joined pieces = rw (append-nil, append-nil) at (kept_then pieces [])
+pub nodes_as_joined : NodesAsJoined
+nodes_as_joined pieces = rw (append-nil, append-nil) at (kept_then pieces [])

@@ -1,6 +1,6 @@
 // A step's axis and test at a place in a text of paths: what the axis writes, the byte of the test, and the place behind them.
 ghost use Rattle.std.specs.Prelude.{◌≡◌, true, ◌+◌, ◌<◌, ◌≤◌, length, drop};
-ghost use Rattle.theory.specs.PathReader.{axisAt, moveAt};
+ghost use Rattle.theory.specs.PathReader.{axis_at, move_at};
 ghost use Rattle.theory.specs.Reader.{front};
 ghost use Rattle.axes.specs.Moving.{AxisRead, MoveRead};
 
@@ -59,7 +59,7 @@ fn starts(s: &[u8], at: usize, word: &[u8]) -> bool
 
 // The axis whose name stands at a place, the longer name first.
 fn axis_at(s: &[u8], at: usize) -> Named
-    ensures { AxisRead s.now at (axisAt (drop at s.now)) result }
+    ensures { AxisRead s.now at (axis_at (drop at s.now)) result }
 {
     let first = byte_at(s, at);
     if first == b'd' {
@@ -106,7 +106,7 @@ fn axis_at(s: &[u8], at: usize) -> Named
 
 // An axis, :: and a test.
 pub fn move_at(s: &[u8], at: usize) -> Moved
-    ensures { MoveRead s.now at (moveAt (drop at s.now)) result }
+    ensures { MoveRead s.now at (move_at (drop at s.now)) result }
 {
     let named = axis_at(s, at);
     match named {

@@ -6,35 +6,35 @@ use Prim.Native.Nat.{ℕ}
 use native.Mathlib.Omega.{arith}
 use Rattle.meaning.specs.declared.Centre.{Centre}
 use Rattle.meaning.specs.Results.{told}
-use Rattle.meaning.specs.Centres.{drawnNumber, listAfter, NoQuestion, DrawPromise, draw-granted, draw-refused}
+use Rattle.meaning.specs.Centres.{drawn_number, list_after, NoQuestion, DrawPromise, draw_granted, draw_refused}
 use Rattle.meaning.specs.Centres as meant
 use Rattle.theory.specs.Centres.{drawing}
-use Rattle.theory.proofs.Centres.{drawing-keeps, shared-machine}
+use Rattle.theory.proofs.Centres.{drawing_keeps, shared_machine}
 use Rattle.centres.specs.declared.Drawn.{Drawn}
 use Rattle.centres.specs.Answers.{answer_of}
-use Rattle.capi.specs.Draws.{DrawsFrom, drawnAs}
+use Rattle.capi.specs.Draws.{DrawsFrom, drawn_as}
 
-number_is : (r : meant.Drawn) → drawnAs (answer_of r) ≡ drawnNumber r
-unfolding drawnAs answer_of drawnNumber
-number_is draw-granted = refl
-number_is (draw-refused q) = refl
+number_is : (r : meant.Drawn) → drawn_as (answer_of r) ≡ drawn_number r
+unfolding drawn_as answer_of drawn_number
+number_is draw_granted = refl
+number_is (draw_refused q) = refl
 
 -- what `draw` says and its number are what C is told
-pub draws-from : (total : ℕ) (cs : List Centre) (i amount : ℕ) {d : Drawn} {after : List Centre} {k : ℕ}
-    → (d ≡ answer_of (drawing total cs i amount)) × (after ≡ listAfter (drawing total cs i amount) cs i amount) → k ≡ drawnAs d
+pub draws_from : (total : ℕ) (cs : List Centre) (i amount : ℕ) {d : Drawn} {after : List Centre} {k : ℕ}
+    → (d ≡ answer_of (drawing total cs i amount)) × (after ≡ list_after (drawing total cs i amount) cs i amount) → k ≡ drawn_as d
     → DrawsFrom total cs i amount k after
-draws-from total cs i amount said e = record {
-  number = e ∙ (ap drawnAs said.0 ∙ number_is (drawing total cs i amount));
+draws_from total cs i amount said e = record {
+  number = e ∙ (ap drawn_as said.0 ∙ number_is (drawing total cs i amount));
   list = said.1;
-  promise = subst (DrawPromise total cs i amount (drawing total cs i amount)) (sym said.1) drawing-keeps;
+  promise = subst (DrawPromise total cs i amount (drawing total cs i amount)) (sym said.1) drawing_keeps;
 }
 
-zero-granted : (r : meant.Drawn) → drawnNumber r ≡ 0 → r ≡ draw-granted
-unfolding drawnNumber told
-zero-granted draw-granted e = refl
-zero-granted (draw-refused q) e = absurd (omega (arith, e))
+zero_granted : (r : meant.Drawn) → drawn_number r ≡ 0 → r ≡ draw_granted
+unfolding drawn_number told
+zero_granted draw_granted e = refl
+zero_granted (draw_refused q) e = absurd (omega (arith, e))
 
-pub told-granted : {total : ℕ} {cs after : List Centre} {i amount k : ℕ} → DrawsFrom total cs i amount k after → (k ≡ 0) ↔ NoQuestion total cs i amount
-unfolding drawnNumber told
-told-granted d = let iff = shared-machine.granted-exactly d.promise
-    in ((λ z. iff.0 (zero-granted _ (sym d.number ∙ z))), λ q. d.number ∙ ap drawnNumber (iff.1 q))
+pub told_granted : {total : ℕ} {cs after : List Centre} {i amount k : ℕ} → DrawsFrom total cs i amount k after → (k ≡ 0) ↔ NoQuestion total cs i amount
+unfolding drawn_number told
+told_granted d = let iff = shared_machine.granted_exactly d.promise
+    in ((λ z. iff.0 (zero_granted _ (sym d.number ∙ z))), λ q. d.number ∙ ap drawn_number (iff.1 q))

@@ -3,10 +3,10 @@ use mathlib.Core.Path.{◌≡◌, sym, ap, ◌∙◌}
 use mathlib.Core.List.{List}
 use Prim.Native.Nat.{ℕ, ◌+◌, ◌*◌}
 use native.Mathlib.Omega.{arith}
-use Rattle.meaning.specs.Demand.{a-tree, a-none, a-spent}
-use Rattle.meaning.specs.Results.{Solved, solver-refuses, solver-answers, told, solvedNumber}
+use Rattle.meaning.specs.Demand.{a_tree, a_none, a-spent}
+use Rattle.meaning.specs.Results.{Solved, solver_refuses, solver_answers, told, solved_number}
 use Rattle.theory.specs.Programs.{solver}
-use Rattle.solver.specs.Solving.{verdictOf, SolverOf}
+use Rattle.solver.specs.Solving.{verdict_of, SolverOf}
 use Rattle.solver.specs.declared.Verdict.{Verdict}
 use Rattle.solver.specs.declared.Verdict.TheVariants.{Tree, None, Spent, Refused}
 use Rattle.capi.specs.Solves.{Solves}
@@ -18,12 +18,12 @@ number (None count) = 281474976710656 + count
 number (Spent count) = 562949953421312 + count
 number (Refused question) = 844424930131968 + question
 
-number_is : (s : Solved) → number (verdictOf s) ≡ solvedNumber s
-unfolding number verdictOf solvedNumber told
-number_is (solver-answers (a-tree c bs)) = omega arith
-number_is (solver-answers (a-none c)) = omega arith
-number_is (solver-answers (a-spent c)) = omega arith
-number_is (solver-refuses q) = omega arith
+number_is : (s : Solved) → number (verdict_of s) ≡ solved_number s
+unfolding number verdict_of solved_number told
+number_is (solver_answers (a_tree c bs)) = omega arith
+number_is (solver_answers (a_none c)) = omega arith
+number_is (solver_answers (a-spent c)) = omega arith
+number_is (solver_refuses q) = omega arith
 
 module _ (A : ℕ) (file buffer : List ℕ) (r : Verdict) (after : List ℕ) (w : SolverOf A file buffer r after) where
   pub solves : {v : Verdict} → r ≡ v → (m : ℕ) → m ≡ number v → Solves A file buffer m after

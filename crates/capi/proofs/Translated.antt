@@ -6,20 +6,20 @@ use native.Mathlib.Omega.{arith}
 use lib.ListN.{length}
 use lib.Dec.{leb}
 use Rattle.meaning.specs.Paths.{Path}
-use Rattle.meaning.specs.PathRecords.{variablesOf}
-use Rattle.meaning.specs.Results.{Fill, fill-refused, fill-written, fillWrote, fillNumber}
+use Rattle.meaning.specs.PathRecords.{variables_of}
+use Rattle.meaning.specs.Results.{Fill, fill_refused, fill_written, fill_wrote, fill_number}
 use Rattle.meaning.specs.Promises.{PathsPromise}
 use Rattle.meaning.specs.Xml.{WriterPromise, ReaderPromise}
-use Rattle.meaning.proofs.Tests.{pick-has, is_le}
+use Rattle.meaning.proofs.Tests.{pick_has, is_le}
 use Rattle.theory.specs.Reader.{Got, nothing, got}
-use Rattle.theory.specs.PathReader.{textPaths, pathsAnswer, answer_of, readPaths}
-use Rattle.theory.specs.Xml.{writeXml, readXml}
+use Rattle.theory.specs.PathReader.{text_paths, paths_answer, answer_of, read_paths}
+use Rattle.theory.specs.Xml.{write_xml, read_xml}
 use Rattle.theory.proofs.PathPromise as paths
 use Rattle.theory.proofs.XmlPromise as xml
-use Rattle.theory.proofs.XmlBack.{write-few, read-few}
+use Rattle.theory.proofs.XmlBack.{write_few, read_few}
 use Rattle.lent.specs.declared.Answer.{Answer}
 use Rattle.lent.specs.Filling.{AnswerOf}
-use Rattle.capi.specs.Numbers.{FewBytes, answerNumber}
+use Rattle.capi.specs.Numbers.{FewBytes, answer_number}
 use Rattle.capi.specs.Translates.{Translates}
 use Rattle.capi.specs.Xml.{WritesXml, ReadsXml}
 
@@ -27,65 +27,65 @@ use Rattle.capi.specs.Xml.{WritesXml, ReadsXml}
 
 -- few bytes are written
 abbrev Few : Fill → Type 0
-Few (fill-refused q) = Unit {0}
-Few (fill-written bs) = length bs ≤ 438
+Few (fill_refused q) = Unit {0}
+Few (fill_written bs) = length bs ≤ 438
 
-few-written : (a : Fill) → ((bs : List ℕ) → a ≡ fill-written bs → length bs ≤ 438) → Few a
-few-written (fill-refused q) f = tt
-few-written (fill-written bs) f = f bs refl
+few_written : (a : Fill) → ((bs : List ℕ) → a ≡ fill_written bs → length bs ≤ 438) → Few a
+few_written (fill_refused q) f = tt
+few_written (fill_written bs) f = f bs refl
 
 few_bytes : (a : Fill) (r : Answer) → Few a → AnswerOf a r → FewBytes r
-few_bytes (fill-refused q) r f h = subst FewBytes (sym h) tt
-few_bytes (fill-written bs) r f h = subst FewBytes (sym h) (omega (arith, f))
+few_bytes (fill_refused q) r f h = subst FewBytes (sym h) tt
+few_bytes (fill_written bs) r f h = subst FewBytes (sym h) (omega (arith, f))
 
-number_is : (a : Fill) (r : Answer) → AnswerOf a r → answerNumber r ≡ fillNumber a
-unfolding answerNumber fillNumber
-number_is (fill-refused q) r h = ap answerNumber h
-number_is (fill-written bs) r h = ap answerNumber h
+number_is : (a : Fill) (r : Answer) → AnswerOf a r → answer_number r ≡ fill_number a
+unfolding answer_number fill_number
+number_is (fill_refused q) r h = ap answer_number h
+number_is (fill_written bs) r h = ap answer_number h
 
 -- ---- the path reader
 
-paths-few : (s : List ℕ) (g : Got (List Path)) → textPaths s ≡ g → Few (answer_of g)
-unfolding answer_of pathsAnswer
-paths-few s nothing e = tt
-paths-few s (got ps q) e =
-    pick-has Few (leb (variablesOf ps) 16) _ _ (λ y. let l = (paths.right-records (paths.text-form s (got ps q) e) (is_le y)).short in omega arith) tt
+paths_few : (s : List ℕ) (g : Got (List Path)) → text_paths s ≡ g → Few (answer_of g)
+unfolding answer_of paths_answer
+paths_few s nothing e = tt
+paths_few s (got ps q) e =
+    pick_has Few (leb (variables_of ps) 16) _ _ (λ y. let l = (paths.right_records (paths.text_form s (got ps q) e) (is_le y)).short in omega arith) tt
 
-read-paths-few : (s buffer : List ℕ) → Few (readPaths s buffer)
-unfolding readPaths
-read-paths-few s buffer = pick-has Few (leb 1024 (length buffer)) _ _ (λ y. paths-few s (textPaths s) refl) tt
+read_paths_few : (s buffer : List ℕ) → Few (read_paths s buffer)
+unfolding read_paths
+read_paths_few s buffer = pick_has Few (leb 1024 (length buffer)) _ _ (λ y. paths_few s (text_paths s) refl) tt
 
-module _ (s buffer : List ℕ) (r : Answer) (h : AnswerOf (readPaths s buffer) r) where
-  pub paths-bytes : FewBytes r
-  paths-bytes = few_bytes (readPaths s buffer) r (read-paths-few s buffer) h
+module _ (s buffer : List ℕ) (r : Answer) (h : AnswerOf (read_paths s buffer) r) where
+  pub paths_bytes : FewBytes r
+  paths_bytes = few_bytes (read_paths s buffer) r (read_paths_few s buffer) h
 
-  pub translates : (after : List ℕ) → after ≡ fillWrote (readPaths s buffer) buffer → {k : ℕ} → k ≡ answerNumber r → Translates s buffer k after
+  pub translates : (after : List ℕ) → after ≡ fill_wrote (read_paths s buffer) buffer → {k : ℕ} → k ≡ answer_number r → Translates s buffer k after
   translates after w e = record {
-    number = e ∙ number_is (readPaths s buffer) r h;
+    number = e ∙ number_is (read_paths s buffer) r h;
     wrote = w;
-    promise = subst (PathsPromise s buffer (readPaths s buffer)) (sym w) (paths.read_keeps s buffer);
+    promise = subst (PathsPromise s buffer (read_paths s buffer)) (sym w) (paths.read_keeps s buffer);
   }
 
 -- ---- trees as XML
 
-module _ (nodes buffer : List ℕ) (r : Answer) (h : AnswerOf (writeXml nodes buffer) r) where
-  pub writer-bytes : FewBytes r
-  writer-bytes = few_bytes (writeXml nodes buffer) r (few-written (writeXml nodes buffer) (write-few nodes buffer)) h
+module _ (nodes buffer : List ℕ) (r : Answer) (h : AnswerOf (write_xml nodes buffer) r) where
+  pub writer_bytes : FewBytes r
+  writer_bytes = few_bytes (write_xml nodes buffer) r (few_written (write_xml nodes buffer) (write_few nodes buffer)) h
 
-  pub writes-xml : (after : List ℕ) → after ≡ fillWrote (writeXml nodes buffer) buffer → {k : ℕ} → k ≡ answerNumber r → WritesXml nodes buffer k after
-  writes-xml after w e = record {
-    number = e ∙ number_is (writeXml nodes buffer) r h;
+  pub writes_xml : (after : List ℕ) → after ≡ fill_wrote (write_xml nodes buffer) buffer → {k : ℕ} → k ≡ answer_number r → WritesXml nodes buffer k after
+  writes_xml after w e = record {
+    number = e ∙ number_is (write_xml nodes buffer) r h;
     wrote = w;
-    promise = subst (WriterPromise nodes buffer (writeXml nodes buffer)) (sym w) (xml.write_keeps nodes buffer);
+    promise = subst (WriterPromise nodes buffer (write_xml nodes buffer)) (sym w) (xml.write_keeps nodes buffer);
   }
 
-module _ (text buffer : List ℕ) (r : Answer) (h : AnswerOf (readXml text buffer) r) where
-  pub reader-bytes : FewBytes r
-  reader-bytes = few_bytes (readXml text buffer) r (few-written (readXml text buffer) (λ bs d. let l = read-few text buffer bs d in omega arith)) h
+module _ (text buffer : List ℕ) (r : Answer) (h : AnswerOf (read_xml text buffer) r) where
+  pub reader_bytes : FewBytes r
+  reader_bytes = few_bytes (read_xml text buffer) r (few_written (read_xml text buffer) (λ bs d. let l = read_few text buffer bs d in omega arith)) h
 
-  pub reads-xml : (after : List ℕ) → after ≡ fillWrote (readXml text buffer) buffer → {k : ℕ} → k ≡ answerNumber r → ReadsXml text buffer k after
-  reads-xml after w e = record {
-    number = e ∙ number_is (readXml text buffer) r h;
+  pub reads_xml : (after : List ℕ) → after ≡ fill_wrote (read_xml text buffer) buffer → {k : ℕ} → k ≡ answer_number r → ReadsXml text buffer k after
+  reads_xml after w e = record {
+    number = e ∙ number_is (read_xml text buffer) r h;
     wrote = w;
-    promise = subst (ReaderPromise text buffer (readXml text buffer)) (sym w) (xml.read_keeps text buffer);
+    promise = subst (ReaderPromise text buffer (read_xml text buffer)) (sym w) (xml.read_keeps text buffer);
   }

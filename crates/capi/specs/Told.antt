@@ -17,13 +17,13 @@ low r = r % 2 ^ 32
 pub record ToldSame (buffer after lent later : List ℕ) (r s : ℕ) : Type 0 where
   pub number : s ≡ r
   pub front : List ℕ
-  pub as-told : length front ≡ middle r
+  pub as_told : length front ≡ middle r
   pub wrote : after ≡ front ++ drop (length front) buffer
-  pub other-wrote : later ≡ front ++ drop (length front) lent
+  pub other_wrote : later ≡ front ++ drop (length front) lent
 
 -- this verdict, a count of at most c, and at the front of the buffer these bytes, as many as are told; all others stay
 pub record ToldWithin (buffer after : List ℕ) (v c : ℕ) (bs : List ℕ) (r : ℕ) : Type 0 where
-  pub verdict-is : verdict r ≡ v
+  pub verdict_is : verdict r ≡ v
   pub no_more : low r ≤ c
-  pub as-told : middle r ≡ length bs
+  pub as_told : middle r ≡ length bs
   pub wrote : after ≡ bs ++ drop (length bs) buffer

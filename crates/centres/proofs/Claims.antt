@@ -10,10 +10,10 @@ use lib.Dec.{leb}
 use lib.ListN.{length, drop}
 use Rattle.meaning.specs.declared.Centre.{Centre}
 use Rattle.meaning.specs.Finite.{Yes, ◌and◌}
-use Rattle.meaning.specs.Centres.{centreAt, sum_of, claimed}
-use Rattle.meaning.proofs.Tests.{yes-case, and_left, and_right, and_both, clash, pick_yes, pick_no, pick-either, is_le, le_yes, le-no}
+use Rattle.meaning.specs.Centres.{centre_at, sum_of, claimed}
+use Rattle.meaning.proofs.Tests.{yes_case, and_left, and_right, and_both, clash, pick_yes, pick_no, pick_either, is_le, le_yes, le_no}
 use Rattle.theory.specs.Centres.{capped}
-use Rattle.centres.specs.Plain.{lookedAt, claim}
+use Rattle.centres.specs.Plain.{looked_at, claim}
 
 abbrev pub claim_of : Centre → ℕ
 claim_of c = claim c.guarantee c.cap c.drawn
@@ -23,28 +23,28 @@ claims cs = sum_of claim_of cs
 
 -- ---- one record
 
-pub claim-in : (g k d : ℕ) → max g d ≤ k → claim g k d ≡ max g d
+pub claim_in : (g k d : ℕ) → max g d ≤ k → claim g k d ≡ max g d
 unfolding claim
-claim-in g k d l = pick_yes _ _ (le_yes l)
+claim_in g k d l = pick_yes _ _ (le_yes l)
 
-pub claim-above : (g k d : ℕ) → k < max g d → claim g k d ≡ 2 ^ 32
+pub claim_above : (g k d : ℕ) → k < max g d → claim g k d ≡ 2 ^ 32
 unfolding claim
-claim-above g k d h = pick_no _ _ (le-no h)
+claim_above g k d h = pick_no _ _ (le_no h)
 
-pub claim-small : (g k d : ℕ) → k < 2 ^ 32 → claim g k d ≤ 2 ^ 32
+pub claim_small : (g k d : ℕ) → k < 2 ^ 32 → claim g k d ≤ 2 ^ 32
 unfolding claim
-claim-small g k d h = pick-either (λ (m : ℕ). m ≤ 2 ^ 32) (leb (max g d) k) _ _ (λ y. let l = is_le {x = max g d} {y = k} y in omega (arith, l, h))
+claim_small g k d h = pick_either (λ (m : ℕ). m ≤ 2 ^ 32) (leb (max g d) k) _ _ (λ y. let l = is_le {x = max g d} {y = k} y in omega (arith, l, h))
     (λ n. omega arith)
 
 -- ---- all records
 
-pub claims-capped : (cs : List Centre) → Yes (capped cs) → claims cs ≡ claimed cs
+pub claims_capped : (cs : List Centre) → Yes (capped cs) → claims cs ≡ claimed cs
 unfolding capped claimed sum_of
-claims-capped [] y = refl
-claims-capped (c ∷ cs) y =
-    let b = and_left (capped cs) y in let r = claims-capped cs (and_right (leb c.guarantee c.cap and leb c.drawn c.cap) y) in
+claims_capped [] y = refl
+claims_capped (c ∷ cs) y =
+    let b = and_left (capped cs) y in let r = claims_capped cs (and_right (leb c.guarantee c.cap and leb c.drawn c.cap) y) in
     let g : c.guarantee ≤ c.cap = is_le (and_left _ b) in let d : c.drawn ≤ c.cap = is_le (and_right (leb c.guarantee c.cap) b) in
-    let e = claim-in c.guarantee c.cap c.drawn (omega (arith, g, d)) in
+    let e = claim_in c.guarantee c.cap c.drawn (omega (arith, g, d)) in
     omega (arith, e, r)
 
 in_cap : (c : Centre) → max c.guarantee c.drawn ≤ c.cap → Yes (leb c.guarantee c.cap and leb c.drawn c.cap)
@@ -53,46 +53,46 @@ in_cap c l = and_both (le_yes {x = c.guarantee} {y = c.cap} (omega (arith, l))) 
 above : (c : Centre) → ¬ (max c.guarantee c.drawn ≤ c.cap) → c.cap < max c.guarantee c.drawn
 above c n = omega (arith, n)
 
-pub claims-above : (cs : List Centre) → ¬ Yes (capped cs) → 2 ^ 32 ≤ claims cs
+pub claims_above : (cs : List Centre) → ¬ Yes (capped cs) → 2 ^ 32 ≤ claims cs
 unfolding capped sum_of
-claims-above [] n = absurd (n refl)
-claims-above (c ∷ cs) n =
-    ⊎_elim (λ y. let r = claims-above cs (λ z. n (and_both y z)) in omega (arith, r))
-    (λ z. let e = claim-above c.guarantee c.cap c.drawn (above c (λ l. clash (in_cap c l) z)) in omega (arith, e))
-    (yes-case (leb c.guarantee c.cap and leb c.drawn c.cap))
+claims_above [] n = absurd (n refl)
+claims_above (c ∷ cs) n =
+    ⊎_elim (λ y. let r = claims_above cs (λ z. n (and_both y z)) in omega (arith, r))
+    (λ z. let e = claim_above c.guarantee c.cap c.drawn (above c (λ l. clash (in_cap c l) z)) in omega (arith, e))
+    (yes_case (leb c.guarantee c.cap and leb c.drawn c.cap))
 
 -- ---- the loop
 
-pub looked-few : (n : ℕ) → lookedAt n ≤ 8
-unfolding lookedAt
-looked-few n = pick-either (λ (m : ℕ). m ≤ 8) (leb n 8) n 0 (λ y. is_le y) (λ _. omega arith)
+pub looked_few : (n : ℕ) → looked_at n ≤ 8
+unfolding looked_at
+looked_few n = pick_either (λ (m : ℕ). m ≤ 8) (leb n 8) n 0 (λ y. is_le y) (λ _. omega arith)
 
-looked-in : (n : ℕ) → lookedAt n ≤ n
-unfolding lookedAt
-looked-in n = pick-either (λ (m : ℕ). m ≤ n) (leb n 8) n 0 (λ y. omega arith) (λ _. omega arith)
+looked_in : (n : ℕ) → looked_at n ≤ n
+unfolding looked_at
+looked_in n = pick_either (λ (m : ℕ). m ≤ n) (leb n 8) n 0 (λ y. omega arith) (λ _. omega arith)
 
-pub looked-all : {n : ℕ} → n ≤ 8 → lookedAt n ≡ n
-unfolding lookedAt
-looked-all few = pick_yes _ _ (le_yes few)
+pub looked_all : {n : ℕ} → n ≤ 8 → looked_at n ≡ n
+unfolding looked_at
+looked_all few = pick_yes _ _ (le_yes few)
 
-pub looked-none : {n : ℕ} → 8 < n → lookedAt n ≡ 0
-unfolding lookedAt
-looked-none many = pick_no _ _ (le-no many)
+pub looked_none : {n : ℕ} → 8 < n → looked_at n ≡ 0
+unfolding looked_at
+looked_none many = pick_no _ _ (le_no many)
 
-pub inside : (cs : List Centre) (i : ℕ) → i < lookedAt (length cs) → i < length cs
-inside cs i l = let h = looked-in (length cs) in omega (arith, l, h)
+pub inside : (cs : List Centre) (i : ℕ) → i < looked_at (length cs) → i < length cs
+inside cs i l = let h = looked_in (length cs) in omega (arith, l, h)
 
-pub claims-on : (cs : List Centre) (i : ℕ) → i < length cs → claims (drop i cs) ≡ claim_of (centreAt cs i) + claims (drop (suc i) cs)
+pub claims_on : (cs : List Centre) (i : ℕ) → i < length cs → claims (drop i cs) ≡ claim_of (centre_at cs i) + claims (drop (suc i) cs)
 unfolding sum_of
-claims-on [] i l = absurd (not-suc-le-zero l)
-claims-on (c ∷ cs) zero l = refl
-claims-on (c ∷ cs) (suc i) l = claims-on cs i (le_of_suc-le-suc l)
+claims_on [] i l = absurd (not-suc-le-zero l)
+claims_on (c ∷ cs) zero l = refl
+claims_on (c ∷ cs) (suc i) l = claims_on cs i (le_of_suc-le-suc l)
 
 -- after some turns: how many records were looked at, and what they claim
 pub record Progress (cs : List Centre) : Type 0 where
   pub reached : ℕ
   pub sum : ℕ
-  pub upto : reached ≤ lookedAt (length cs)
+  pub upto : reached ≤ looked_at (length cs)
   pub sums : sum + claims (drop reached cs) ≡ claims cs
   pub small : sum ≤ reached * 2 ^ 32
 
@@ -100,15 +100,15 @@ abbrev pub started : (cs : List Centre) → Progress cs
 started cs = record { reached = 0; sum = 0; upto = omega arith; sums = omega arith; small = omega arith }
 
 pub sum_fits : (cs : List Centre) (p : Progress cs) → p.sum < 2 ^ 63
-sum_fits cs p = let a = p.small in let b = p.upto in let c = looked-few (length cs) in omega (arith, a, b, c)
+sum_fits cs p = let a = p.small in let b = p.upto in let c = looked_few (length cs) in omega (arith, a, b, c)
 
-abbrev pub one_on : (cs : List Centre) (p : Progress cs) → p.reached < lookedAt (length cs) → (centreAt cs p.reached).cap < 2 ^ 32 → Progress cs
+abbrev pub one_on : (cs : List Centre) (p : Progress cs) → p.reached < looked_at (length cs) → (centre_at cs p.reached).cap < 2 ^ 32 → Progress cs
 one_on cs p l fits = record {
   reached = p.reached + 1;
-  sum = p.sum + claim_of (centreAt cs p.reached);
+  sum = p.sum + claim_of (centre_at cs p.reached);
   upto = omega (arith, l);
-  sums = let on = claims-on cs p.reached (inside cs p.reached l) in let was = p.sums in
+  sums = let on = claims_on cs p.reached (inside cs p.reached l) in let was = p.sums in
       let next = ap (λ (k : ℕ). claims (drop k cs)) (add-one p.reached) in omega (arith, on, was, next);
-  small = let c = centreAt cs p.reached in let w = claim-small c.guarantee c.cap c.drawn fits in let s = p.small in
+  small = let c = centre_at cs p.reached in let w = claim_small c.guarantee c.cap c.drawn fits in let s = p.small in
       omega (arith, w, s);
 }

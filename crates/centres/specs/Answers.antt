@@ -9,5 +9,5 @@ unfoldable pub answered : ℕ → Drawn
 answered q = pick (eqb q 0) Granted (Refused q)
 
 unfoldable pub answer_of : meant.Drawn → Drawn
-answer_of meant.draw-granted = Granted
-answer_of (meant.draw-refused q) = Refused q
+answer_of meant.draw_granted = Granted
+answer_of (meant.draw_refused q) = Refused q

@@ -1,8 +1,8 @@
 // Centres draw choices from one session total. Their records lie in one lent list and are changed there.
 ghost use Rattle.std.specs.Prelude.{◌≡◌, ◌+◌, ◌-◌, ◌<◌, ◌^◌, max};
-ghost use Rattle.meaning.specs.Centres.{listAfter};
+ghost use Rattle.meaning.specs.Centres.{list_after};
 ghost use Rattle.theory.specs.Centres.{drawing};
-ghost use Rattle.centres.specs.Plain.{lookedAt, claim, questionOf};
+ghost use Rattle.centres.specs.Plain.{looked_at, claim, question_of};
 ghost use Rattle.centres.specs.Answers.{answered, answer_of};
 
 use meaning::Centre;
@@ -17,7 +17,7 @@ pub enum Drawn {
 
 // How many records are looked at: all of at most 8, none of more.
 fn counted(len: usize) -> usize
-    ensures { result ≡ lookedAt len }
+    ensures { result ≡ looked_at len }
 {
     if len <= 8 { len } else { 0 }
 }
@@ -53,7 +53,7 @@ fn with_claim(claims: u64, guarantee: u32, cap: u32, drawn: u32) -> u64
 
 // The question that refuses a draw, or 0, from the claims of all records and the record of the centre.
 fn question(claims: u64, total: u32, guarantee: u32, cap: u32, drawn: u32, amount: u32) -> u8
-    ensures { result ≡ questionOf claims total guarantee cap drawn amount }
+    ensures { result ≡ question_of claims total guarantee cap drawn amount }
 {
     if (total as u64) < claims {
         return 18;
@@ -82,7 +82,7 @@ fn answer(question: u8) -> Drawn
 // A draw: granted, with the amount added to what the centre has drawn, or refused, with nothing written.
 pub fn draw(centres: &mut [Centre], total: u32, centre: usize, amount: u32) -> Drawn
     ensures { (result ≡ answer_of (drawing total centres.old centre amount))
-        × (centres.new ≡ listAfter (drawing total centres.old centre amount) centres.old centre amount) }
+        × (centres.new ≡ list_after (drawing total centres.old centre amount) centres.old centre amount) }
 {
     let count = counted(centres.len());
     let mut claims: u64 = 0;

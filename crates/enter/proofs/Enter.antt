@@ -10,35 +10,35 @@ use native.Mathlib.Nat.{le_trans}
 use Rattle.meaning.specs.Finite.{Yes}
 use Rattle.meaning.specs.ReadOff.{Decides}
 use Rattle.meaning.specs.Constraint.{Fact, child, below, differ, before, root, leaf, label}
-use Rattle.meaning.specs.Settled.{Settled, given, chain, leaf-below, Clash}
+use Rattle.meaning.specs.Settled.{Settled, given, chain, leaf_below, Clash}
 use Rattle.meaning.specs.Closed.{Rules, Inside, Within}
-use Rattle.meaning.proofs.Least.{settled-mono, settled-rules, settled-within, clash-mono}
-use Rattle.theory.proofs.Closure.{rules-decide}
+use Rattle.meaning.proofs.Least.{settled_mono, settled_rules, settled_within, clash_mono}
+use Rattle.theory.proofs.Closure.{rules_decide}
 use Rattle.rowbits.specs.Bit.{bit}
 use Rattle.tables.specs.Tables.{row, has, Columns, Ready}
 use Rattle.tables.specs.Rows.{Raised, Crossed, meets}
 use Rattle.tables.specs.Free.{Free}
 use Rattle.tables.specs.declared.Facts.{Facts}
-use Rattle.tables.proofs.Bits.{in_row, meets-out}
-use Rattle.tables.proofs.Clashes.{free-clash, clash-free, crossed-clash, uncrossed-clear}
-use Rattle.tables.proofs.Groups.{rules-same}
-use Rattle.tables.proofs.Rises.{rises, raised-out, raised-in, columns-raised}
+use Rattle.tables.proofs.Bits.{in_row, meets_out}
+use Rattle.tables.proofs.Clashes.{free_clash, clash_free, crossed_clash, uncrossed_clear}
+use Rattle.tables.proofs.Groups.{rules_same}
+use Rattle.tables.proofs.Rises.{rises, raised_out, raised_in, columns_raised}
 use Rattle.tables.proofs.Tested.{or_yes}
-use Rattle.tables.proofs.Wider.{Opening, Wider, wide-least, wide-rules}
+use Rattle.tables.proofs.Wider.{Opening, Wider, wide_least, wide_rules}
 use Rattle.tables.specs.declared.Settled.{Settled as Result}
 use Rattle.grouping.specs.Rows.{In}
 use Rattle.grouping.specs.Grouping.{Held}
 use Rattle.merge.specs.Merging.{MergedOf}
-use Rattle.merge.proofs.Entered.{back-tested}
+use Rattle.merge.proofs.Entered.{back_tested}
 use Rattle.enter.specs.Entered.{entering, Forked, EnteredOf}
 
 -- of two variables above a third of which b is not above a, no leaf is above a: it would be the same as the third, and b above it
-no-leaf-above : (n : ℕ) → n ≤ 16 → (S : List Fact) (f : Facts) (a b : ℕ) → a < n → Ready n S f → Forked f a b → (x : ℕ) → x < 16 → In (row f.above a) x → ¬ Held f (leaf x)
+no_leaf_above : (n : ℕ) → n ≤ 16 → (S : List Fact) (f : Facts) (a b : ℕ) → a < n → Ready n S f → Forked f a b → (x : ℕ) → x < 16 → In (row f.above a) x → ¬ Held f (leaf x)
 unfolding has
-no-leaf-above n few S f a b ha r k x lx u l =
+no_leaf_above n few S f a b ha r k x lx u l =
     let up = r.decides.sound {f = below x a} (sym (r.mirrored.ancestors x a lx (le_trans ha few)) ∙ u) in
-    let same = leaf-below (r.decides.sound {f = leaf x} l) (chain up (r.decides.sound {f = below a k.under} k.above-a)) in
-    k.not-above (r.decides.complete (chain (r.decides.sound {f = below b k.under} k.above-b) (chain same up)))
+    let same = leaf_below (r.decides.sound {f = leaf x} l) (chain up (r.decides.sound {f = below a k.under} k.above_a)) in
+    k.not_above (r.decides.complete (chain (r.decides.sound {f = below b k.under} k.above_b) (chain same up)))
 
 module _ (n : ℕ) (few : n ≤ 16) (S : List Fact) (f : Facts) (a b : ℕ) (ha : a < n) (hb : b < n) (r : Ready n S f) where
   abbrev S' : List Fact
@@ -55,17 +55,17 @@ module _ (n : ℕ) (few : n ≤ 16) (S : List Fact) (f : Facts) (a b : ℕ) (ha 
   w = row f.below b
 
   rules : Rules n P
-  rules = rules-same n (Settled n S) P (λ φ h. r.decides.complete h) (λ φ y. r.decides.sound y) (settled-rules n S)
+  rules = rules_same n (Settled n S) P (λ φ h. r.decides.complete h) (λ φ y. r.decides.sound y) (settled_rules n S)
 
   more : (φ : Fact) → P φ → Settled n S' φ
-  more φ y = settled-mono n S S' (λ φ m. Memᴰ.tail m) (r.decides.sound y)
+  more φ y = settled_mono n S S' (λ φ m. Memᴰ.tail m) (r.decides.sound y)
 
   is_up : (x : ℕ) → P (below x a) → In u x
   unfolding has
-  is_up x y = r.mirrored.ancestors x a (le_trans (settled-within n S r.inside (r.decides.sound {f = below x a} y)).0 few) (le_trans ha few) ∙ y
+  is_up x y = r.mirrored.ancestors x a (le_trans (settled_within n S r.inside (r.decides.sound {f = below x a} y)).0 few) (le_trans ha few) ∙ y
 
   module _ (up_small : u < 65536) (down-small : w < 65536) (t s : List ℕ) (up : Raised f.below u w t) (down : Raised f.above w u s)
-      (not-above : ¬ P (below b a)) (no-leaf : (x : ℕ) → In u x → P (leaf x) → ⊥) where
+      (not_above : ¬ P (below b a)) (no_leaf : (x : ℕ) → In u x → P (leaf x) → ⊥) where
     abbrev raised : Facts
     raised = record { child = f.child; parent = f.parent; below = t; above = s; differ = f.differ; before = f.before; after = f.after; root = f.root; leaf = f.leaf; label = f.label }
 
@@ -77,28 +77,28 @@ module _ (n : ℕ) (few : n ≤ 16) (S : List Fact) (f : Facts) (a b : ℕ) (ha 
     unfolding has
     opening = record {
       ends = record { up = λ x y p q. is_up x (rules.sharing.chain x y a p (up_is y q)); down = λ x y p q. rules.sharing.chain b x y p q };
-      no-mid = λ x p q. not-above (rules.sharing.chain b x a q (up_is x p));
-      no-leaf = λ x p q. no-leaf x q p;
+      no_mid = λ x p q. not_above (rules.sharing.chain b x a q (up_is x p));
+      no_leaf = λ x p q. no_leaf x q p;
     }
 
-    has-wide : (φ : Fact) → Held raised φ → Wider P (In u) (In w) φ
+    has_wide : (φ : Fact) → Held raised φ → Wider P (In u) (In w) φ
     unfolding has
-    has-wide (child x y) p = p
-    has-wide (below x y) p = raised-out f.below u w t (rises up_small up) x y p
-    has-wide (differ x y) p = p
-    has-wide (before x y) p = p
-    has-wide (root x) p = p
-    has-wide (leaf x) p = p
-    has-wide (label x l) p = p
+    has_wide (child x y) p = p
+    has_wide (below x y) p = raised_out f.below u w t (rises up_small up) x y p
+    has_wide (differ x y) p = p
+    has_wide (before x y) p = p
+    has_wide (root x) p = p
+    has_wide (leaf x) p = p
+    has_wide (label x l) p = p
 
     over : (x y : ℕ) → In u x → In w y → Held raised (below x y)
     unfolding has
-    over x y p q = raised-in f.below u w t (rises up_small up) x y (inr (p, q))
+    over x y p q = raised_in f.below u w t (rises up_small up) x y (inr (p, q))
 
     keep : (φ : Fact) → P φ → Held raised φ
     unfolding has
     keep (child x y) p = p
-    keep (below x y) p = raised-in f.below u w t (rises up_small up) x y (inl p)
+    keep (below x y) p = raised_in f.below u w t (rises up_small up) x y (inl p)
     keep (differ x y) p = p
     keep (before x y) p = p
     keep (root x) p = p
@@ -107,84 +107,84 @@ module _ (n : ℕ) (few : n ≤ 16) (S : List Fact) (f : Facts) (a b : ℕ) (ha 
 
     sound' : (φ : Fact) → Held raised φ → Settled n S' φ
     unfolding has
-    sound' φ p = wide-least P (In u) (In w) (Settled n S') more
-        (λ x y q v. chain (more (below x a) (up_is x q)) (chain (given (Memᴰ.head refl)) (more (below b y) v))) φ (has-wide φ p)
+    sound' φ p = wide_least P (In u) (In w) (Settled n S') more
+        (λ x y q v. chain (more (below x a) (up_is x q)) (chain (given (Memᴰ.head refl)) (more (below b y) v))) φ (has_wide φ p)
 
     given' : (φ : Fact) → Memᴰ φ S' → Held raised φ
     unfolding has
     given' φ m = ⊎_elim
-        (λ e. subst (Held raised) (sym e) (over a b (is_up a (rules.sharing.self-below a ha)) (rules.sharing.self-below b hb)))
+        (λ e. subst (Held raised) (sym e) (over a b (is_up a (rules.sharing.self_below a ha)) (rules.sharing.self_below b hb)))
         (λ k. keep φ (r.decides.complete (given k))) (Memᴰ.cases_cons m)
 
     decides' : Decides n S' (has raised)
-    decides' = rules-decide n S' (has raised) sound' given'
-        (rules-same n (Wider P (In u) (In w)) (Held raised) (wide-least P (In u) (In w) (Held raised) keep over) has-wide (wide-rules n P (In u) (In w) opening rules))
+    decides' = rules_decide n S' (has raised) sound' given'
+        (rules_same n (Wider P (In u) (In w)) (Held raised) (wide_least P (In u) (In w) (Held raised) keep over) has_wide (wide_rules n P (In u) (In w) opening rules))
 
     inside' : Inside n S'
     inside' φ m = ⊎_elim (λ e. subst (Within n) (sym e) (ha, hb)) (r.inside φ) (Memᴰ.cases_cons m)
 
     ancestors' : Columns t s
-    ancestors' = columns-raised f.below f.above u w t s r.mirrored.ancestors (rises up_small up) (rises down-small down)
+    ancestors' = columns_raised f.below f.above u w t s r.mirrored.ancestors (rises up_small up) (rises down-small down)
 
     -- before against below is the one clash that there can be
     module _ (c : Bool) (test : Crossed f.before t s c) where
       within' : (φ : Fact) → Held raised φ → Within n φ
-      within' φ p = settled-within n S' inside' (sound' φ p)
+      within' φ p = settled_within n S' inside' (sound' φ p)
 
-      pub raised-clash : c ≡ true → Clash n S'
-      raised-clash e = crossed-clash n few raised ancestors' within' c test S' sound' e
+      pub raised_clash : c ≡ true → Clash n S'
+      raised_clash e = crossed_clash n few raised ancestors' within' c test S' sound' e
 
-      pub raised-ready : c ≡ false → Ready n S' raised
+      pub raised_ready : c ≡ false → Ready n S' raised
       unfolding has
-      raised-ready e = record {
+      raised_ready e = record {
         inside = inside';
-        free = free-clash n S' raised decides' (record {
-          apart = no-clash.apart;
-          clear = uncrossed-clear n few raised ancestors' within' c test e;
-          bare = record { no-leaf = no-clash.bare.no-leaf; no_label = no-clash.bare.no_label };
+        free = free_clash n S' raised decides' (record {
+          apart = no_clash.apart;
+          clear = uncrossed_clear n few raised ancestors' within' c test e;
+          bare = record { no_leaf = no_clash.bare.no_leaf; no_label = no_clash.bare.no_label };
         });
         decides = decides';
         mirrored = record { parents = r.mirrored.parents; ancestors = ancestors'; siblings = r.mirrored.siblings };
       }
         where
-          no-clash : Free P
-          no-clash = clash-free n S f r.decides r.free
+          no_clash : Free P
+          no_clash = clash_free n S f r.decides r.free
 
 -- ---- the contract
 
-pub entered-clash : (n : ℕ) (f : Facts) (A : List Fact) → ((S : List Fact) → Ready n S f → Clash n (A ++ S)) → EnteredOf n f A (record { clash = true; facts = f })
-entered-clash n f A h = record { clashes = λ e. h; kept = λ e. refl; settles = λ e. absurd (false≢true (sym e)) }
+pub entered_clash : (n : ℕ) (f : Facts) (A : List Fact) → ((S : List Fact) → Ready n S f → Clash n (A ++ S)) → EnteredOf n f A (record { clash = true; facts = f })
+entered_clash n f A h = record { clashes = λ e. h; kept = λ e. refl; settles = λ e. absurd (false≢true (sym e)) }
 
-pub entered-well : (n : ℕ) (f : Facts) (A : List Fact) (g : Facts) → ((S : List Fact) → Ready n S f → Ready n (A ++ S) g) → EnteredOf n f A (record { clash = false; facts = g })
-entered-well n f A g h = record { clashes = λ e. absurd (false≢true e); kept = λ e. absurd (false≢true e); settles = λ e. h }
+pub entered_well : (n : ℕ) (f : Facts) (A : List Fact) (g : Facts) → ((S : List Fact) → Ready n S f → Ready n (A ++ S) g) → EnteredOf n f A (record { clash = false; facts = g })
+entered_well n f A g h = record { clashes = λ e. absurd (false≢true e); kept = λ e. absurd (false≢true e); settles = λ e. h }
 
 -- what is entered, as the test of `apart` says
-pub entered-as : {n : ℕ} {f : Facts} (a b : ℕ) {p q : Bool} {r : Result} → p ≡ q → EnteredOf n f (entering a b q) r → EnteredOf n f (entering a b p) r
-entered-as {n} {f} a b {r = r} e w = subst (λ (p : Bool). EnteredOf n f (entering a b p) r) (sym e) w
+pub entered_as : {n : ℕ} {f : Facts} (a b : ℕ) {p q : Bool} {r : Result} → p ≡ q → EnteredOf n f (entering a b q) r → EnteredOf n f (entering a b p) r
+entered_as {n} {f} a b {r = r} e w = subst (λ (p : Bool). EnteredOf n f (entering a b p) r) (sym e) w
 
-pub clash-entering : (n : ℕ) (S : List Fact) (a b : ℕ) (apart : Bool) → Clash n (below a b ∷ S) → Clash n (entering a b apart ++ S)
-clash-entering n S a b false c = c
-clash-entering n S a b true c =
-    clash-mono n _ _ (λ f m. ⊎_elim (λ e. Memᴰ.head e) (λ k. Memᴰ.tail (Memᴰ.tail k)) (Memᴰ.cases_cons m)) c
+pub clash_entering : (n : ℕ) (S : List Fact) (a b : ℕ) (apart : Bool) → Clash n (below a b ∷ S) → Clash n (entering a b apart ++ S)
+clash_entering n S a b false c = c
+clash_entering n S a b true c =
+    clash_mono n _ _ (λ f m. ⊎_elim (λ e. Memᴰ.head e) (λ k. Memᴰ.tail (Memᴰ.tail k)) (Memᴰ.cases_cons m)) c
 
 -- where the test says that b is at or above a, or that a leaf is
 module _ (n : ℕ) (f : Facts) (a b : ℕ) (few : n ≤ 16) (ha : a < n) (small : row f.above a < 65536)
     (p q : Bool) (d : p ≡ bit (row f.below b) a) (e : q ≡ meets (row f.above a) f.leaf) (t : (p || q) ≡ true) where
   pub follows : (S : List Fact) → Ready n S f → Settled n (below a b ∷ S) (below b a)
-  follows S w = back-tested n S f a b few ha small w (⊎_elim (λ y. inl (sym d ∙ y)) (λ y. inr (sym e ∙ y)) (or_yes p q t))
+  follows S w = back_tested n S f a b few ha small w (⊎_elim (λ y. inl (sym d ∙ y)) (λ y. inr (sym e ∙ y)) (or_yes p q t))
 
   -- a and b of a chain join are not such
-  not-apart : (S : List Fact) → Ready n S f → Forked f a b → ⊥
+  not_apart : (S : List Fact) → Ready n S f → Forked f a b → ⊥
   unfolding has
-  not-apart S w k =
-      ⊎_elim (λ y. k.not-above (sym d ∙ y))
-      (λ y. let l = meets-out (row f.above a) f.leaf small (sym e ∙ y) in
-      no-leaf-above n few S f a b ha w k l.0 (in_row _ l.0 small l.1) l.1 l.2) (or_yes p q t)
+  not_apart S w k =
+      ⊎_elim (λ y. k.not_above (sym d ∙ y))
+      (λ y. let l = meets_out (row f.above a) f.leaf small (sym e ∙ y) in
+      no_leaf_above n few S f a b ha w k l.0 (in_row _ l.0 small l.1) l.1 l.2) (or_yes p q t)
 
-  pub entered-same : (S : List Fact) → Ready n S f → (apart : Bool) → (Yes apart → Forked f a b) → (r : Result) → MergedOf n f a b r → EnteredOf n f (entering a b apart) r
-  entered-same S w false k r m = record {
+  pub entered_same : (S : List Fact) → Ready n S f → (apart : Bool) → (Yes apart → Forked f a b) → (r : Result) → MergedOf n f a b r → EnteredOf n f (entering a b apart) r
+  entered_same S w false k r m = record {
     clashes = λ c S w. m.clashes c S w (follows S w);
     kept = m.kept;
     settles = λ c S w. m.settles c S w (follows S w);
   }
-  entered-same S w true k r m = absurd (not-apart S w (k refl))
+  entered_same S w true k r m = absurd (not_apart S w (k refl))

@@ -15,9 +15,9 @@ entering a b true = below a b ∷ differ b a ∷ []
 -- both are above one variable, and b is not above a: as in a chain join
 pub record Forked (f : Facts) (a b : ℕ) : Type 0 where
   pub under : ℕ
-  pub above-a : Yes (has f (below a under))
-  pub above-b : Yes (has f (below b under))
-  pub not-above : ¬ Yes (has f (below b a))
+  pub above_a : Yes (has f (below a under))
+  pub above_b : Yes (has f (below b under))
+  pub not_above : ¬ Yes (has f (below b a))
 
 -- the facts A entered
 pub record EnteredOf (n : ℕ) (f : Facts) (A : List Fact) (r : Settled) : Type 0 where

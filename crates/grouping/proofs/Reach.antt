@@ -5,9 +5,9 @@ use mathlib.Core.List.{List}
 use Prim.Native.Nat.{ℕ}
 use Rattle.meaning.specs.Tree.{Var}
 use Rattle.meaning.specs.Constraint.{Fact, below, leaf}
-use Rattle.meaning.specs.Settled.{Settled, chain, leaf-below}
+use Rattle.meaning.specs.Settled.{Settled, chain, leaf_below}
 use Rattle.meaning.specs.Closed.{Within, Inside, Sharing}
-use Rattle.meaning.proofs.Least.{settled-within}
+use Rattle.meaning.proofs.Least.{settled_within}
 use Rattle.grouping.proofs.Glue.{Cut}
 
 module _ (P : Fact → Type 0) (X : Var → Type 0) where
@@ -27,15 +27,15 @@ pub record Reach (P : Fact → Type 0) (X Up Down : Var → Type 0) : Type 0 whe
   pub is_down : (x : Var) → Under P X x → Down x
   pub up_is : (x : Var) → Up x → Above P X x ⊎ (Leafy P X × Above P Down x)
   pub is_up : (x : Var) → Above P X x → Up x
-  pub far-up : (x : Var) → Leafy P X → Above P Down x → Up x
+  pub far_up : (x : Var) → Leafy P X → Above P Down x → Up x
 
 module _ (n : ℕ) (T : List Fact) (inside : Inside n T) (P : Fact → Type 0) (X Up Down : Var → Type 0) (s : Sharing n P)
     (sound : (φ : Fact) → P φ → Settled n T φ) (due : (x y : Var) → X x → X y → Settled n T (below x y)) (r : Reach P X Up Down) where
   pub within : (φ : Fact) → P φ → Within n φ
-  within φ u = settled-within n T inside (sound φ u)
+  within φ u = settled_within n T inside (sound φ u)
 
   itself : {x : Var} → X x → P (below x x)
-  itself u = s.self-below _ (settled-within n T inside (due _ _ u u)).0
+  itself u = s.self_below _ (settled_within n T inside (due _ _ u u)).0
 
   leafy : {x : Var} → P (leaf x) → Up x → Leafy P X
   leafy {x} l u = ⊎_elim (λ a. (x, a, l)) (λ a. a.0) (r.up_is x u)
@@ -49,21 +49,21 @@ module _ (n : ℕ) (T : List Fact) (inside : Inside n T) (P : Fact → Type 0) (
     ends = record {
       up = λ x y a u. ⊎_elim
           (λ b. r.is_up x (b.0, b.1, s.chain _ _ _ a b.2))
-          (λ b. r.far-up x b.0 (b.1.0, b.1.1, s.chain _ _ _ a b.1.2)) (r.up_is y u);
+          (λ b. r.far_up x b.0 (b.1.0, b.1.1, s.chain _ _ _ a b.1.2)) (r.up_is y u);
       down = λ x y u a. let b = r.down_is x u in r.is_down y (b.0, b.1, s.chain _ _ _ b.2 a);
     };
-    leaf-up = λ x y l u v. r.far-up y (leafy l u) (y, v, s.self-below y (within _ (r.down_is y v).2).1);
-    leaf-down = λ x l u. ⊎_elim
-        (λ b. r.is_down x (b.0, b.1, s.leaf-below _ _ l b.2))
-        (λ b. let d = r.down_is _ b.1.1 in r.is_down x (d.0, d.1, s.chain _ _ _ d.2 (s.leaf-below _ _ l b.1.2))) (r.up_is x u);
+    leaf_up = λ x y l u v. r.far_up y (leafy l u) (y, v, s.self_below y (within _ (r.down_is y v).2).1);
+    leaf_down = λ x l u. ⊎_elim
+        (λ b. r.is_down x (b.0, b.1, s.leaf_below _ _ l b.2))
+        (λ b. let d = r.down_is _ b.1.1 in r.is_down x (d.0, d.1, s.chain _ _ _ d.2 (s.leaf_below _ _ l b.1.2))) (r.up_is x u);
   }
 
-  near-glue : {x y : Var} → Above P X x → Down y → Settled n T (below x y)
-  near-glue {x} {y} a v = let b = r.down_is y v in chain (sound _ a.2) (chain (due _ _ a.1 b.1) (sound _ b.2))
+  near_glue : {x y : Var} → Above P X x → Down y → Settled n T (below x y)
+  near_glue {x} {y} a v = let b = r.down_is y v in chain (sound _ a.2) (chain (due _ _ a.1 b.1) (sound _ b.2))
 
   -- a leaf at or above X is the same as all that is below it
   pub glue : (x y : Var) → Up x → Down y → Settled n T (below x y)
   glue x y u v =
-      ⊎_elim (λ a. near-glue a v)
-      (λ a. chain (sound _ a.1.2) (chain (leaf-below (sound _ a.0.2) (near-glue a.0.1 a.1.1)) (near-glue a.0.1 v)))
+      ⊎_elim (λ a. near_glue a v)
+      (λ a. chain (sound _ a.1.2) (chain (leaf_below (sound _ a.0.2) (near_glue a.0.1 a.1.1)) (near_glue a.0.1 v)))
       (r.up_is x u)

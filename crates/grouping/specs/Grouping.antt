@@ -47,11 +47,11 @@ pub record Pending (n : ℕ) (T : List Fact) (x : ℕ) (f : Facts) : Type 0 wher
 
 -- the rules of siblings, but for what passes through a group: from what is earlier to what is later, and from its parents to either
 pub record Through (P : Fact → Type 0) (Over First Last : Var → Type 0) : Type 0 where
-  pub before-chain : (x y z : Var) → P (before x y) → P (before y z) → P (before x z) ⊎ (First x × Last z)
-  pub before-differ : (x y : Var) → P (before x y) → P (differ x y)
+  pub before_chain : (x y z : Var) → P (before x y) → P (before y z) → P (before x z) ⊎ (First x × Last z)
+  pub before_differ : (x y : Var) → P (before x y) → P (differ x y)
   pub before_child : (x y u : Var) → P (before x y) → P (child u x) → P (child u y) ⊎ (Over u × Last y)
-  pub after-child : (x y u : Var) → P (before x y) → P (child u y) → P (child u x) ⊎ (Over u × First x)
-  pub same-before : (x y u : Var) → P (below x u) → P (below u x) → P (before x y) → P (before u y)
+  pub after_child : (x y u : Var) → P (before x y) → P (child u y) → P (child u x) ⊎ (Over u × First x)
+  pub same_before : (x y u : Var) → P (below x u) → P (below u x) → P (before x y) → P (before u y)
   pub same_after : (x y u : Var) → P (below y u) → P (below u y) → P (before x y) → P (before x u)
 
 -- `of` are those that have R with one of the group
@@ -65,22 +65,22 @@ pub record Grouped (n : ℕ) (T : List Fact) (group parents earlier later : ℕ)
   pub complete : (φ : Fact) → Memᴰ φ T → Held f φ
   pub siblings : Through (Held f) (In parents) (In earlier) (In later)
   pub one_parent : (i j k : Var) → Held f (child i k) → Held f (child j k) → Awaits (In parents) (Held f) (below i j)
-  pub one-group : (i j : Var) → In group i → In group j → Held f (below i j)
-  pub same-group : (i j : Var) → Held f (below i j) → Held f (below j i) → In group i → In group j
-  pub is-parents : Having (λ i k. Held f (child i k)) group parents
-  pub is-earlier : Having (λ i k. Held f (before i k)) group earlier
+  pub one_group : (i j : Var) → In group i → In group j → Held f (below i j)
+  pub same_group : (i j : Var) → Held f (below i j) → Held f (below j i) → In group i → In group j
+  pub is_parents : Having (λ i k. Held f (child i k)) group parents
+  pub is_earlier : Having (λ i k. Held f (before i k)) group earlier
   pub is_later : Having (λ i k. Held f (before k i)) group later
 
 -- tables with other rows of siblings
-abbrev pub withSiblings : Facts → List ℕ → List ℕ → Facts
-withSiblings f b a = record { child = f.child; parent = f.parent; below = f.below; above = f.above; differ = f.differ; before = b; after = a; root = f.root; label = f.label; leaf = f.leaf }
+abbrev pub with_siblings : Facts → List ℕ → List ℕ → Facts
+with_siblings f b a = record { child = f.child; parent = f.parent; below = f.below; above = f.above; differ = f.differ; before = b; after = a; root = f.root; label = f.label; leaf = f.leaf }
 
 -- b and a are before and after, shared by a group: it has what is earlier and what is later than one of it
 pub record SharesBefore (before after : List ℕ) (group earlier later : ℕ) (b a : List ℕ) : Type 0 where
-  pub is-earlier : Union after group earlier
+  pub is_earlier : Union after group earlier
   pub is_later : Union before group later
-  pub shared-before : Spread before group later earlier b
-  pub shared-after : Spread after group earlier later a
+  pub shared_before : Spread before group later earlier b
+  pub shared_after : Spread after group earlier later a
 
 -- how many pairs a table lacks
 unfoldable pub lacking : List ℕ → ℕ
@@ -90,7 +90,7 @@ lacking t = sum 16 (λ i. sum 16 (λ j. one (neg (bit (row t i) j))))
 pub record UnifiedOf (f : Facts) (x : ℕ) (r : Round) : Type 0 where
   pub clashes : r.clash ≡ true → (n : ℕ) (T : List Fact) → Pending n T x f → Clash n T
   pub groups : r.clash ≡ false → (n : ℕ) (T : List Fact) → Pending n T x f → (earlier later : ℕ) (b a : List ℕ)
-      → SharesBefore r.facts.before r.facts.after r.group earlier later b a → Grouped n T r.group r.next earlier later (withSiblings r.facts b a)
+      → SharesBefore r.facts.before r.facts.after r.group earlier later b a → Grouped n T r.group r.next earlier later (with_siblings r.facts b a)
   pub keeps : r.clash ≡ false → (r.facts.before ≡ f.before) × (r.facts.after ≡ f.after)
   -- with each group that is merged below lacks less
   pub falls : r.clash ≡ false → Gap f.below x → lacking r.facts.below < lacking f.below

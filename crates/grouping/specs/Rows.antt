@@ -9,7 +9,7 @@ pub record Gap (t : List ℕ) (rows : ℕ) : Type 0 where
   pub at : ℕ
   pub lacks : ℕ
   pub at_in : Yes (bit rows at)
-  pub lacks-in : Yes (bit rows lacks)
+  pub lacks_in : Yes (bit rows lacks)
   pub missing : ¬ Yes (bit (row t at) lacks)
 
 -- one of the rows named has another label than l

@@ -1,11 +1,11 @@
 // Labels are bytes. Capitals count as small letters wherever two of them are compared.
 ghost use Rattle.std.specs.Prelude.{◌≡◌, eqb};
-ghost use Rattle.meaning.specs.Tree.{isCapital, folded};
-ghost use Rattle.meaning.specs.Paths.{isSmall, isLetter};
+ghost use Rattle.meaning.specs.Tree.{is_capital, folded};
+ghost use Rattle.meaning.specs.Paths.{is_small, is_letter};
 
 // A to Z.
 fn is_capital(label: u8) -> bool
-    ensures { result ≡ isCapital label }
+    ensures { result ≡ is_capital label }
 {
     if 65 <= label { label <= 90 } else { false }
 }
@@ -28,14 +28,14 @@ pub fn same(one: u8, other: u8) -> bool
 
 // a to z: how the name of an axis begins.
 pub fn is_small(byte: u8) -> bool
-    ensures { result ≡ isSmall byte }
+    ensures { result ≡ is_small byte }
 {
     if 97 <= byte { byte <= 122 } else { false }
 }
 
 // a to z or A to Z: what a path tests for.
 pub fn is_letter(byte: u8) -> bool
-    ensures { result ≡ isLetter byte }
+    ensures { result ≡ is_letter byte }
 {
     if is_small(byte) {
         return true;

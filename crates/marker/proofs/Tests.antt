@@ -8,12 +8,12 @@ unfolding neg
 not_neg true = refl
 not_neg false = refl
 
-pub and-neg-true : (a b : Bool) → b ≡ true → false ≡ a and neg b
+pub and_neg_true : (a b : Bool) → b ≡ true → false ≡ a and neg b
 unfolding neg ◌and◌
-and-neg-true true b e = rw e
-and-neg-true false b e = refl
+and_neg_true true b e = rw e
+and_neg_true false b e = refl
 
-pub and-neg-false : (a b : Bool) → b ≡ false → a ≡ a and neg b
+pub and_neg_false : (a b : Bool) → b ≡ false → a ≡ a and neg b
 unfolding neg ◌and◌
-and-neg-false true b e = rw e
-and-neg-false false b e = refl
+and_neg_false true b e = rw e
+and_neg_false false b e = refl

@@ -8,79 +8,79 @@ use Prim.Native.Nat.{ℕ, zero, suc, max, ◌≤◌, ◌<◌}
 use native.Mathlib.Nat.{le_refl, le_trans, zero-lt-suc, not-suc-le-zero}
 use native.Mathlib.Omega.{arith}
 use lib.Dec.{leb}
-use Rattle.meaning.specs.Tree.{Var, isCapital}
+use Rattle.meaning.specs.Tree.{Var, is_capital}
 use Rattle.meaning.specs.Constraint.{Constraint, is_same, is-root, named, vars}
 use Rattle.meaning.specs.Finite.{Yes}
-use Rattle.meaning.specs.Paths.{Axis, to-self, to-child, to-parent, to-descendant, to-ancestor, to-descendant-or-self, to-ancestor-or-self, to-following-sibling, to-preceding-sibling, isSmall, isLetter, Test, letter, any, Path, alone, from-root, from-here, Steps, one, more, Step, move, having}
-use Rattle.meaning.specs.PathRecords.{Sheet, blankSheet, nextTaken, withRecords, rootedBy, rooted, axisRecord, moveRecords, pathSheet, stepsSheet, stepSheet, endSheet, lineSheet, linesSheet}
+use Rattle.meaning.specs.Paths.{Axis, to-self, to_child, to_parent, to-descendant, to-ancestor, to-descendant-or-self, to-ancestor-or-self, to-following-sibling, to-preceding-sibling, is_small, is_letter, Test, letter, any, Path, alone, from-root, from-here, Steps, one, more, Step, move, having}
+use Rattle.meaning.specs.PathRecords.{Sheet, blank_sheet, next_taken, with_records, rooted_by, rooted, axis_record, move_records, path_sheet, steps_sheet, step_sheet, end_sheet, line_sheet, lines_sheet}
 use Rattle.meaning.proofs.Tests.{and_left, and_right, either, is_le}
-use Rattle.meaning.proofs.Labels.{capital-range}
-use Rattle.meaning.proofs.Constraints.{OnLabelOf, named-most}
+use Rattle.meaning.proofs.Labels.{capital_range}
+use Rattle.meaning.proofs.Constraints.{OnLabelOf, named_most}
 
 -- ---- the records of a move
 
-axis-named : (k : Axis) (x y : Var) → named (axisRecord k x y) ≡ suc (max x y)
-unfolding named axisRecord
-axis-named to-self x y = refl
-axis-named to-child x y = refl
-axis-named to-parent x y = omega arith
-axis-named to-descendant x y = refl
-axis-named to-ancestor x y = omega arith
-axis-named to-descendant-or-self x y = refl
-axis-named to-ancestor-or-self x y = omega arith
-axis-named to-following-sibling x y = refl
-axis-named to-preceding-sibling x y = omega arith
+axis_named : (k : Axis) (x y : Var) → named (axis_record k x y) ≡ suc (max x y)
+unfolding named axis_record
+axis_named to-self x y = refl
+axis_named to_child x y = refl
+axis_named to_parent x y = omega arith
+axis_named to-descendant x y = refl
+axis_named to-ancestor x y = omega arith
+axis_named to-descendant-or-self x y = refl
+axis_named to-ancestor-or-self x y = omega arith
+axis_named to-following-sibling x y = refl
+axis_named to-preceding-sibling x y = omega arith
 
-pub move-vars : (k : Axis) (t : Test) (x y : Var) → vars (moveRecords k t x y) ≡ suc (max x y)
-unfolding vars named moveRecords
-move-vars k (letter b l) x y = let e = axis-named k x y in omega arith
-move-vars k any x y = let e = axis-named k x y in omega arith
+pub move_vars : (k : Axis) (t : Test) (x y : Var) → vars (move_records k t x y) ≡ suc (max x y)
+unfolding vars named move_records
+move_vars k (letter b l) x y = let e = axis_named k x y in omega arith
+move_vars k any x y = let e = axis_named k x y in omega arith
 
 -- its label, if it has one, is a letter
 abbrev pub Lettered : Constraint → Type 0
-Lettered = OnLabelOf (λ l. Yes (isLetter l))
+Lettered = OnLabelOf (λ l. Yes (is_letter l))
 
-axis-lettered : (k : Axis) (x y : Var) → Lettered (axisRecord k x y)
-unfolding axisRecord
-axis-lettered to-self x y = tt
-axis-lettered to-child x y = tt
-axis-lettered to-parent x y = tt
-axis-lettered to-descendant x y = tt
-axis-lettered to-ancestor x y = tt
-axis-lettered to-descendant-or-self x y = tt
-axis-lettered to-ancestor-or-self x y = tt
-axis-lettered to-following-sibling x y = tt
-axis-lettered to-preceding-sibling x y = tt
+axis_lettered : (k : Axis) (x y : Var) → Lettered (axis_record k x y)
+unfolding axis_record
+axis_lettered to-self x y = tt
+axis_lettered to_child x y = tt
+axis_lettered to_parent x y = tt
+axis_lettered to-descendant x y = tt
+axis_lettered to-ancestor x y = tt
+axis_lettered to-descendant-or-self x y = tt
+axis_lettered to-ancestor-or-self x y = tt
+axis_lettered to-following-sibling x y = tt
+axis_lettered to-preceding-sibling x y = tt
 
-pub small-range : (b : ℕ) → Yes (isSmall b) → (97 ≤ b) × (b ≤ 122)
-unfolding isSmall
-small-range b y = (is_le (and_left (leb b 122) y), is_le (and_right (leb 97 b) y))
+pub small_range : (b : ℕ) → Yes (is_small b) → (97 ≤ b) × (b ≤ 122)
+unfolding is_small
+small_range b y = (is_le (and_left (leb b 122) y), is_le (and_right (leb 97 b) y))
 
-pub letter-range : (b : ℕ) → Yes (isLetter b) → (65 ≤ b) × (b ≤ 122)
-unfolding isLetter
-letter-range b l = either {a = isSmall b} small capital l
+pub letter_range : (b : ℕ) → Yes (is_letter b) → (65 ≤ b) × (b ≤ 122)
+unfolding is_letter
+letter_range b l = either {a = is_small b} small capital l
   where
-    small : Yes (isSmall b) → (65 ≤ b) × (b ≤ 122)
-    small y = let r = small-range b y in let m = r.0 in (omega arith, r.1)
+    small : Yes (is_small b) → (65 ≤ b) × (b ≤ 122)
+    small y = let r = small_range b y in let m = r.0 in (omega arith, r.1)
 
-    capital : Yes (isCapital b) → (65 ≤ b) × (b ≤ 122)
-    capital y = let r = capital-range b y in let m = r.1 in (r.0, omega arith)
+    capital : Yes (is_capital b) → (65 ≤ b) × (b ≤ 122)
+    capital y = let r = capital_range b y in let m = r.1 in (r.0, omega arith)
 
-move-lettered : (k : Axis) (t : Test) (x y : Var) (c : Constraint) → Memᴰ c (moveRecords k t x y) → Lettered c
-unfolding moveRecords
-move-lettered k (letter b l) x y c m =
-    ⊎_elim (λ e. subst Lettered (sym e) (axis-lettered k x y))
+move_lettered : (k : Axis) (t : Test) (x y : Var) (c : Constraint) → Memᴰ c (move_records k t x y) → Lettered c
+unfolding move_records
+move_lettered k (letter b l) x y c m =
+    ⊎_elim (λ e. subst Lettered (sym e) (axis_lettered k x y))
     (λ m. ⊎_elim (λ e. subst Lettered (sym e) l) (λ m. absurd (Memᴰ.not-nil m)) (Memᴰ.cases_cons m))
     (Memᴰ.cases_cons m)
-move-lettered k any x y c m =
-    ⊎_elim (λ e. subst Lettered (sym e) (axis-lettered k x y)) (λ m. absurd (Memᴰ.not-nil m)) (Memᴰ.cases_cons m)
+move_lettered k any x y c m =
+    ⊎_elim (λ e. subst Lettered (sym e) (axis_lettered k x y)) (λ m. absurd (Memᴰ.not-nil m)) (Memᴰ.cases_cons m)
 
 -- ---- what every sheet has
 
 pub record Fine (w : Sheet) : Type 0 where
   pub first : 0 < w.next
-  pub root-low : w.rootAt < w.next
-  pub recorded : 0 < w.rootAt → Memᴰ (is-root w.rootAt) w.records
+  pub root_low : w.root_at < w.next
+  pub recorded : 0 < w.root_at → Memᴰ (is-root w.root_at) w.records
   pub low : (c : Constraint) → Memᴰ c w.records → named c ≤ w.next
   pub lettered : (c : Constraint) → Memᴰ c w.records → Lettered c
 
@@ -89,25 +89,25 @@ pub record Grown (w v : Sheet) : Type 0 where
   pub next_le : w.next ≤ v.next
   pub keeps : (c : Constraint) → Memᴰ c w.records → Memᴰ c v.records
 
-grown-trans : {u w v : Sheet} → Grown u w → Grown w v → Grown u v
-grown-trans g h = record { fine = h.fine; next_le = le_trans g.next_le h.next_le; keeps = λ c m. h.keeps c (g.keeps c m) }
+grown_trans : {u w v : Sheet} → Grown u w → Grown w v → Grown u v
+grown_trans g h = record { fine = h.fine; next_le = le_trans g.next_le h.next_le; keeps = λ c m. h.keeps c (g.keeps c m) }
 
-pub blank-fine : Fine blankSheet
-unfolding blankSheet
-blank-fine = record {
+pub blank_fine : Fine blank_sheet
+unfolding blank_sheet
+blank_fine = record {
   first = le_refl _;
-  root-low = le_refl _;
+  root_low = le_refl _;
   recorded = λ h. absurd (not-suc-le-zero h);
   low = λ c m. absurd (Memᴰ.not-nil m);
   lettered = λ c m. absurd (Memᴰ.not-nil m);
 }
 
-pub next-taken-grown : (w : Sheet) → Fine w → Grown w (nextTaken w)
-unfolding nextTaken
-next-taken-grown w f = record {
+pub next_taken_grown : (w : Sheet) → Fine w → Grown w (next_taken w)
+unfolding next_taken
+next_taken_grown w f = record {
   fine = record {
     first = zero-lt-suc _;
-    root-low = let h = f.root-low in omega arith;
+    root_low = let h = f.root_low in omega arith;
     recorded = f.recorded;
     low = λ c m. let h = f.low c m in omega arith;
     lettered = f.lettered;
@@ -116,13 +116,13 @@ next-taken-grown w f = record {
   keeps = λ c m. m;
 }
 
-with-records-grown : (cs : List Constraint) (w : Sheet) → Fine w → ((c : Constraint) → Memᴰ c cs → named c ≤ w.next) → ((c : Constraint) → Memᴰ c cs → Lettered c)
-    → Grown w (withRecords cs w)
-unfolding withRecords
-with-records-grown cs w f low let-ok = record {
+with_records_grown : (cs : List Constraint) (w : Sheet) → Fine w → ((c : Constraint) → Memᴰ c cs → named c ≤ w.next) → ((c : Constraint) → Memᴰ c cs → Lettered c)
+    → Grown w (with_records cs w)
+unfolding with_records
+with_records_grown cs w f low let-ok = record {
   fine = record {
     first = f.first;
-    root-low = f.root-low;
+    root_low = f.root_low;
     recorded = λ h. Memᴰ.append_left cs (f.recorded h);
     low = λ c m. ⊎_elim (f.low c) (low c) (Memᴰ.append_cases w.records m);
     lettered = λ c m. ⊎_elim (f.lettered c) (let-ok c) (Memᴰ.append_cases w.records m);
@@ -132,28 +132,28 @@ with-records-grown cs w f low let-ok = record {
 }
 
 -- after a start at the root: the root has a number and a record
-root-named : (x : Var) → named (is-root x) ≤ suc x
+root_named : (x : Var) → named (is-root x) ≤ suc x
 unfolding named
-root-named x = le_refl _
+root_named x = le_refl _
 
-pub next_low : (w : Sheet) → w.next < (nextTaken w).next
-unfolding nextTaken
+pub next_low : (w : Sheet) → w.next < (next_taken w).next
+unfolding next_taken
 next_low w = le_refl _
 
 pub record HasRoot (w v : Sheet) : Type 0 where
   pub grown : Grown w v
-  pub positive : 0 < v.rootAt
+  pub positive : 0 < v.root_at
 
-rooted-by : (w : Sheet) → Fine w → (r : Var) → w.rootAt ≡ r → HasRoot w (rootedBy r w)
-unfolding rootedBy
-rooted-by w f zero e = record {
+rooted_by_lem : (w : Sheet) → Fine w → (r : Var) → w.root_at ≡ r → HasRoot w (rooted_by r w)
+unfolding rooted_by
+rooted_by_lem w f zero e = record {
   grown = record {
     fine = record {
       first = zero-lt-suc _;
-      root-low = le_refl _;
+      root_low = le_refl _;
       recorded = λ h. Memᴰ.append_right w.records (Memᴰ.head refl);
-      low = λ c m. ⊎_elim (λ k. let h = f.low c k in omega arith) (λ k. root-record c k) (Memᴰ.append_cases w.records m);
-      lettered = λ c m. ⊎_elim (f.lettered c) (λ k. root-lettered c k) (Memᴰ.append_cases w.records m);
+      low = λ c m. ⊎_elim (λ k. let h = f.low c k in omega arith) (λ k. root_record c k) (Memᴰ.append_cases w.records m);
+      lettered = λ c m. ⊎_elim (f.lettered c) (λ k. root_lettered c k) (Memᴰ.append_cases w.records m);
     };
     next_le = omega arith;
     keeps = λ c m. Memᴰ.append_left _ m;
@@ -164,116 +164,116 @@ rooted-by w f zero e = record {
     only : (c : Constraint) → Memᴰ c (is-root w.next ∷ []) → c ≡ is-root w.next
     only c k = ⊎_elim (λ e. e) (λ m. absurd (Memᴰ.not-nil m)) (Memᴰ.cases_cons k)
 
-    root-record : (c : Constraint) → Memᴰ c (is-root w.next ∷ []) → named c ≤ suc w.next
-    root-record c k = subst (λ (d : Constraint). named d ≤ suc w.next) (sym (only c k)) (root-named w.next)
+    root_record : (c : Constraint) → Memᴰ c (is-root w.next ∷ []) → named c ≤ suc w.next
+    root_record c k = subst (λ (d : Constraint). named d ≤ suc w.next) (sym (only c k)) (root_named w.next)
 
-    root-lettered : (c : Constraint) → Memᴰ c (is-root w.next ∷ []) → Lettered c
-    root-lettered c k = subst Lettered (sym (only c k)) tt
-rooted-by w f (suc r) e = record {
+    root_lettered : (c : Constraint) → Memᴰ c (is-root w.next ∷ []) → Lettered c
+    root_lettered c k = subst Lettered (sym (only c k)) tt
+rooted_by_lem w f (suc r) e = record {
   grown = record { fine = f; next_le = le_refl _; keeps = λ c m. m };
   positive = subst (λ (k : Var). 0 < k) (sym e) (zero-lt-suc r);
 }
 
-pub rooted-grown : (w : Sheet) → Fine w → HasRoot w (rooted w)
+pub rooted_grown : (w : Sheet) → Fine w → HasRoot w (rooted w)
 unfolding rooted
-rooted-grown w f = rooted-by w f w.rootAt refl
+rooted_grown w f = rooted_by_lem w f w.root_at refl
 
 -- ---- the sheet of a path, of steps and of a step
 
-move-grown : (k : Axis) (t : Test) (x y : Var) (w : Sheet) → Fine w → x < w.next → y < w.next → Grown w (withRecords (moveRecords k t x y) w)
-move-grown k t x y w f l m =
-    with-records-grown (moveRecords k t x y) w f
-    (λ c i. let h = named-most (moveRecords k t x y) c i in let e = move-vars k t x y in omega arith)
-    (move-lettered k t x y)
+move_grown : (k : Axis) (t : Test) (x y : Var) (w : Sheet) → Fine w → x < w.next → y < w.next → Grown w (with_records (move_records k t x y) w)
+move_grown k t x y w f l m =
+    with_records_grown (move_records k t x y) w f
+    (λ c i. let h = named_most (move_records k t x y) c i in let e = move_vars k t x y in omega arith)
+    (move_lettered k t x y)
 
 mutual
-  unfolding stepSheet
+  unfolding step_sheet
 
-  pub path-grown : (p : Path) (x : Var) (w : Sheet) → Fine w → x < w.next → Grown w (pathSheet p x w)
-  path-grown alone x w f l = (rooted-grown w f).grown
-  path-grown (from-root ss) x w f l =
-      let r = (rooted-grown w f).grown in
-      grown-trans r (steps-grown ss (rooted w).rootAt (rooted w) r.fine r.fine.root-low)
-  path-grown (from-here ss) x w f l = steps-grown ss x w f l
+  pub path_grown : (p : Path) (x : Var) (w : Sheet) → Fine w → x < w.next → Grown w (path_sheet p x w)
+  path_grown alone x w f l = (rooted_grown w f).grown
+  path_grown (from-root ss) x w f l =
+      let r = (rooted_grown w f).grown in
+      grown_trans r (steps_grown ss (rooted w).root_at (rooted w) r.fine r.fine.root_low)
+  path_grown (from-here ss) x w f l = steps_grown ss x w f l
 
-  pub steps-grown : (ss : Steps) (x : Var) (w : Sheet) → Fine w → x < w.next → Grown w (stepsSheet ss x w)
-  steps-grown (one s) x w f l =
-      let g = next-taken-grown w f in
-      grown-trans g (step-grown s x w.next (nextTaken w) g.fine (le_trans l g.next_le) (next_low w))
-  steps-grown (more s ss) x w f l =
-      let g = next-taken-grown w f in
-      let h = step-grown s x w.next (nextTaken w) g.fine (le_trans l g.next_le) (next_low w) in
-      grown-trans g (grown-trans h (steps-grown ss w.next (stepSheet s x w.next (nextTaken w)) h.fine (le_trans (next_low w) h.next_le)))
+  pub steps_grown : (ss : Steps) (x : Var) (w : Sheet) → Fine w → x < w.next → Grown w (steps_sheet ss x w)
+  steps_grown (one s) x w f l =
+      let g = next_taken_grown w f in
+      grown_trans g (step_grown s x w.next (next_taken w) g.fine (le_trans l g.next_le) (next_low w))
+  steps_grown (more s ss) x w f l =
+      let g = next_taken_grown w f in
+      let h = step_grown s x w.next (next_taken w) g.fine (le_trans l g.next_le) (next_low w) in
+      grown_trans g (grown_trans h (steps_grown ss w.next (step_sheet s x w.next (next_taken w)) h.fine (le_trans (next_low w) h.next_le)))
 
-  pub step-grown : (s : Step) (x y : Var) (w : Sheet) → Fine w → x < w.next → y < w.next → Grown w (stepSheet s x y w)
-  step-grown (move k t) x y w f l m = move-grown k t x y w f l m
-  step-grown (having s p) x y w f l m =
-      let g = step-grown s x y w f l m in
-      grown-trans g (path-grown p y (stepSheet s x y w) g.fine (le_trans m g.next_le))
+  pub step_grown : (s : Step) (x y : Var) (w : Sheet) → Fine w → x < w.next → y < w.next → Grown w (step_sheet s x y w)
+  step_grown (move k t) x y w f l m = move_grown k t x y w f l m
+  step_grown (having s p) x y w f l m =
+      let g = step_grown s x y w f l m in
+      grown_trans g (path_grown p y (step_sheet s x y w) g.fine (le_trans m g.next_le))
 
 -- ---- lines
 
-pub end-grown : (ss : Steps) (x : Var) (w : Sheet) → Fine w → x < w.next → Grown w (endSheet ss x w)
-unfolding endSheet
-end-grown (one s) x w f l = step-grown s x 0 w f l f.first
-end-grown (more s ss) x w f l =
-    let g = next-taken-grown w f in
-    let h = step-grown s x w.next (nextTaken w) g.fine (le_trans l g.next_le) (next_low w) in
-    grown-trans g (grown-trans h (end-grown ss w.next (stepSheet s x w.next (nextTaken w)) h.fine (le_trans (next_low w) h.next_le)))
+pub end_grown : (ss : Steps) (x : Var) (w : Sheet) → Fine w → x < w.next → Grown w (end_sheet ss x w)
+unfolding end_sheet
+end_grown (one s) x w f l = step_grown s x 0 w f l f.first
+end_grown (more s ss) x w f l =
+    let g = next_taken_grown w f in
+    let h = step_grown s x w.next (next_taken w) g.fine (le_trans l g.next_le) (next_low w) in
+    grown_trans g (grown_trans h (end_grown ss w.next (step_sheet s x w.next (next_taken w)) h.fine (le_trans (next_low w) h.next_le)))
 
-same-named : (x : Var) → named (is_same x 0) ≤ suc x
+same_named : (x : Var) → named (is_same x 0) ≤ suc x
 unfolding named
-same-named x = omega arith
+same_named x = omega arith
 
-pub line-grown : (p : Path) (w : Sheet) → Fine w → Grown w (lineSheet p w)
-unfolding lineSheet
-line-grown alone w f =
-    let r = (rooted-grown w f).grown in
-    let q : Var = (rooted w).rootAt in
+pub line_grown : (p : Path) (w : Sheet) → Fine w → Grown w (line_sheet p w)
+unfolding line_sheet
+line_grown alone w f =
+    let r = (rooted_grown w f).grown in
+    let q : Var = (rooted w).root_at in
     let only : (c : Constraint) → Memᴰ c (is_same q 0 ∷ []) → c ≡ is_same q 0 = λ c k. ⊎_elim (λ e. e) (λ m. absurd (Memᴰ.not-nil m)) (Memᴰ.cases_cons k) in
-    grown-trans r (with-records-grown (is_same q 0 ∷ []) (rooted w) r.fine
-    (λ c k. subst (λ (d : Constraint). named d ≤ (rooted w).next) (sym (only c k)) (le_trans (same-named q) r.fine.root-low))
+    grown_trans r (with_records_grown (is_same q 0 ∷ []) (rooted w) r.fine
+    (λ c k. subst (λ (d : Constraint). named d ≤ (rooted w).next) (sym (only c k)) (le_trans (same_named q) r.fine.root_low))
     (λ c k. subst Lettered (sym (only c k)) tt))
-line-grown (from-root ss) w f =
-    let r = (rooted-grown w f).grown in
-    grown-trans r (end-grown ss (rooted w).rootAt (rooted w) r.fine r.fine.root-low)
-line-grown (from-here ss) w f =
-    let g = next-taken-grown w f in
-    grown-trans g (end-grown ss w.next (nextTaken w) g.fine (next_low w))
+line_grown (from-root ss) w f =
+    let r = (rooted_grown w f).grown in
+    grown_trans r (end_grown ss (rooted w).root_at (rooted w) r.fine r.fine.root_low)
+line_grown (from-here ss) w f =
+    let g = next_taken_grown w f in
+    grown_trans g (end_grown ss w.next (next_taken w) g.fine (next_low w))
 
-pub lines-grown : (ps : List Path) (w : Sheet) → Fine w → Grown w (linesSheet ps w)
-unfolding linesSheet
-lines-grown [] w f = record { fine = f; next_le = le_refl _; keeps = λ c m. m }
-lines-grown (p ∷ ps) w f = let g = line-grown p w f in grown-trans g (lines-grown ps (lineSheet p w) g.fine)
+pub lines_grown : (ps : List Path) (w : Sheet) → Fine w → Grown w (lines_sheet ps w)
+unfolding lines_sheet
+lines_grown [] w f = record { fine = f; next_le = le_refl _; keeps = λ c m. m }
+lines_grown (p ∷ ps) w f = let g = line_grown p w f in grown_trans g (lines_grown ps (line_sheet p w) g.fine)
 
 -- ---- the next number never falls, whatever the sheet
 
-next-taken-next : (w : Sheet) → w.next ≤ (nextTaken w).next
-unfolding nextTaken
-next-taken-next w = omega arith
+next_taken_next : (w : Sheet) → w.next ≤ (next_taken w).next
+unfolding next_taken
+next_taken_next w = omega arith
 
-rooted-next-by : (w : Sheet) (r : Var) → w.next ≤ (rootedBy r w).next
-unfolding rootedBy
-rooted-next-by w zero = omega arith
-rooted-next-by w (suc r) = le_refl _
+rooted_next_by : (w : Sheet) (r : Var) → w.next ≤ (rooted_by r w).next
+unfolding rooted_by
+rooted_next_by w zero = omega arith
+rooted_next_by w (suc r) = le_refl _
 
-pub rooted-next : (w : Sheet) → w.next ≤ (rooted w).next
+pub rooted_next : (w : Sheet) → w.next ≤ (rooted w).next
 unfolding rooted
-rooted-next w = rooted-next-by w w.rootAt
+rooted_next w = rooted_next_by w w.root_at
 
 mutual
-  unfolding stepSheet
+  unfolding step_sheet
 
-  pub path-next : (p : Path) (x : Var) (w : Sheet) → w.next ≤ (pathSheet p x w).next
-  path-next alone x w = rooted-next w
-  path-next (from-root ss) x w = le_trans (rooted-next w) (steps_next ss (rooted w).rootAt (rooted w))
-  path-next (from-here ss) x w = steps_next ss x w
+  pub path_next : (p : Path) (x : Var) (w : Sheet) → w.next ≤ (path_sheet p x w).next
+  path_next alone x w = rooted_next w
+  path_next (from-root ss) x w = le_trans (rooted_next w) (steps_next ss (rooted w).root_at (rooted w))
+  path_next (from-here ss) x w = steps_next ss x w
 
-  pub steps_next : (ss : Steps) (x : Var) (w : Sheet) → w.next ≤ (stepsSheet ss x w).next
-  steps_next (one s) x w = le_trans (next-taken-next w) (step-next s x w.next (nextTaken w))
+  pub steps_next : (ss : Steps) (x : Var) (w : Sheet) → w.next ≤ (steps_sheet ss x w).next
+  steps_next (one s) x w = le_trans (next_taken_next w) (step_next s x w.next (next_taken w))
   steps_next (more s ss) x w =
-      le_trans (next-taken-next w) (le_trans (step-next s x w.next (nextTaken w)) (steps_next ss w.next (stepSheet s x w.next (nextTaken w))))
+      le_trans (next_taken_next w) (le_trans (step_next s x w.next (next_taken w)) (steps_next ss w.next (step_sheet s x w.next (next_taken w))))
 
-  pub step-next : (s : Step) (x y : Var) (w : Sheet) → w.next ≤ (stepSheet s x y w).next
-  step-next (move k t) x y w = le_refl _
-  step-next (having s p) x y w = le_trans (step-next s x y w) (path-next p y (stepSheet s x y w))
+  pub step_next : (s : Step) (x y : Var) (w : Sheet) → w.next ≤ (step_sheet s x y w).next
+  step_next (move k t) x y w = le_refl _
+  step_next (having s p) x y w = le_trans (step_next s x y w) (path_next p y (step_sheet s x y w))

@@ -8,13 +8,13 @@ use native.Mathlib.Omega.{arith}
 use lib.ListN.{length, length-map}
 use lib.Dec.{leb, eqb}
 use Rattle.meaning.specs.Tree.{Var, Label, folded, Assignment, Tree}
-use Rattle.meaning.specs.Constraint.{Constraint, is-label, Meets, named, Fact, label, facts}
+use Rattle.meaning.specs.Constraint.{Constraint, is_label, Meets, named, Fact, label, facts}
 use Rattle.meaning.specs.Marking.{kind}
-use Rattle.meaning.specs.Files.{Quad, quad, quads, smallLabels, JudgedRecord, bad, good, judgePair, judgeSingle, judgeLabel, judgeRecord, Judged, refused, accepted, withRest, judgeRecords, judge, allPlaces, nodesThenPlaces, ofKind, nodeFine, nodesFine, placesFine, JudgedAnswer, refused-answer, accepted-answer, node_of, judgeQuads, judgeAnswer}
+use Rattle.meaning.specs.Files.{Quad, quad, quads, small_labels, JudgedRecord, bad, good, judge_pair, judge_single, judge_label, judge_record, Judged, refused, accepted, with_rest, judge_records, judge, all_places, nodes_then_places, of_kind, node_fine, nodes_fine, places_fine, JudgedAnswer, refused_answer, accepted_answer, node_of, judge_quads, judge_answer}
 use Rattle.meaning.specs.ReadOff.{NodeRecord}
 use Rattle.meaning.specs.Capitals.{EqualButForCase}
-use Rattle.meaning.proofs.Tests.{yes-eq, pick-map, is_eq, eq_yes, le_yes}
-use Rattle.meaning.proofs.Labels.{capital-range, folded-either, folded-twice, folded-least, folded-blank}
+use Rattle.meaning.proofs.Tests.{yes_eq, pick-map, is_eq, eq_yes, le_yes}
+use Rattle.meaning.proofs.Labels.{capital_range, folded_either, folded_twice, folded_least, folded_blank}
 
 -- ---- files and their records
 
@@ -22,30 +22,30 @@ use Rattle.meaning.proofs.Labels.{capital-range, folded-either, folded-twice, fo
 abbrev CaseBlind {ℓ} : {X : Type ℓ} → (List ℕ → X) → Type ℓ
 CaseBlind F = (a b c d : ℕ) (bs cs : List ℕ) → F bs ≡ F cs → F (a ∷ b ∷ c ∷ folded d ∷ bs) ≡ F (a ∷ b ∷ c ∷ d ∷ cs)
 
-pub small-kept {ℓ} : {X : Type ℓ} (F : List ℕ → X) → CaseBlind F → (bs : List ℕ) → F (smallLabels bs) ≡ F bs
-unfolding smallLabels
+pub small-kept {ℓ} : {X : Type ℓ} (F : List ℕ → X) → CaseBlind F → (bs : List ℕ) → F (small_labels bs) ≡ F bs
+unfolding small_labels
 small-kept F f [] = refl
 small-kept F f (a ∷ []) = refl
 small-kept F f (a ∷ b ∷ []) = refl
 small-kept F f (a ∷ b ∷ c ∷ []) = refl
-small-kept F f (a ∷ b ∷ c ∷ d ∷ bs) = f a b c d (smallLabels bs) bs (small-kept F f bs)
+small-kept F f (a ∷ b ∷ c ∷ d ∷ bs) = f a b c d (small_labels bs) bs (small-kept F f bs)
 
 case-kept {ℓ} : {X : Type ℓ} (F : List ℕ → X) → CaseBlind F → (file other : List ℕ) → EqualButForCase file other → F file ≡ F other
 case-kept F f file other e = sym (small-kept F f file) ∙ ap F e ∙ small-kept F f other
 
-pub length-kept : (file other : List ℕ) → EqualButForCase file other → length file ≡ length other
-length-kept = case-kept length (λ a b c d bs cs e. omega arith)
+pub length_kept : (file other : List ℕ) → EqualButForCase file other → length file ≡ length other
+length_kept = case-kept length (λ a b c d bs cs e. omega arith)
 
 -- ---- the tests on a label
 
-blank-kept : (l : Label) → eqb (folded l) 0 ≡ eqb l 0
-blank-kept l =
-    let h = folded-least l in
-    yes-eq _ _ (λ y. let e : folded l ≡ 0 = is_eq y in eq_yes {x = l} {y = 0} (omega arith)) (λ y. eq_yes (ap folded (is_eq y) ∙ folded-blank))
+blank_kept : (l : Label) → eqb (folded l) 0 ≡ eqb l 0
+blank_kept l =
+    let h = folded_least l in
+    yes_eq _ _ (λ y. let e : folded l ≡ 0 = is_eq y in eq_yes {x = l} {y = 0} (omega arith)) (λ y. eq_yes (ap folded (is_eq y) ∙ folded_blank))
 
-some-kept : (l : Label) → leb 1 (folded l) ≡ leb 1 l
-some-kept l = folded-either (λ k. leb 1 k ≡ leb 1 l) l
-    (λ y. let h = (capital-range l y).0 in le_yes {x = 1} {y = l + 32} (omega arith) ∙ sym (le_yes {x = 1} {y = l} (omega arith)))
+some_kept : (l : Label) → leb 1 (folded l) ≡ leb 1 l
+some_kept l = folded_either (λ k. leb 1 k ≡ leb 1 l) l
+    (λ y. let h = (capital_range l y).0 in le_yes {x = 1} {y = l + 32} (omega arith) ∙ sym (le_yes {x = 1} {y = l} (omega arith)))
     (λ n. refl)
 
 -- ---- constraint files
@@ -60,90 +60,90 @@ pub record Seen : Type 1 where
 abbrev pub seen : Constraint → Seen
 seen c = record { facts = facts c; named = named c; kind = kind c; meets = λ t a. Meets t a c }
 
-label-seen : (x : Var) (l : Label) → seen (is-label x (folded l)) ≡ seen (is-label x l)
+label_seen : (x : Var) (l : Label) → seen (is_label x (folded l)) ≡ seen (is_label x l)
 unfolding named kind
-label-seen x l = λ i. record { facts = label x (folded-twice l i) ∷ []; named = suc x; kind = 8; meets = λ t a. folded (t.label (a x)) ≡ folded-twice l i }
+label_seen x l = λ i. record { facts = label x (folded_twice l i) ∷ []; named = suc x; kind = 8; meets = λ t a. folded (t.label (a x)) ≡ folded_twice l i }
 
-abbrev seenRecord : JudgedRecord → ℕ ⊎ Seen
-seenRecord (bad q) = inl q
-seenRecord (good c) = inr (seen c)
+abbrev seen_record : JudgedRecord → ℕ ⊎ Seen
+seen_record (bad q) = inl q
+seen_record (good c) = inr (seen c)
 
-abbrev pub seenFile : Judged → ℕ ⊎ List Seen
-seenFile (refused q) = inl q
-seenFile (accepted cs) = inr (map seen cs)
+abbrev pub seen_file : Judged → ℕ ⊎ List Seen
+seen_file (refused q) = inl q
+seen_file (accepted cs) = inr (map seen cs)
 
--- withRest, of what is seen
-abbrev seenRest : ℕ ⊎ Seen → ℕ ⊎ List Seen → ℕ ⊎ List Seen
-seenRest (inl q) r = inl q
-seenRest (inr c) (inl q) = inl q
-seenRest (inr c) (inr cs) = inr (c ∷ cs)
+-- with_rest, of what is seen
+abbrev seen_rest : ℕ ⊎ Seen → ℕ ⊎ List Seen → ℕ ⊎ List Seen
+seen_rest (inl q) r = inl q
+seen_rest (inr c) (inl q) = inl q
+seen_rest (inr c) (inr cs) = inr (c ∷ cs)
 
-rest-seen : (r : JudgedRecord) (j : Judged) → seenFile (withRest r j) ≡ seenRest (seenRecord r) (seenFile j)
-unfolding withRest
-rest-seen (bad q) j = refl
-rest-seen (good c) (refused q) = refl
-rest-seen (good c) (accepted cs) = refl
+rest_seen : (r : JudgedRecord) (j : Judged) → seen_file (with_rest r j) ≡ seen_rest (seen_record r) (seen_file j)
+unfolding with_rest
+rest_seen (bad q) j = refl
+rest_seen (good c) (refused q) = refl
+rest_seen (good c) (accepted cs) = refl
 
-record-seen : (k : ℕ) (x y : Var) (l : Label) → seenRecord (judgeRecord k x y (folded l)) ≡ seenRecord (judgeRecord k x y l)
-unfolding judgeRecord judgePair judgeSingle judgeLabel
-record-seen k x y l = simp (pick-map seenRecord, blank-kept, some-kept, label-seen)
+record_seen : (k : ℕ) (x y : Var) (l : Label) → seen_record (judge_record k x y (folded l)) ≡ seen_record (judge_record k x y l)
+unfolding judge_record judge_pair judge_single judge_label
+record_seen k x y l = simp (pick-map seen_record, blank_kept, some_kept, label_seen)
 
-records-seen : (file other : List ℕ) → EqualButForCase file other → seenFile (judgeRecords file) ≡ seenFile (judgeRecords other)
-unfolding judgeRecords
-records-seen = case-kept (λ bs. seenFile (judgeRecords bs)) (λ k x y l bs cs e. simp (rest-seen, record-seen, e))
+records_seen : (file other : List ℕ) → EqualButForCase file other → seen_file (judge_records file) ≡ seen_file (judge_records other)
+unfolding judge_records
+records_seen = case-kept (λ bs. seen_file (judge_records bs)) (λ k x y l bs cs e. simp (rest_seen, record_seen, e))
 
-pub file-seen : (file other : List ℕ) → EqualButForCase file other → seenFile (judge file) ≡ seenFile (judge other)
+pub file_seen : (file other : List ℕ) → EqualButForCase file other → seen_file (judge file) ≡ seen_file (judge other)
 unfolding judge
-file-seen file other e = simp (pick-map seenFile, length-kept file other e, records-seen file other e)
+file_seen file other e = simp (pick-map seen_file, length_kept file other e, records_seen file other e)
 
 -- ---- answer files
 
-abbrev smallQuad : Quad → Quad
-smallQuad q = quad q.first q.second q.third (folded q.fourth)
+abbrev small_quad : Quad → Quad
+small_quad q = quad q.first q.second q.third (folded q.fourth)
 
-abbrev pub smallNode : NodeRecord → NodeRecord
-smallNode v = record { up = v.up; label = folded v.label }
+abbrev pub small_node : NodeRecord → NodeRecord
+small_node v = record { up = v.up; label = folded v.label }
 
-abbrev pub smallAnswer : JudgedAnswer → JudgedAnswer
-smallAnswer (refused-answer q) = refused-answer q
-smallAnswer (accepted-answer vs ps) = accepted-answer (map smallNode vs) ps
+abbrev pub small_answer : JudgedAnswer → JudgedAnswer
+small_answer (refused_answer q) = refused_answer q
+small_answer (accepted_answer vs ps) = accepted_answer (map small_node vs) ps
 
-places-small : (qs : List Quad) → allPlaces (map smallQuad qs) ≡ allPlaces qs
-unfolding allPlaces
-places-small [] = refl
-places-small (q ∷ qs) = rw (places-small qs)
+places_small : (qs : List Quad) → all_places (map small_quad qs) ≡ all_places qs
+unfolding all_places
+places_small [] = refl
+places_small (q ∷ qs) = rw (places_small qs)
 
-order_small : (qs : List Quad) → nodesThenPlaces (map smallQuad qs) ≡ nodesThenPlaces qs
-unfolding nodesThenPlaces
+order_small : (qs : List Quad) → nodes_then_places (map small_quad qs) ≡ nodes_then_places qs
+unfolding nodes_then_places
 order_small [] = refl
-order_small (q ∷ qs) = rw (order_small qs, places-small qs)
+order_small (q ∷ qs) = rw (order_small qs, places_small qs)
 
-kind-small : (k : ℕ) (qs : List Quad) → ofKind k (map smallQuad qs) ≡ map smallQuad (ofKind k qs)
-unfolding ofKind
-kind-small k [] = refl
-kind-small k (q ∷ qs) = simp (pick-map (map smallQuad), kind-small k qs)
+kind_small : (k : ℕ) (qs : List Quad) → of_kind k (map small_quad qs) ≡ map small_quad (of_kind k qs)
+unfolding of_kind
+kind_small k [] = refl
+kind_small k (q ∷ qs) = simp (pick-map (map small_quad), kind_small k qs)
 
-nodes-fine-small : (i : ℕ) (qs : List Quad) → nodesFine i (map smallQuad qs) ≡ nodesFine i qs
-unfolding nodesFine nodeFine
-nodes-fine-small i [] = refl
-nodes-fine-small i (q ∷ qs) = rw (nodes-fine-small (suc i) qs, blank-kept)
+nodes_fine_small : (i : ℕ) (qs : List Quad) → nodes_fine i (map small_quad qs) ≡ nodes_fine i qs
+unfolding nodes_fine node_fine
+nodes_fine_small i [] = refl
+nodes_fine_small i (q ∷ qs) = rw (nodes_fine_small (suc i) qs, blank_kept)
 
-places-fine-small : (size x : ℕ) (qs : List Quad) → placesFine size x (map smallQuad qs) ≡ placesFine size x qs
-unfolding placesFine
-places-fine-small size x [] = refl
-places-fine-small size x (q ∷ qs) = rw (places-fine-small size (suc x) qs, blank-kept)
+places_fine_small : (size x : ℕ) (qs : List Quad) → places_fine size x (map small_quad qs) ≡ places_fine size x qs
+unfolding places_fine
+places_fine_small size x [] = refl
+places_fine_small size x (q ∷ qs) = rw (places_fine_small size (suc x) qs, blank_kept)
 
-answer-small : (n : ℕ) (qs : List Quad) → smallAnswer (judgeQuads n (map smallQuad qs)) ≡ smallAnswer (judgeQuads n qs)
-unfolding judgeQuads node_of
-answer-small n qs = simp (pick-map smallAnswer, order_small, kind-small, length-map, nodes-fine-small, places-fine-small, map-map, folded-twice)
+answer_small : (n : ℕ) (qs : List Quad) → small_answer (judge_quads n (map small_quad qs)) ≡ small_answer (judge_quads n qs)
+unfolding judge_quads node_of
+answer_small n qs = simp (pick-map small_answer, order_small, kind_small, length-map, nodes_fine_small, places_fine_small, map-map, folded_twice)
 
-quads-small : (answer drawn : List ℕ) → EqualButForCase answer drawn → map smallQuad (quads answer) ≡ map smallQuad (quads drawn)
+quads_small : (answer drawn : List ℕ) → EqualButForCase answer drawn → map small_quad (quads answer) ≡ map small_quad (quads drawn)
 unfolding quads
-quads-small = case-kept (λ bs. map smallQuad (quads bs)) (λ a b c d bs cs e. cc (folded-twice d))
+quads_small = case-kept (λ bs. map small_quad (quads bs)) (λ a b c d bs cs e. cc (folded_twice d))
 
-quads-seen : (n : ℕ) (answer drawn : List ℕ) → EqualButForCase answer drawn → smallAnswer (judgeQuads n (quads answer)) ≡ smallAnswer (judgeQuads n (quads drawn))
-quads-seen n answer drawn e = cc (answer-small n (quads answer), quads-small answer drawn e, answer-small n (quads drawn))
+quads_seen : (n : ℕ) (answer drawn : List ℕ) → EqualButForCase answer drawn → small_answer (judge_quads n (quads answer)) ≡ small_answer (judge_quads n (quads drawn))
+quads_seen n answer drawn e = cc (answer_small n (quads answer), quads_small answer drawn e, answer_small n (quads drawn))
 
-pub answer-seen : (n : ℕ) (answer drawn : List ℕ) → EqualButForCase answer drawn → smallAnswer (judgeAnswer n answer) ≡ smallAnswer (judgeAnswer n drawn)
-unfolding judgeAnswer
-answer-seen n answer drawn e = simp (pick-map smallAnswer, length-kept answer drawn e, quads-seen n answer drawn e)
+pub answer_seen : (n : ℕ) (answer drawn : List ℕ) → EqualButForCase answer drawn → small_answer (judge_answer n answer) ≡ small_answer (judge_answer n drawn)
+unfolding judge_answer
+answer_seen n answer drawn e = simp (pick-map small_answer, length_kept answer drawn e, quads_seen n answer drawn e)

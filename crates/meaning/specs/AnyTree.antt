@@ -3,7 +3,7 @@
 use Rattle.std.specs.Prelude.{◌≡◌, ◌≢◌, ◌↔◌, ◌⊎◌, ◌≤◌, ◌<◌}
 use mathlib.Core.List.{List, Memᴰ}
 use Rattle.meaning.specs.Tree.{Var, Node, Label, SameLabel, Tree, Parent}
-use Rattle.meaning.specs.Constraint.{Constraint, is-child, is_below, is-strictly-below, is_same, is-differ, is-root, is_IsLeaf, is-label, is-before}
+use Rattle.meaning.specs.Constraint.{Constraint, is_child, is_below, is-strictly-below, is_same, is-differ, is-root, is_IsLeaf, is_label, is_before}
 
 -- u ◁* v: the reflexive and transitive closure of a relation
 pub data Reaches {N : Type 0} (R : N → N → Type 0) (u : N) : N → Type 0 where
@@ -19,28 +19,28 @@ pub record AnyTree (N : Type 0) : Type 1 where
   pub IsParent : N → N → Type 0
   -- ◁ defines a tree with root r: r has no parent, no node has two, and r ◁* every node
   pub root : N
-  pub no-parent : (u : N) → ¬ IsParent u root
+  pub no_parent : (u : N) → ¬ IsParent u root
   pub one_parent : {u v w : N} → IsParent u w → IsParent v w → u ≡ v
   pub reached : (v : N) → Reaches IsParent root v
   -- λ, with numbers for the paper's infinite set Σ of tag names
   pub label : N → Label
   -- r is the document node: blank, with exactly one child
-  pub root-blank : label root ≡ 0
+  pub root_blank : label root ≡ 0
   pub element : N
-  pub has-element : IsParent root element
-  pub one-element : {v : N} → IsParent root v → v ≡ element
+  pub has_element : IsParent root element
+  pub one_element : {v : N} → IsParent root v → v ≡ element
   -- u ≺ v: the paper's is a strict total order of all nodes that walks the tree in pre-order. What is used of it is that it is strict, and total among
   -- the children of one node: so this is any order of siblings.
   pub Precedes : N → N → Type 0
-  pub precedes-not : (v : N) → ¬ Precedes v v
-  pub precedes-chain : {u v w : N} → Precedes u v → Precedes v w → Precedes u w
-  pub precedes-total : {p u v : N} → IsParent p u → IsParent p v → u ≢ v → Precedes u v ⊎ Precedes v u
+  pub precedes_not : (v : N) → ¬ Precedes v v
+  pub precedes_chain : {u v w : N} → Precedes u v → Precedes v w → Precedes u w
+  pub precedes_total : {p u v : N} → IsParent p u → IsParent p v → u ≢ v → Precedes u v ⊎ Precedes v u
 
 -- u and v have one parent, and u comes first
 pub record PrecedesSibling {N : Type 0} (T : AnyTree N) (u v : N) : Type 0 where
   pub above : N
-  pub parent-u : T.IsParent above u
-  pub parent-v : T.IsParent above v
+  pub parent_u : T.IsParent above u
+  pub parent_v : T.IsParent above v
   pub first : T.Precedes u v
 
 -- docs/FORMAT.md has the labels 0 to 255 only
@@ -49,15 +49,15 @@ ByteLabelled {N} T = (v : N) → T.label v ≤ 255
 
 -- the nine kinds, as in `Meets`
 abbrev pub MeetsAny : {N : Type 0} → AnyTree N → (Var → N) → Constraint → Type 0
-MeetsAny T a (is-child x y) = T.IsParent (a x) (a y)
+MeetsAny T a (is_child x y) = T.IsParent (a x) (a y)
 MeetsAny T a (is_below x y) = Reaches T.IsParent (a x) (a y)
 MeetsAny T a (is-strictly-below x y) = Reaches T.IsParent (a x) (a y) × (a x ≢ a y)
 MeetsAny T a (is_same x y) = a x ≡ a y
 MeetsAny T a (is-differ x y) = a x ≢ a y
 MeetsAny {N} T a (is-root x) = (u : N) → ¬ T.IsParent u (a x)
 MeetsAny {N} T a (is_IsLeaf x) = (v : N) → ¬ T.IsParent (a x) v
-MeetsAny T a (is-label x l) = SameLabel (T.label (a x)) l
-MeetsAny T a (is-before x y) = PrecedesSibling T (a x) (a y)
+MeetsAny T a (is_label x l) = SameLabel (T.label (a x)) l
+MeetsAny T a (is_before x y) = PrecedesSibling T (a x) (a y)
 
 -- every constraint is met; every variable is on a node, since N has nothing else
 abbrev pub MeetsAllAny : {N : Type 0} → AnyTree N → (Var → N) → List Constraint → Type 0
@@ -71,8 +71,8 @@ NoAnyTree cs = (N : Type 0) (T : AnyTree N) (a : Var → N) → ¬ MeetsAllAny T
 pub record Numbering {N : Type 0} (T : AnyTree N) (t : Tree) : Type 0 where
   pub number : N → Node
   pub inside : (v : N) → number v < t.size
-  pub one-to-one : (u v : N) → number u ≡ number v → u ≡ v
+  pub one_to_one : (u v : N) → number u ≡ number v → u ≡ v
   pub onto : (i : Node) → i < t.size → (v : N) × (number v ≡ i)
-  pub same-parents : (u v : N) → T.IsParent u v ↔ Parent t (number u) (number v)
-  pub same-labels : (v : N) → t.label (number v) ≡ T.label v
-  pub same-order : {p u v : N} → T.IsParent p u → T.IsParent p v → T.Precedes u v ↔ (number u < number v)
+  pub same_parents : (u v : N) → T.IsParent u v ↔ Parent t (number u) (number v)
+  pub same_labels : (v : N) → t.label (number v) ≡ T.label v
+  pub same_order : {p u v : N} → T.IsParent p u → T.IsParent p v → T.Precedes u v ↔ (number u < number v)

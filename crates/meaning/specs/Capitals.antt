@@ -4,17 +4,17 @@
 use Rattle.std.specs.Prelude.{◌≡◌, ◌↔◌, ℕ, ◌≤◌, length}
 use mathlib.Core.List.{List, map, Memᴰ}
 use Rattle.meaning.specs.Tree.{Node, folded, Tree}
-use Rattle.meaning.specs.Files.{smallLabels}
+use Rattle.meaning.specs.Files.{small_labels}
 use Rattle.meaning.specs.Paths.{Path, OfForm}
 use Rattle.meaning.specs.Selection.{Selects}
-use Rattle.meaning.specs.PathRecords.{recordsOf, variablesOf, fileBytes}
-use Rattle.meaning.specs.Results.{Marked, Fill, fill-refused, fill-written}
+use Rattle.meaning.specs.PathRecords.{records_of, variables_of, file_bytes}
+use Rattle.meaning.specs.Results.{Marked, Fill, fill_refused, fill_written}
 use Rattle.meaning.specs.Promises.{MarkerPromise, PathsPromise, OneAnswer}
 
 -- ---- files
 
 abbrev pub EqualButForCase : List ℕ → List ℕ → Type 0
-EqualButForCase file other = smallLabels file ≡ smallLabels other
+EqualButForCase file other = small_labels file ≡ small_labels other
 
 -- of any bytes, also of files that are refused
 pub record CaseAside (file other : List ℕ) : Type 0 where
@@ -26,20 +26,20 @@ pub record CaseAside (file other : List ℕ) : Type 0 where
 -- ---- texts of paths
 
 -- a text with its capitals made small; in a text of paths only tests have any
-abbrev pub smallText : List ℕ → List ℕ
-smallText = map folded
+abbrev pub small_text : List ℕ → List ℕ
+small_text = map folded
 
 -- lines that differ in the case of their tests alone: as many variables, records that are equal but for case, and in every tree the same nodes
 -- selected by every line
 pub record LinesCaseAside (ps qs : List Path) : Type 0 where
-  pub variables : variablesOf ps ≡ variablesOf qs
-  pub records : EqualButForCase (fileBytes (recordsOf ps)) (fileBytes (recordsOf qs))
+  pub variables : variables_of ps ≡ variables_of qs
+  pub records : EqualButForCase (file_bytes (records_of ps)) (file_bytes (records_of qs))
   pub selected : (t : Tree) (v : Node) → ((p : Path) → Memᴰ p ps → Selects t p v) ↔ ((q : Path) → Memᴰ q qs → Selects t q v)
 
 -- the same refusal, or records that are equal but for case
 abbrev pub ReadAlike : Fill → Fill → Type 0
-ReadAlike (fill-refused q) s = s ≡ fill-refused q
-ReadAlike (fill-written bs) s = (cs : List ℕ) × (s ≡ fill-written cs) × EqualButForCase bs cs
+ReadAlike (fill_refused q) s = s ≡ fill_refused q
+ReadAlike (fill_written bs) s = (cs : List ℕ) × (s ≡ fill_written cs) × EqualButForCase bs cs
 
 -- of texts of the form of paths; names of axes in capitals are not
 pub record TextsCaseAside (text other : List ℕ) : Type 0 where

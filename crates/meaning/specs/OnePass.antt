@@ -2,27 +2,27 @@
 use Rattle.std.specs.Prelude.{◌≡◌, List, [], ◌∷◌, ◌++◌, ℕ, ◌%◌, ◌≤◌, max, length, eqb, leb}
 use Rattle.meaning.specs.Constraint.{named, vars}
 use Rattle.meaning.specs.Finite.{pick}
-use Rattle.meaning.specs.Files.{Quad, quads, Whole, JudgedRecord, bad, good, judgeQuad, Judged, refused, accepted, judge}
+use Rattle.meaning.specs.Files.{Quad, quads, Whole, JudgedRecord, bad, good, judge_quad, Judged, refused, accepted, judge}
 
 -- all that is kept between two records
 pub data NumberOrN : Type 0 where
-  number-refused : ℕ → NumberOrN
+  number_refused : ℕ → NumberOrN
   so_far : ℕ → NumberOrN
 
 -- a file's number or n
-unfoldable pub keptOf : Judged → NumberOrN
-keptOf (refused q) = number-refused q
-keptOf (accepted cs) = so_far (vars cs)
+unfoldable pub kept_of : Judged → NumberOrN
+kept_of (refused q) = number_refused q
+kept_of (accepted cs) = so_far (vars cs)
 
 -- what a record's questions leave of it
 unfoldable pub counting : ℕ → JudgedRecord → NumberOrN
-counting n (bad q) = number-refused q
+counting n (bad q) = number_refused q
 counting n (good c) = so_far (max n (named c))
 
 -- one record more
 unfoldable pub keep : NumberOrN → Quad → NumberOrN
-keep (number-refused q) r = number-refused q
-keep (so_far n) r = counting n (judgeQuad r)
+keep (number_refused q) r = number_refused q
+keep (so_far n) r = counting n (judge_quad r)
 
 -- the later records, from what is kept: a left fold
 unfoldable pub onwards : NumberOrN → List Quad → NumberOrN
@@ -32,15 +32,15 @@ onwards k (r ∷ rs) = onwards (keep k r) rs
 -- a file is split between two records, into those read and those to come
 pub record FromHere (read coming : List ℕ) : Type 0 where
   -- what is kept of the records read is what a file of them alone would be given, its number or n
-  pub kept : onwards (so_far 0) (quads read) ≡ keptOf (judge read)
+  pub kept : onwards (so_far 0) (quads read) ≡ kept_of (judge read)
   -- this and the later records give the file's
-  pub gives : onwards (keptOf (judge read)) (quads coming) ≡ keptOf (judge (read ++ coming))
+  pub gives : onwards (kept_of (judge read)) (quads coming) ≡ kept_of (judge (read ++ coming))
   -- and nothing else of the records read matters: any others of which the same is kept would do
-  pub alone : (others : List ℕ) → Whole others → length (others ++ coming) ≤ 1024 → keptOf (judge others) ≡ keptOf (judge read)
-      → keptOf (judge (others ++ coming)) ≡ keptOf (judge (read ++ coming))
+  pub alone : (others : List ℕ) → Whole others → length (others ++ coming) ≤ 1024 → kept_of (judge others) ≡ kept_of (judge read)
+      → kept_of (judge (others ++ coming)) ≡ kept_of (judge (read ++ coming))
 
 pub record OnePass (file : List ℕ) : Type 0 where
   -- of any bytes: 1 and 2 are told by the length, all else by one pass
-  pub is-pass : keptOf (judge file) ≡ pick (leb (length file) 1024) (pick (eqb (length file % 4) 0) (onwards (so_far 0) (quads file)) (number-refused 2)) (number-refused 1)
+  pub is_pass : kept_of (judge file) ≡ pick (leb (length file) 1024) (pick (eqb (length file % 4) 0) (onwards (so_far 0) (quads file)) (number_refused 2)) (number_refused 1)
   -- "from any record on, these and the later records alone give the file's number or n", where 1 and 2 are passed
-  pub from-any-record : length file ≤ 1024 → Whole file → {read coming : List ℕ} → file ≡ read ++ coming → Whole read → FromHere read coming
+  pub from_any_record : length file ≤ 1024 → Whole file → {read coming : List ℕ} → file ≡ read ++ coming → Whole read → FromHere read coming

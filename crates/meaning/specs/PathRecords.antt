@@ -2,108 +2,108 @@
 -- one definition.
 use Rattle.std.specs.Prelude.{List, [], ◌∷◌, ◌++◌, ℕ, zero, suc}
 use Rattle.meaning.specs.Tree.{Var}
-use Rattle.meaning.specs.Constraint.{Constraint, is-child, is_below, is-strictly-below, is_same, is-root, is-label, is-before}
-use Rattle.meaning.specs.Files.{quadOf}
-use Rattle.meaning.specs.Paths.{Axis, to-self, to-child, to-parent, to-descendant, to-ancestor, to-descendant-or-self, to-ancestor-or-self, to-following-sibling, to-preceding-sibling, Test, letter, any, Path, alone, from-root, from-here, Steps, one, more, Step, move, having}
+use Rattle.meaning.specs.Constraint.{Constraint, is_child, is_below, is-strictly-below, is_same, is-root, is_label, is_before}
+use Rattle.meaning.specs.Files.{quad_of}
+use Rattle.meaning.specs.Paths.{Axis, to-self, to_child, to_parent, to-descendant, to-ancestor, to-descendant-or-self, to-ancestor-or-self, to-following-sibling, to-preceding-sibling, Test, letter, any, Path, alone, from-root, from-here, Steps, one, more, Step, move, having}
 
 -- what has been written so far: the next number, the root's number (0 while it has none, since 0 is never the root's), the records
 pub record Sheet : Type 0 where
   pub next : Var
-  pub rootAt : Var
+  pub root_at : Var
   pub records : List Constraint
 
 -- "Variable 0 is the node where all lines end": the first number left is 1
-unfoldable pub blankSheet : Sheet
-blankSheet = record { next = 1; rootAt = 0; records = [] }
+unfoldable pub blank_sheet : Sheet
+blank_sheet = record { next = 1; root_at = 0; records = [] }
 
 -- the next number is given away
-unfoldable pub nextTaken : Sheet → Sheet
-nextTaken w = record { next = suc w.next; rootAt = w.rootAt; records = w.records }
+unfoldable pub next_taken : Sheet → Sheet
+next_taken w = record { next = suc w.next; root_at = w.root_at; records = w.records }
 
-unfoldable pub withRecords : List Constraint → Sheet → Sheet
-withRecords cs w = record { next = w.next; rootAt = w.rootAt; records = w.records ++ cs }
+unfoldable pub with_records : List Constraint → Sheet → Sheet
+with_records cs w = record { next = w.next; root_at = w.root_at; records = w.records ++ cs }
 
 -- "all roots share one", "root at the first `/` start"
-unfoldable pub rootedBy : Var → Sheet → Sheet
-rootedBy zero w = record { next = suc w.next; rootAt = w.next; records = w.records ++ (is-root w.next ∷ []) }
-rootedBy (suc r) w = w
+unfoldable pub rooted_by : Var → Sheet → Sheet
+rooted_by zero w = record { next = suc w.next; root_at = w.next; records = w.records ++ (is-root w.next ∷ []) }
+rooted_by (suc r) w = w
 
 unfoldable pub rooted : Sheet → Sheet
-unfolding rootedBy
-rooted w = rootedBy w.rootAt w
+unfolding rooted_by
+rooted w = rooted_by w.root_at w
 
 -- "In an axis record x is the node left and y the one reached, the other way round for parent and ancestor axes"; "self is same";
 -- "following-sibling and preceding-sibling, the latter with x the node reached"
-unfoldable pub axisRecord : Axis → Var → Var → Constraint
-axisRecord to-self x y = is_same x y
-axisRecord to-child x y = is-child x y
-axisRecord to-parent x y = is-child y x
-axisRecord to-descendant x y = is-strictly-below x y
-axisRecord to-ancestor x y = is-strictly-below y x
-axisRecord to-descendant-or-self x y = is_below x y
-axisRecord to-ancestor-or-self x y = is_below y x
-axisRecord to-following-sibling x y = is-before x y
-axisRecord to-preceding-sibling x y = is-before y x
+unfoldable pub axis_record : Axis → Var → Var → Constraint
+axis_record to-self x y = is_same x y
+axis_record to_child x y = is_child x y
+axis_record to_parent x y = is_child y x
+axis_record to-descendant x y = is-strictly-below x y
+axis_record to-ancestor x y = is-strictly-below y x
+axis_record to-descendant-or-self x y = is_below x y
+axis_record to-ancestor-or-self x y = is_below y x
+axis_record to-following-sibling x y = is_before x y
+axis_record to-preceding-sibling x y = is_before y x
 
 -- "for each step its axis record, then any label"
-unfoldable pub moveRecords : Axis → Test → Var → Var → List Constraint
-unfolding axisRecord
-moveRecords a (letter b l) x y = axisRecord a x y ∷ is-label y b ∷ []
-moveRecords a any x y = axisRecord a x y ∷ []
+unfoldable pub move_records : Axis → Test → Var → Var → List Constraint
+unfolding axis_record
+move_records a (letter b l) x y = axis_record a x y ∷ is_label y b ∷ []
+move_records a any x y = axis_record a x y ∷ []
 
 -- "the others are numbered as the text first reaches a start or step"
 unfoldable mutual
-  unfolding nextTaken withRecords rooted moveRecords
+  unfolding next_taken with_records rooted move_records
 
   -- a path in brackets that follow the node of x
-  pub pathSheet : Path → Var → Sheet → Sheet
-  pathSheet alone x w = rooted w
-  pathSheet (from-root ss) x w = stepsSheet ss (rooted w).rootAt (rooted w)
-  pathSheet (from-here ss) x w = stepsSheet ss x w
+  pub path_sheet : Path → Var → Sheet → Sheet
+  path_sheet alone x w = rooted w
+  path_sheet (from-root ss) x w = steps_sheet ss (rooted w).root_at (rooted w)
+  path_sheet (from-here ss) x w = steps_sheet ss x w
 
   -- its steps from the node of x: each reaches a node of its own
-  pub stepsSheet : Steps → Var → Sheet → Sheet
-  stepsSheet (one s) x w = stepSheet s x w.next (nextTaken w)
-  stepsSheet (more s ss) x w = stepsSheet ss w.next (stepSheet s x w.next (nextTaken w))
+  pub steps_sheet : Steps → Var → Sheet → Sheet
+  steps_sheet (one s) x w = step_sheet s x w.next (next_taken w)
+  steps_sheet (more s ss) x w = steps_sheet ss w.next (step_sheet s x w.next (next_taken w))
 
   -- a step from the node of x to that of y, then its brackets in text order
-  pub stepSheet : Step → Var → Var → Sheet → Sheet
-  stepSheet (move a t) x y w = withRecords (moveRecords a t x y) w
-  stepSheet (having s p) x y w = pathSheet p y (stepSheet s x y w)
+  pub step_sheet : Step → Var → Var → Sheet → Sheet
+  step_sheet (move a t) x y w = with_records (move_records a t x y) w
+  step_sheet (having s p) x y w = path_sheet p y (step_sheet s x y w)
 
 -- the steps of a line from the node of x: the last one reaches the node of variable 0
-unfoldable pub endSheet : Steps → Var → Sheet → Sheet
-unfolding nextTaken stepSheet
-endSheet (one s) x w = stepSheet s x 0 w
-endSheet (more s ss) x w = endSheet ss w.next (stepSheet s x w.next (nextTaken w))
+unfoldable pub end_sheet : Steps → Var → Sheet → Sheet
+unfolding next_taken step_sheet
+end_sheet (one s) x w = step_sheet s x 0 w
+end_sheet (more s ss) x w = end_sheet ss w.next (step_sheet s x w.next (next_taken w))
 
 -- a line: "A path that starts with `/` starts at the root; another starts at any node"; "for a line that is `/` alone, same(root, 0)"
-unfoldable pub lineSheet : Path → Sheet → Sheet
-unfolding rooted withRecords nextTaken endSheet
-lineSheet alone w = withRecords (is_same (rooted w).rootAt 0 ∷ []) (rooted w)
-lineSheet (from-root ss) w = endSheet ss (rooted w).rootAt (rooted w)
-lineSheet (from-here ss) w = endSheet ss w.next (nextTaken w)
+unfoldable pub line_sheet : Path → Sheet → Sheet
+unfolding rooted with_records next_taken end_sheet
+line_sheet alone w = with_records (is_same (rooted w).root_at 0 ∷ []) (rooted w)
+line_sheet (from-root ss) w = end_sheet ss (rooted w).root_at (rooted w)
+line_sheet (from-here ss) w = end_sheet ss w.next (next_taken w)
 
-unfoldable pub linesSheet : List Path → Sheet → Sheet
-unfolding lineSheet
-linesSheet [] w = w
-linesSheet (p ∷ ps) w = linesSheet ps (lineSheet p w)
+unfoldable pub lines_sheet : List Path → Sheet → Sheet
+unfolding line_sheet
+lines_sheet [] w = w
+lines_sheet (p ∷ ps) w = lines_sheet ps (line_sheet p w)
 
 -- the records of the lines, and how many variables they need
-unfoldable pub recordsOf : List Path → List Constraint
-unfolding linesSheet blankSheet
-recordsOf ps = (linesSheet ps blankSheet).records
+unfoldable pub records_of : List Path → List Constraint
+unfolding lines_sheet blank_sheet
+records_of ps = (lines_sheet ps blank_sheet).records
 
-unfoldable pub variablesOf : List Path → ℕ
-unfolding linesSheet blankSheet
-variablesOf ps = (linesSheet ps blankSheet).next
+unfoldable pub variables_of : List Path → ℕ
+unfolding lines_sheet blank_sheet
+variables_of ps = (lines_sheet ps blank_sheet).next
 
 -- ---- their bytes
 
-unfoldable pub recordBytes : Constraint → List ℕ
-recordBytes c = let q = quadOf c in q.first ∷ q.second ∷ q.third ∷ q.fourth ∷ []
+unfoldable pub record_bytes : Constraint → List ℕ
+record_bytes c = let q = quad_of c in q.first ∷ q.second ∷ q.third ∷ q.fourth ∷ []
 
-unfoldable pub fileBytes : List Constraint → List ℕ
-unfolding recordBytes
-fileBytes [] = []
-fileBytes (c ∷ cs) = recordBytes c ++ fileBytes cs
+unfoldable pub file_bytes : List Constraint → List ℕ
+unfolding record_bytes
+file_bytes [] = []
+file_bytes (c ∷ cs) = record_bytes c ++ file_bytes cs

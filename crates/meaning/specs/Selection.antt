@@ -3,7 +3,7 @@ use Rattle.std.specs.Prelude.{◌≡◌, ◌<◌}
 use mathlib.Core.List.{List, Memᴰ}
 use Rattle.meaning.specs.Tree.{Node, Label, SameLabel, Tree, IsTree, Parent, Above, EarlierSibling}
 use Rattle.meaning.specs.AnyTree.{Reaches, AnyTree, PrecedesSibling}
-use Rattle.meaning.specs.Paths.{Axis, to-self, to-child, to-parent, to-descendant, to-ancestor, to-descendant-or-self, to-ancestor-or-self, to-following-sibling, to-preceding-sibling, Test, letter, any, Path, alone, from-root, from-here, Steps, one, more, Step, move, having}
+use Rattle.meaning.specs.Paths.{Axis, to-self, to_child, to_parent, to-descendant, to-ancestor, to-descendant-or-self, to-ancestor-or-self, to-following-sibling, to-preceding-sibling, Test, letter, any, Path, alone, from-root, from-here, Steps, one, more, Step, move, having}
 
 -- the expressions of definition 2.2 that the paths need: ε ↑ ↓ ↑* ↓*, ← and → (long here, since → is a word of antt), the document root, a tag,
 -- p₁/p₂ and p₁[p₂]
@@ -34,37 +34,37 @@ Denotes t (filter p₁ p₂) n n' = Denotes t p₁ n n' × ((n'' : Node) × (n''
 -- ---- a path as an expression
 
 -- "↑⁺ ≡ ↑/↑*, ↓⁺ ≡ ↓/↓*"
-unfoldable pub axisExpr : Axis → Expr
-axisExpr to-self = ε
-axisExpr to-child = ↓
-axisExpr to-parent = ↑
-axisExpr to-descendant = over ↓ ↓*
-axisExpr to-ancestor = over ↑ ↑*
-axisExpr to-descendant-or-self = ↓*
-axisExpr to-ancestor-or-self = ↑*
-axisExpr to-following-sibling = ⟶
-axisExpr to-preceding-sibling = ⟵
+unfoldable pub axis_expr : Axis → Expr
+axis_expr to-self = ε
+axis_expr to_child = ↓
+axis_expr to_parent = ↑
+axis_expr to-descendant = over ↓ ↓*
+axis_expr to-ancestor = over ↑ ↑*
+axis_expr to-descendant-or-self = ↓*
+axis_expr to-ancestor-or-self = ↑*
+axis_expr to-following-sibling = ⟶
+axis_expr to-preceding-sibling = ⟵
 
 -- "child::a/ancestor::b can be represented in our syntax as ↓/a/↑⁺/b"
-unfoldable pub testExpr : Test → Expr → Expr
-testExpr (letter b l) e = over e (tag b)
-testExpr any e = e
+unfoldable pub test_expr : Test → Expr → Expr
+test_expr (letter b l) e = over e (tag b)
+test_expr any e = e
 
 unfoldable mutual
-  unfolding axisExpr testExpr
+  unfolding axis_expr test_expr
 
-  pub pathExpr : Path → Expr
-  pathExpr alone = document-root
-  pathExpr (from-root ss) = over document-root (stepsExpr ss)
-  pathExpr (from-here ss) = stepsExpr ss
+  pub path_expr : Path → Expr
+  path_expr alone = document-root
+  path_expr (from-root ss) = over document-root (steps_expr ss)
+  path_expr (from-here ss) = steps_expr ss
 
-  pub stepsExpr : Steps → Expr
-  stepsExpr (one s) = stepExpr s
-  stepsExpr (more s ss) = over (stepExpr s) (stepsExpr ss)
+  pub steps_expr : Steps → Expr
+  steps_expr (one s) = step_expr s
+  steps_expr (more s ss) = over (step_expr s) (steps_expr ss)
 
-  pub stepExpr : Step → Expr
-  stepExpr (move a t) = testExpr t (axisExpr a)
-  stepExpr (having s p) = filter (stepExpr s) (pathExpr p)
+  pub step_expr : Step → Expr
+  step_expr (move a t) = test_expr t (axis_expr a)
+  step_expr (having s p) = filter (step_expr s) (path_expr p)
 
 -- ---- selection
 
@@ -72,15 +72,15 @@ unfoldable mutual
 pub record Selects (t : Tree) (p : Path) (v : Node) : Type 0 where
   pub start : Node
   pub inside : start < t.size
-  pub leads : Denotes t (pathExpr p) start v
+  pub leads : Denotes t (path_expr p) start v
 
 -- "some tree has a node selected by every line"
 pub record SomeTreeSelects (ps : List Path) : Type 0 where
   pub tree : Tree
-  pub is-tree : IsTree tree
+  pub is_tree : IsTree tree
   pub node : Node
   pub inside : node < tree.size
-  pub by-every : (p : Path) → Memᴰ p ps → Selects tree p node
+  pub by_every : (p : Path) → Memᴰ p ps → Selects tree p node
 
 -- ---- the same of a tree of the paper, whose nodes bear no numbers
 
@@ -101,4 +101,4 @@ pub record SomeAnyTreeSelects (ps : List Path) : Type 1 where
   pub Nodes : Type 0
   pub tree : AnyTree Nodes
   pub node : Nodes
-  pub by-every : (p : Path) → Memᴰ p ps → (start : Nodes) × DenotesAny tree (pathExpr p) start node
+  pub by_every : (p : Path) → Memᴰ p ps → (start : Nodes) × DenotesAny tree (path_expr p) start node

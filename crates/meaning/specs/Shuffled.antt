@@ -6,10 +6,10 @@ use Rattle.meaning.specs.Tree.{Var, Node, Assignment, Tree}
 use Rattle.meaning.specs.Constraint.{Constraint, Meets, vars}
 use Rattle.meaning.specs.Finite.{pick, ◌or◌}
 use Rattle.meaning.specs.ReadOff.{NodeRecord, tree_of}
-use Rattle.meaning.specs.Demand.{a-none, a-spent}
+use Rattle.meaning.specs.Demand.{a_none, a-spent}
 use Rattle.meaning.specs.Marking.{met, unmet}
-use Rattle.meaning.specs.Files.{Quad, quad, quads, Whole, bad, judgeQuad, Spells, refused, accepted, judge, accepted-answer, judgeAnswer, assigned}
-use Rattle.meaning.specs.Results.{Solved, solver-answers, Marked, marker-refuses, marker-answers}
+use Rattle.meaning.specs.Files.{Quad, quad, quads, Whole, bad, judge_quad, Spells, refused, accepted, judge, accepted_answer, judge_answer, assigned}
+use Rattle.meaning.specs.Results.{Solved, solver_answers, Marked, marker_refuses, marker_answers}
 use Rattle.meaning.specs.Promises.{SolverPromise, MarkerPromise, SameRoom, OneAnswer}
 
 -- ---- records in another order
@@ -17,27 +17,27 @@ use Rattle.meaning.specs.Promises.{SolverPromise, MarkerPromise, SameRoom, OneAn
 -- the same members, each as often, in any order: a permutation
 pub data Reordered {A : Type 0} : List A → List A → Type 0 where
   nothing : Reordered [] []
-  first-kept : {x : A} {xs ys : List A} → Reordered xs ys → Reordered (x ∷ xs) (x ∷ ys)
+  first_kept : {x : A} {xs ys : List A} → Reordered xs ys → Reordered (x ∷ xs) (x ∷ ys)
   exchanged : {x y : A} {xs : List A} → Reordered (x ∷ y ∷ xs) (y ∷ x ∷ xs)
-  in-turn : {xs ys zs : List A} → Reordered xs ys → Reordered ys zs → Reordered xs zs
+  in_turn : {xs ys zs : List A} → Reordered xs ys → Reordered ys zs → Reordered xs zs
 
 -- the other file has the records of this one in another order, or in the same
 pub record AnotherOrder (file other : List ℕ) : Type 0 where
   pub whole : Whole file
-  pub other-whole : Whole other
+  pub other_whole : Whole other
   pub reordered : Reordered (quads file) (quads other)
 
 -- the first that is looked for: x is at position i, from 0, and all that come before it are otherwise
 pub record FirstAt {A : Type 0} (Otherwise : A → Type 0) (xs : List A) (i : ℕ) (x : A) : Type 0 where
   pub earlier : List A
   pub later : List A
-  pub is-list : xs ≡ earlier ++ (x ∷ later)
+  pub is_list : xs ≡ earlier ++ (x ∷ later)
   pub position : length earlier ≡ i
   pub otherwise : (y : A) → Memᴰ y earlier → Otherwise y
 
 -- the first of the records that questions 3 to 6 refuse is refused with p
 abbrev pub FirstRefused : List Quad → ℕ → Type 0
-FirstRefused qs p = (i : ℕ) × (q : Quad) × FirstAt (λ r. (c : Constraint) × Spells r c) qs i q × (judgeQuad q ≡ bad p)
+FirstRefused qs p = (i : ℕ) × (q : Quad) × FirstAt (λ r. (c : Constraint) × Spells r c) qs i q × (judge_quad q ≡ bad p)
 
 -- "any reordering of an accepted file gets, under the same allowance, the same verdict, count and bytes from the solver"
 pub record SameSolved (file other : List ℕ) : Type 0 where
@@ -61,40 +61,40 @@ FirstUnmet t a qs i k = (q : Quad) × FirstAt (MetRecord t a) qs i q × UnmetRec
 
 -- the marker, of any one answer file
 pub record SameMarked (file other : List ℕ) : Type 0 where
-  pub refuses-iff : {cs : List Constraint} {answer : List ℕ} {r s : Marked} {q : ℕ} → judge file ≡ accepted cs
-      → MarkerPromise file answer r → MarkerPromise other answer s → (s ≡ marker-refuses q) ↔ (r ≡ marker-refuses q)
-  pub met-iff : {cs : List Constraint} {answer : List ℕ} {r s : Marked} → judge file ≡ accepted cs
-      → MarkerPromise file answer r → MarkerPromise other answer s → (s ≡ marker-answers met) ↔ (r ≡ marker-answers met)
+  pub refuses_iff : {cs : List Constraint} {answer : List ℕ} {r s : Marked} {q : ℕ} → judge file ≡ accepted cs
+      → MarkerPromise file answer r → MarkerPromise other answer s → (s ≡ marker_refuses q) ↔ (r ≡ marker_refuses q)
+  pub met_iff : {cs : List Constraint} {answer : List ℕ} {r s : Marked} → judge file ≡ accepted cs
+      → MarkerPromise file answer r → MarkerPromise other answer s → (s ≡ marker_answers met) ↔ (r ≡ marker_answers met)
   -- "The marker's first unmet position does follow the record order"
-  pub unmet-iff : {cs : List Constraint} {answer : List ℕ} {vs : List NodeRecord} {ps : List Node} {s : Marked} {i k : ℕ}
-      → judge file ≡ accepted cs → judgeAnswer (vars cs) answer ≡ accepted-answer vs ps → MarkerPromise other answer s
-      → (s ≡ marker-answers (unmet i k)) ↔ FirstUnmet (tree_of vs) (assigned ps) (quads other) i k
+  pub unmet_iff : {cs : List Constraint} {answer : List ℕ} {vs : List NodeRecord} {ps : List Node} {s : Marked} {i k : ℕ}
+      → judge file ≡ accepted cs → judge_answer (vars cs) answer ≡ accepted_answer vs ps → MarkerPromise other answer s
+      → (s ≡ marker_answers (unmet i k)) ↔ FirstUnmet (tree_of vs) (assigned ps) (quads other) i k
 
 -- ---- variables renumbered
 
 -- "one-to-one renumbering of 0 to n−1"
 pub record Renumbering (n : ℕ) (to : Var → Var) : Type 0 where
   pub inside : (x : Var) → x < n → to x < n
-  pub one-to-one : (x y : Var) → x < n → y < n → to x ≡ to y → x ≡ y
+  pub one_to_one : (x y : Var) → x < n → y < n → to x ≡ to y → x ≡ y
 
 -- of an accepted file: kinds 1 to 5 and 9 name x and y, kinds 6 to 8 name x alone; all other bytes stay
-unfoldable pub renumberQuad : (Var → Var) → Quad → Quad
-renumberQuad to q = quad q.first (to q.second) (pick (leb q.first 5 or eqb q.first 9) (to q.third) q.third) q.fourth
+unfoldable pub renumber_quad : (Var → Var) → Quad → Quad
+renumber_quad to q = quad q.first (to q.second) (pick (leb q.first 5 or eqb q.first 9) (to q.third) q.third) q.fourth
 
 pub record Renumbered (to : Var → Var) (file other : List ℕ) : Type 0 where
   pub whole : Whole file
-  pub other-whole : Whole other
-  pub renumbered : quads other ≡ map (renumberQuad to) (quads file)
+  pub other_whole : Whole other
+  pub renumbered : quads other ≡ map (renumber_quad to) (quads file)
 
 abbrev pub SaysNone : Solved → Type 0
-SaysNone r = (c : ℕ) × (r ≡ solver-answers (a-none c))
+SaysNone r = (c : ℕ) × (r ≡ solver_answers (a_none c))
 
 abbrev pub SaysSpent : Solved → Type 0
-SaysSpent r = (c : ℕ) × (r ≡ solver-answers (a-spent c))
+SaysSpent r = (c : ℕ) × (r ≡ solver_answers (a-spent c))
 
 -- "one file gets none if and only if the other does, when neither is spent": each under its own allowance and over its own number of variables
 pub record SameNone (n : ℕ) (file other : List ℕ) : Type 0 where
   -- the other file is accepted, with n variables or fewer
   pub accepts : (ds : List Constraint) × (judge other ≡ accepted ds) × (vars ds ≤ n)
-  pub none-iff : {A B : ℕ} {buffer after lent later : List ℕ} {r s : Solved} → SameRoom buffer lent
+  pub none_iff : {A B : ℕ} {buffer after lent later : List ℕ} {r s : Solved} → SameRoom buffer lent
       → SolverPromise A file buffer r after → SolverPromise B other lent s later → ¬ SaysSpent r → ¬ SaysSpent s → SaysNone r ↔ SaysNone s

@@ -4,34 +4,34 @@ use Rattle.std.specs.Prelude.{List, [], ◌∷◌, ◌++◌, ℕ, zero, suc, ◌
 use Prim.Native.String.{String}
 use Rattle.meaning.specs.Finite.{pick}
 use Rattle.meaning.specs.Ascii.{ascii}
-use Rattle.meaning.specs.Demand.{a-tree, a-none, a-spent}
+use Rattle.meaning.specs.Demand.{a_tree, a_none, a-spent}
 use Rattle.meaning.specs.Marking.{met, unmet}
 use Rattle.meaning.specs.Files.{Quad, quads}
-use Rattle.meaning.specs.Results.{Solved, solver-refuses, solver-answers, Marked, marker-refuses, marker-answers, Fill, fill-refused, fill-written}
+use Rattle.meaning.specs.Results.{Solved, solver_refuses, solver_answers, Marked, marker_refuses, marker_answers, Fill, fill_refused, fill_written}
 
 -- "Program `solve` reads up to 1,025 bytes of standard input, with allowance 1,000,000": one byte more than question 1 lets in, and than a text
 -- of paths has; `paths` reads as many
-abbrev pub bytesRead : ℕ
-bytesRead = 1025
+abbrev pub bytes_read : ℕ
+bytes_read = 1025
 
-abbrev pub solveAllowance : ℕ
-solveAllowance = 1000000
+abbrev pub solve_allowance : ℕ
+solve_allowance = 1000000
 
 -- ---- numbers
 
 -- what stands before the last digit, unless that is 0
-unfoldable pub beforeLast : ℕ → (Unit {0} → List ℕ) → List ℕ
-beforeLast zero digits = []
-beforeLast (suc k) digits = digits tt
+unfoldable pub before_last : ℕ → (Unit {0} → List ℕ) → List ℕ
+before_last zero digits = []
+before_last (suc k) digits = digits tt
 
 -- the digits of n, at most k of them
-unfoldable pub digitsOf : ℕ → ℕ → List ℕ
-digitsOf zero n = []
-digitsOf (suc k) n = beforeLast (n / 10) (λ _. digitsOf k (n / 10)) ++ ((48 + n % 10) ∷ [])
+unfoldable pub digits_of : ℕ → ℕ → List ℕ
+digits_of zero n = []
+digits_of (suc k) n = before_last (n / 10) (λ _. digits_of k (n / 10)) ++ ((48 + n % 10) ∷ [])
 
 -- n in decimal: no number has more digits than its successor counts
 unfoldable pub decimal : ℕ → List ℕ
-decimal n = digitsOf (suc n) n
+decimal n = digits_of (suc n) n
 
 -- ---- lines
 
@@ -39,18 +39,18 @@ unfoldable pub numbered : String → ℕ → List ℕ
 numbered word n = ascii word ++ (decimal n ++ ascii "\n")
 
 -- "`node` number parent label; `var` variable node"
-unfoldable pub recordLine : Quad → List ℕ
-recordLine q =
+unfoldable pub record_line : Quad → List ℕ
+record_line q =
     pick (eqb q.first 1)
     (ascii "node " ++ (decimal q.second ++ (ascii " " ++ (decimal q.third ++ numbered " " q.fourth))))
     (ascii "var " ++ (decimal q.second ++ numbered " " q.third))
 
-unfoldable pub recordLines : List Quad → List ℕ
-recordLines [] = []
-recordLines (q ∷ qs) = recordLine q ++ recordLines qs
+unfoldable pub record_lines : List Quad → List ℕ
+record_lines [] = []
+record_lines (q ∷ qs) = record_line q ++ record_lines qs
 
-unfoldable pub kindName : ℕ → String
-kindName k =
+unfoldable pub kind_name : ℕ → String
+kind_name k =
     pick (eqb k 1) "child"
     (pick (eqb k 2) "below"
     (pick (eqb k 3) "strictly-below"
@@ -63,17 +63,17 @@ kindName k =
 -- ---- answers
 
 -- "First line: verdict (tree, none, spent or refused), then the count, or the number if refused. Then the records"
-unfoldable pub solvedText : Solved → List ℕ
-solvedText (solver-answers (a-tree count bytes)) = numbered "tree " count ++ recordLines (quads bytes)
-solvedText (solver-answers (a-none count)) = numbered "none " count
-solvedText (solver-answers (a-spent count)) = numbered "spent " count
-solvedText (solver-refuses question) = numbered "refused " question
+unfoldable pub solved_text : Solved → List ℕ
+solved_text (solver_answers (a_tree count bytes)) = numbered "tree " count ++ record_lines (quads bytes)
+solved_text (solver_answers (a_none count)) = numbered "none " count
+solved_text (solver_answers (a-spent count)) = numbered "spent " count
+solved_text (solver_refuses question) = numbered "refused " question
 
-unfoldable pub markedText : Marked → List ℕ
-markedText (marker-answers met) = ascii "met\n"
-markedText (marker-answers (unmet position kind)) = ascii "unmet " ++ (decimal position ++ (ascii " " ++ (ascii (kindName kind) ++ ascii "\n")))
-markedText (marker-refuses question) = numbered "refused " question
+unfoldable pub marked_text : Marked → List ℕ
+marked_text (marker_answers met) = ascii "met\n"
+marked_text (marker_answers (unmet position kind)) = ascii "unmet " ++ (decimal position ++ (ascii " " ++ (ascii (kind_name kind) ++ ascii "\n")))
+marked_text (marker_refuses question) = numbered "refused " question
 
-unfoldable pub fillText : Fill → List ℕ
-fillText (fill-written records) = records
-fillText (fill-refused question) = numbered "refused " question
+unfoldable pub fill_text : Fill → List ℕ
+fill_text (fill_written records) = records
+fill_text (fill_refused question) = numbered "refused " question

@@ -10,35 +10,35 @@ use native.Mathlib.Omega.{arith}
 use lib.Bits.{and_le_l, or_zero_r}
 use lib.Pow.{pow_mono}
 use Rattle.meaning.specs.Finite.{◌and◌, neg, pick, picked}
-use Rattle.meaning.proofs.Tests.{clash, yes-eq, no-neg, is_eq, self_eq, and_left, and_right, and_both, yes-not}
-use Rattle.rowbits.specs.Bit.{bit, withBit}
-use Rattle.rowbits.proofs.Laws.{bit-with, with-lt}
-use Rattle.tables.specs.Rows.{gained, gainedOne, without}
-use Rattle.tables.proofs.Bits.{without_in, without-out}
+use Rattle.meaning.proofs.Tests.{clash, yes_eq, no_neg, is_eq, self_eq, and_left, and_right, and_both, yes_not}
+use Rattle.rowbits.specs.Bit.{bit, with_bit}
+use Rattle.rowbits.proofs.Laws.{bit_with, with_lt}
+use Rattle.tables.specs.Rows.{gained, gained_one, without}
+use Rattle.tables.proofs.Bits.{without_in, without_out}
 use Rattle.ordering.specs.Rows.{Gathered}
 
 -- ---- tests
 
-pub and-true : (a : Bool) → (a and true) ≡ a
+pub and_true : (a : Bool) → (a and true) ≡ a
 unfolding ◌and◌
-and-true true = refl
-and-true false = refl
+and_true true = refl
+and_true false = refl
 
-pub and-false : (a : Bool) → (a and false) ≡ false
+pub and_false : (a : Bool) → (a and false) ≡ false
 unfolding ◌and◌
-and-false true = refl
-and-false false = refl
+and_false true = refl
+and_false false = refl
 
-pub and-turn : (a b : Bool) → (a and b) ≡ (b and a)
+pub and_turn : (a b : Bool) → (a and b) ≡ (b and a)
 unfolding ◌and◌
-and-turn true true = refl
-and-turn true false = refl
-and-turn false true = refl
-and-turn false false = refl
+and_turn true true = refl
+and_turn true false = refl
+and_turn false true = refl
+and_turn false false = refl
 
-or-false : (a : Bool) → (a || false) ≡ a
-or-false true = refl
-or-false false = refl
+or_false : (a : Bool) → (a || false) ≡ a
+or_false true = refl
+or_false false = refl
 
 -- ---- single bits
 
@@ -50,18 +50,18 @@ bit_past k a i h l =
 
 -- ---- what is in one row and not in another
 
-pub bit-without : (a b i : ℕ) → i < 16 → bit (without a b) i ≡ (bit a i and neg (bit b i))
-bit-without a b i h =
-    yes-eq _ _
-    (λ t. let w = without-out a b i h t in and_both w.0 (no-neg w.1))
+pub bit_without : (a b i : ℕ) → i < 16 → bit (without a b) i ≡ (bit a i and neg (bit b i))
+bit_without a b i h =
+    yes_eq _ _
+    (λ t. let w = without_out a b i h t in and_both w.0 (no_neg w.1))
     (λ t. without_in a b i h (and_left _ t) (λ u. clash u (and_right (bit a i) t)))
 
 -- ---- the numbers that pass a test
 
-pub picked-eq : (n : ℕ) (p q : ℕ → Bool) → ((k : ℕ) → k < n → p k ≡ q k) → picked n p ≡ picked n q
+pub picked_eq : (n : ℕ) (p q : ℕ → Bool) → ((k : ℕ) → k < n → p k ≡ q k) → picked n p ≡ picked n q
 unfolding picked
-picked-eq zero p q h = refl
-picked-eq (suc n) p q h = rw (picked-eq n p q (λ k l. h k (le_step l)), h n (le_refl _))
+picked_eq zero p q h = refl
+picked_eq (suc n) p q h = rw (picked_eq n p q (λ k l. h k (le_step l)), h n (le_refl _))
 
 -- the numbers before one of them and those behind it, and the list without it
 pub picked_apart : (n : ℕ) (p q : ℕ → Bool) (x : ℕ) → x < n → p x ≡ true → q x ≡ false → ((i : ℕ) → i < n → i ≢ x → q i ≡ p i)
@@ -73,7 +73,7 @@ picked_apart (suc n) p q x l t z h = go (ℕ_discrete x n) (λ k. picked_apart n
     go : Dec (x ≡ n) → (x < n → (zs : List ℕ) × (picked n p ≡ picked x p ++ x ∷ zs) × (picked n q ≡ picked x p ++ zs))
         → (zs : List ℕ) × (picked n p ++ pick (p n) (n ∷ []) [] ≡ picked x p ++ x ∷ zs) × (picked n q ++ pick (q n) (n ∷ []) [] ≡ picked x p ++ zs)
     go (yes e) r =
-        let same : picked n q ≡ picked n p = picked-eq n q p (λ j k. h j (le_step k) (λ d. omega arith)) in
+        let same : picked n q ≡ picked n p = picked_eq n q p (λ j k. h j (le_step k) (λ d. omega arith)) in
         ([], rw (← e, t), rw (same, ← e, z))
     go (no e) r =
         let w = r (omega arith) in (
@@ -88,36 +88,36 @@ picked_apart (suc n) p q x l t z h = go (ℕ_discrete x n) (λ k. picked_apart n
 pub gather_none : (p : ℕ → Bool) → Gathered 0 p 0
 gather_none p = record { small = omega arith; each = λ y l. absurd (not-suc-le-zero l) }
 
-marked-is : (t : Bool) (a k : ℕ) → gainedOne t a k ≡ pick t (withBit a k) a
-unfolding gainedOne gained pick withBit
-marked-is true a k = refl
-marked-is false a k = or_zero_r a
+marked_is : (t : Bool) (a k : ℕ) → gained_one t a k ≡ pick t (with_bit a k) a
+unfolding gained_one gained pick with_bit
+marked_is true a k = refl
+marked_is false a k = or_zero_r a
 
-pub gather-more : (p : ℕ → Bool) (k a b : ℕ) (t : Bool) → t ≡ p k → b ≡ gainedOne t a k → Gathered k p a → Gathered (k + 1) p b
+pub gather_more : (p : ℕ → Bool) (k a b : ℕ) (t : Bool) → t ≡ p k → b ≡ gained_one t a k → Gathered k p a → Gathered (k + 1) p b
 unfolding pick
-gather-more p k a b t e d g = record {
-  small = subst (λ (r : ℕ). r < 2 ^ (k + 1)) (sym (d ∙ marked-is t a k)) (small t);
-  each = λ y l. ap (λ (r : ℕ). bit r y) (d ∙ marked-is t a k) ∙ each t e y (ℕ_discrete y k) l;
+gather_more p k a b t e d g = record {
+  small = subst (λ (r : ℕ). r < 2 ^ (k + 1)) (sym (d ∙ marked_is t a k)) (small t);
+  each = λ y l. ap (λ (r : ℕ). bit r y) (d ∙ marked_is t a k) ∙ each t e y (ℕ_discrete y k) l;
 }
   where
     wider : a < 2 ^ (k + 1)
     wider = le_trans g.small (pow_mono {i = k} {j = k + 1} (omega arith))
 
-    small : (t : Bool) → pick t (withBit a k) a < 2 ^ (k + 1)
-    small true = with-lt (k + 1) a k wider (omega arith)
+    small : (t : Bool) → pick t (with_bit a k) a < 2 ^ (k + 1)
+    small true = with_lt (k + 1) a k wider (omega arith)
     small false = wider
 
-    each : (t : Bool) → t ≡ p k → (y : ℕ) → Dec (y ≡ k) → y < k + 1 → bit (pick t (withBit a k) a) y ≡ p y
-    each true e y (yes q) l = bit-with a k y ∙ rw (q, bit_past k a k g.small (le_refl _), self_eq k) e
+    each : (t : Bool) → t ≡ p k → (y : ℕ) → Dec (y ≡ k) → y < k + 1 → bit (pick t (with_bit a k) a) y ≡ p y
+    each true e y (yes q) l = bit_with a k y ∙ rw (q, bit_past k a k g.small (le_refl _), self_eq k) e
     each false e y (yes q) l = rw q (bit_past k a k g.small (le_refl _) ∙ e)
     each true e y (no q) l =
-        bit-with a k y ∙ ap (λ (b : Bool). bit a y || b) (yes-not (λ u. q (is_eq u))) ∙ or-false (bit a y) ∙ g.each y (omega arith)
+        bit_with a k y ∙ ap (λ (b : Bool). bit a y || b) (yes_not (λ u. q (is_eq u))) ∙ or_false (bit a y) ∙ g.each y (omega arith)
     each false e y (no q) l = g.each y (omega arith)
 
 -- a row less those of another, where the test asks that as well
-pub gather-except : (p : ℕ → Bool) (n a b r : ℕ) → n ≤ 16 → r ≡ without a b → Gathered n p a → Gathered n (λ y. neg (bit b y) and p y) r
+pub gather_except : (p : ℕ → Bool) (n a b r : ℕ) → n ≤ 16 → r ≡ without a b → Gathered n p a → Gathered n (λ y. neg (bit b y) and p y) r
 unfolding without
-gather-except p n a b r few e g = record {
+gather_except p n a b r few e g = record {
   small = rw e (le_trans (suc-le-suc (and_le_l a _)) g.small);
-  each = λ y l. ap (λ (k : ℕ). bit k y) e ∙ bit-without a b y (omega arith) ∙ and-turn _ _ ∙ ap (λ (t : Bool). neg (bit b y) and t) (g.each y l);
+  each = λ y l. ap (λ (k : ℕ). bit k y) e ∙ bit_without a b y (omega arith) ∙ and_turn _ _ ∙ ap (λ (t : Bool). neg (bit b y) and t) (g.each y l);
 }

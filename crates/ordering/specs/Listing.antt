@@ -21,7 +21,7 @@ abbrev pub precedes : List ℕ → ℕ → ℕ → Bool
 precedes after w g = bit (row after g) w
 
 pub record Strict (after : List ℕ) : Type 0 where
-  pub not-self : (v : ℕ) → ¬ Yes (precedes after v v)
+  pub not_self : (v : ℕ) → ¬ Yes (precedes after v v)
   pub chains : (u v w : ℕ) → Yes (precedes after u v) → Yes (precedes after v w) → Yes (precedes after u w)
 
 -- x is the lowest member of a row that none of its members goes before
@@ -31,13 +31,13 @@ pub record Earliest (after : List ℕ) (r x : ℕ) : Type 0 where
   pub first : (i : ℕ) → i < x → Yes (bit r i) → bit_and r (row after i) ≢ 0
 
 -- the members of a row, the next always the lowest that none of those left goes before
-unfoldable pub inLine : List ℕ → ℕ → List ℕ
-inLine after r = let gs = picked 16 (bit r) in arranged (precedes after) (length gs) gs
+unfoldable pub in_line : List ℕ → ℕ → List ℕ
+in_line after r = let gs = picked 16 (bit r) in arranged (precedes after) (length gs) gs
 
 -- the members of the first d rows, row by row
 unfoldable pub listed : List ℕ → List ℕ → ℕ → List ℕ
 listed after t zero = []
-listed after t (suc d) = listed after t d ++ inLine after (row t d)
+listed after t (suc d) = listed after t d ++ in_line after (row t d)
 
 pub record Listed (gs : List ℕ) (o : Order) : Type 0 where
   pub small : Small o

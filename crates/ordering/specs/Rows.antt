@@ -14,24 +14,24 @@ pub record Gathered (k : ℕ) (p : ℕ → Bool) (r : ℕ) : Type 0 where
   pub each : (y : ℕ) → y < k → bit r y ≡ p y
 
 -- the variables below n that are over one with these two rows
-unfoldable pub overRow : ℕ → ℕ → ℕ → ℕ
-overRow n up down = bit_and (without up down) (2 ^ n - 1)
+unfoldable pub over_row : ℕ → ℕ → ℕ → ℕ
+over_row n up down = bit_and (without up down) (2 ^ n - 1)
 
 module _ (t u : List ℕ) where
   -- no smaller variable is the same
-  unfoldable pub isLow : ℕ → Bool
-  isLow x = eqb (bit_and (bit_and (row u x) (row t x)) (2 ^ x - 1)) 0
+  unfoldable pub is_low : ℕ → Bool
+  is_low x = eqb (bit_and (bit_and (row u x) (row t x)) (2 ^ x - 1)) 0
 
   -- x stands for its group, which is not root
-  unfoldable pub isLowest : ℕ → ℕ → Bool
-  isLowest root x = neg (bit root x) and isLow x
+  unfoldable pub is_lowest : ℕ → ℕ → Bool
+  is_lowest root x = neg (bit root x) and is_low x
 
   -- how many of the lowest variables are over x
   unfoldable pub deep : ℕ → ℕ → ℕ → ℕ
-  deep n lows x = ones (bit_and (overRow n (row u x) (row t x)) lows)
+  deep n lows x = ones (bit_and (over_row n (row u x) (row t x)) lows)
 
-  unfoldable pub inLayer : ℕ → ℕ → ℕ → ℕ → Bool
-  inLayer n lows d x = bit lows x and eqb (deep n lows x) d
+  unfoldable pub in_layer : ℕ → ℕ → ℕ → ℕ → Bool
+  in_layer n lows d x = bit lows x and eqb (deep n lows x) d
 
   -- w is among these, which are over one variable, and over none of them
   unfoldable pub near : ℕ → ℕ → Bool

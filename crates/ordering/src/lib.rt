@@ -7,9 +7,9 @@ ghost use Rattle.meaning.specs.Finite.{◌and◌, position};
 ghost use Rattle.rowbits.specs.Bit.{bit};
 ghost use Rattle.tables.specs.Rows.{without};
 ghost use Rattle.tables.specs.Tables.{row};
-ghost use Rattle.ordering.specs.Rows.{Gathered, overRow, isLowest, inLayer, near};
-ghost use Rattle.ordering.specs.Numbering.{elementOf, numbered};
-ghost use Rattle.ordering.specs.Listing.{groups, Small, Strict, Earliest, inLine, listed, Listed, Placed};
+ghost use Rattle.ordering.specs.Rows.{Gathered, over_row, is_lowest, in_layer, near};
+ghost use Rattle.ordering.specs.Numbering.{element_of, numbered};
+ghost use Rattle.ordering.specs.Listing.{groups, Small, Strict, Earliest, in_line, listed, Listed, Placed};
 
 use ids::{Node, Var};
 
@@ -23,7 +23,7 @@ pub struct Order {
 // The variables below n that are over one, which has these rows of what is above and below it.
 pub fn over(up: u16, down: u16, n: usize) -> u16
     requires { n ≤ 16 }
-    ensures { result ≡ overRow n up down }
+    ensures { result ≡ over_row n up down }
 {
     tables::except(up, down) & tables::all(n)
 }
@@ -45,7 +45,7 @@ fn is_low(up: u16, down: u16, x: Var) -> bool
 // The lowest variables of the groups. Those that are root are on the document node, and no group.
 pub fn lows(below: [u16; 16], above: [u16; 16], root: u16, n: usize) -> u16
     requires { n ≤ 16 }
-    ensures { Gathered n (isLowest below above root) result }
+    ensures { Gathered n (is_lowest below above root) result }
 {
     let mut a: u16 = 0;
     for x in 0..n {
@@ -59,7 +59,7 @@ pub fn lows(below: [u16; 16], above: [u16; 16], root: u16, n: usize) -> u16
 // The groups of each depth. A depth is a count of sixteen bits, so at most 16.
 pub fn layers(below: [u16; 16], above: [u16; 16], lows: u16, n: usize) -> [u16; 17]
     requires { n ≤ 16 }
-    ensures { (d : ℕ) → d < 17 → Gathered n (inLayer below above n lows d) (row result d) }
+    ensures { (d : ℕ) → d < 17 → Gathered n (in_layer below above n lows d) (row result d) }
 {
     let mut layer = [0u16; 17];
     for x in 0..n {
@@ -91,8 +91,8 @@ fn earliest(after: [u16; 16], row: u16) -> usize
 
 // The order with the members of a row behind it, each after those that go before it.
 fn append(order: Order, row: u16, after: [u16; 16]) -> Order
-    requires { Small order × (length (groups order) + length (inLine after row) ≤ 16) × Strict after }
-    ensures { Listed (groups order ++ inLine after row) result }
+    requires { Small order × (length (groups order) + length (in_line after row) ≤ 16) × Strict after }
+    ensures { Listed (groups order ++ in_line after row) result }
 {
     let mut o = order;
     let mut rest = row;
@@ -164,7 +164,7 @@ pub fn nearest(order: Order, over: u16, below: [u16; 16], above: [u16; 16]) -> u
 
 // 1 if a blank element stands next under the document node: unless exactly one group does.
 pub fn element_of(top: u16) -> u8
-    ensures { result ≡ elementOf (ones top) }
+    ensures { result ≡ element_of (ones top) }
 {
     if count(top) == 1 {
         return 0;

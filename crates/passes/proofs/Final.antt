@@ -12,23 +12,23 @@ use native.Mathlib.Omega.{arith}
 use lib.ListN.{length, get_or-eq_default}
 use lib.Bits.{bit_or}
 use Rattle.meaning.specs.Constraint.{Fact, child, below, differ, before, root, leaf, label}
-use Rattle.meaning.specs.Settled.{Settled, Clash, differs, labels, leaf-below, one_parent, one-element}
+use Rattle.meaning.specs.Settled.{Settled, Clash, differs, labels, leaf_below, one_parent, one_element}
 use Rattle.meaning.specs.Finite.{Yes, sum, pick}
-use Rattle.meaning.proofs.Finite.{sum-le, sum_lt}
-use Rattle.meaning.proofs.Tests.{yes-eq}
+use Rattle.meaning.proofs.Finite.{sum_le, sum_lt}
+use Rattle.meaning.proofs.Tests.{yes_eq}
 use Rattle.meaning.specs.Closed.{Within}
-use Rattle.meaning.proofs.Least.{settled-within, settled-rules}
+use Rattle.meaning.proofs.Least.{settled_within, settled_rules}
 use Rattle.rowbits.specs.Bit.{bit}
 use Rattle.tables.specs.Tables.{row, has, Seeded}
 use Rattle.tables.specs.declared.Facts.{Facts}
-use Rattle.tables.proofs.Bits.{none_in, or_l, or_r, in_both, both-in, in_row, one_has}
-use Rattle.tables.proofs.Loops.{transposed-columns}
-use Rattle.tables.proofs.Labels.{label-has, label_is}
+use Rattle.tables.proofs.Bits.{none_in, or_l, or_r, in_both, both_in, in_row, one_has}
+use Rattle.tables.proofs.Loops.{transposed_columns}
+use Rattle.tables.proofs.Labels.{label_has, label_is}
 use Rattle.tables.proofs.Groups as groups
-use Rattle.tables.proofs.Groups.{Twin, One, Two, Order, flip, alone, own, each, turn, embed-in, shared-sharing, shared-least, sharing-same}
-use Rattle.passes.specs.Rows.{In, GroupsOf, WholeGroups, Joins, by-leaf, by-child, by-root, JoinedOf}
-use Rattle.sharing.specs.Shares.{shareAt, Source, ShareOf, GroupClash, two-labels, apart, SharedOf}
-use Rattle.passes.proofs.Weights.{bits-le}
+use Rattle.tables.proofs.Groups.{Twin, One, Two, Order, flip, alone, own, each, turn, embed_in, shared_sharing, shared_least, sharing_same}
+use Rattle.passes.specs.Rows.{In, GroupsOf, WholeGroups, Joins, by_leaf, by_child, by_root, JoinedOf}
+use Rattle.sharing.specs.Shares.{share_at, Source, ShareOf, GroupClash, two_labels, apart, SharedOf}
+use Rattle.passes.proofs.Weights.{bits_le}
 use Rattle.passes.specs.Steps.{weight, SteppedOf, PassRules}
 use Rattle.passes.specs.declared.Groups.{Groups}
 use Rattle.sharing.specs.declared.Share.{Share}
@@ -44,9 +44,9 @@ shares f = record { child = f.child; parent = f.parent; differ = f.differ; label
 pub record Start (n : ℕ) (f : Facts) (k : Groups) : Type 0 where
   pub few : n ≤ 16
   pub groups : GroupsOf n f.below f.child f.root k
-  pub parent-long : length f.parent ≡ 16
-  pub parent-small : (i : ℕ) → row f.parent i < 65536
-  pub child-small : (i : ℕ) → row f.child i < 65536
+  pub parent_long : length f.parent ≡ 16
+  pub parent_small : (i : ℕ) → row f.parent i < 65536
+  pub child_small : (i : ℕ) → row f.child i < 65536
 
 module _ {n : ℕ} {f : Facts} {k : Groups} (o : Start n f k) (S : List Fact) (seed : Seeded n S f) where
   abbrev B : List ℕ
@@ -58,11 +58,11 @@ module _ {n : ℕ} {f : Facts} {k : Groups} (o : Start n f k) (S : List Fact) (s
   abbrev P : Fact → Type 0
   P φ = Yes (has f φ)
 
-  in-16 : {x : ℕ} → x < n → x < 16
-  in-16 h = le_trans h o.few
+  in_16 : {x : ℕ} → x < n → x < 16
+  in_16 h = le_trans h o.few
 
   within : (φ : Fact) → P φ → Within n φ
-  within φ u = settled-within n S seed.inside (seed.sound φ u)
+  within φ u = settled_within n S seed.inside (seed.sound φ u)
 
   -- ---- below, and the same
 
@@ -71,7 +71,7 @@ module _ {n : ℕ} {f : Facts} {k : Groups} (o : Start n f k) (S : List Fact) (s
   B-s x y u = o.groups.chained.sound S (λ i j. seed.sound (below i j)) (λ i j. seed.sound (child i j)) (λ i. seed.sound (root i)) x y u
 
   B-in : (x y : ℕ) → In B x y → (x < n) × (y < n)
-  B-in x y u = settled-within n S seed.inside (B-s x y u)
+  B-in x y u = settled_within n S seed.inside (B-s x y u)
 
   B-chain : (x y z : ℕ) → In B x y → In B y z → In B x z
   B-chain x y z u v = let q = B-in x y u in o.groups.chained.chained x y z q.0 q.1 u v
@@ -86,13 +86,13 @@ module _ {n : ℕ} {f : Facts} {k : Groups} (o : Start n f k) (S : List Fact) (s
   group {x} {y} t =
       let q = B-in x y t.fro in
       subst (λ (i : ℕ). Yes (bit i y)) (sym (o.groups.common.rows x))
-      (both-in (row B x) (row k.above x) y t.fro ((o.groups.columns.columns x (in-16 q.0)).to y (in-16 q.1) t.to))
+      (both_in (row B x) (row k.above x) y t.fro ((o.groups.columns.columns x (in_16 q.0)).to y (in_16 q.1) t.to))
 
   itself : {x : ℕ} → x < n → Twin (In B) x x
   itself {x} h = alone (o.groups.chained.itself x h)
 
-  twin-in : {x y : ℕ} → Twin (In B) y x → x < n
-  twin-in t = (B-in _ _ t.to).1
+  twin_in : {x y : ℕ} → Twin (In B) y x → x < n
+  twin_in t = (B-in _ _ t.to).1
 
   one : {R : ℕ → Type 0} {x : ℕ} (y : ℕ) → x < 16 → In E x y → R y → One (In B) R x
   one y h u r = record { it = y; twin = twin h u; holds = r }
@@ -103,7 +103,7 @@ module _ {n : ℕ} {f : Facts} {k : Groups} (o : Start n f k) (S : List Fact) (s
     where
       go : Dec (j ≡ z) → Yes (bit (bit_or k.several (2 ^ x)) z)
       go (yes i) = or_r k.several (2 ^ x) z (subst (λ (m : ℕ). Yes (bit (2 ^ x) m)) (sym (e i)) (one_has x))
-      go (no i) = or_l k.several (2 ^ x) z (o.groups.grouped.has j z (in-16 (twin-in u)) (in-16 (twin-in (flip u))) (λ q. i (sym q)) (group u))
+      go (no i) = or_l k.several (2 ^ x) z (o.groups.grouped.has j z (in_16 (twin_in u)) (in_16 (twin_in (flip u))) (λ q. i (sym q)) (group u))
 
   -- ---- the given facts, and what the groups share of them; before is not shared
 
@@ -111,48 +111,48 @@ module _ {n : ℕ} {f : Facts} {k : Groups} (o : Start n f k) (S : List Fact) (s
   R x y = P (before x y)
 
   least : (φ : Fact) → groups.Shared (In B) R P φ → Settled n S φ
-  least = shared-least n P (Settled n S) (In B) R (settled-rules n S).sharing seed.sound B-s (λ x y. seed.sound (before x y))
+  least = shared_least n P (Settled n S) (In B) R (settled_rules n S).sharing seed.sound B-s (λ x y. seed.sound (before x y))
 
-  parent-child : (x y : ℕ) → In f.parent x y → P (child y x)
+  parent_child : (x y : ℕ) → In f.parent x y → P (child y x)
   unfolding has
-  parent-child x y u = sym (seed.parents y x (in_row (row f.parent x) y (o.parent-small x) u) (go (dec_lt x 16))) ∙ u
+  parent_child x y u = sym (seed.parents y x (in_row (row f.parent x) y (o.parent_small x) u) (go (dec_lt x 16))) ∙ u
     where
       go : Dec (x < 16) → x < 16
       go (yes h) = h
-      go (no h) = none_in y (subst (λ (i : ℕ). Yes (bit i y)) (get_or-eq_default f.parent 0 (rw o.parent-long (omega arith))) u)
+      go (no h) = none_in y (subst (λ (i : ℕ). Yes (bit i y)) (get_or-eq_default f.parent 0 (rw o.parent_long (omega arith))) u)
 
-  child-parent : (x y : ℕ) → P (child x y) → In f.parent y x
+  child_parent : (x y : ℕ) → P (child x y) → In f.parent y x
   unfolding has
-  child-parent x y u = let q = within (child x y) u in seed.parents x y (in-16 q.0) (in-16 q.1) ∙ u
+  child_parent x y u = let q = within (child x y) u in seed.parents x y (in_16 q.0) (in_16 q.1) ∙ u
 
   -- a table of given facts: they name variables, and those differ
   pub record Given (t : List ℕ) : Type 0 where
     pub few : (x y : ℕ) → In t x y → (x < n) × (y < n)
     pub apart : (x y : ℕ) → In t x y → In f.differ x y
 
-  child-given : Given f.child
+  child_given : Given f.child
   unfolding has
-  child-given = record { few = λ x y. within (child x y); apart = seed.child-differ }
+  child_given = record { few = λ x y. within (child x y); apart = seed.child_differ }
 
-  parent-given : Given f.parent
+  parent_given : Given f.parent
   unfolding has
-  parent-given = record {
-    few = λ x y u. let q = within (child y x) (parent-child x y u) in (q.1, q.0);
-    apart = λ x y u. seed.turned y x (seed.child-differ y x (parent-child x y u));
+  parent_given = record {
+    few = λ x y u. let q = within (child y x) (parent_child x y u) in (q.1, q.0);
+    apart = λ x y u. seed.turned y x (seed.child_differ y x (parent_child x y u));
   }
 
-  differ-given : Given f.differ
+  differ_given : Given f.differ
   unfolding has
-  differ-given = record { few = λ x y. within (differ x y); apart = λ x y u. u }
+  differ_given = record { few = λ x y. within (differ x y); apart = λ x y u. u }
 
   two : {t : List ℕ} {x y : ℕ} → Given t → (i z : ℕ) → x < n → In E x i → In t i z → In E z y → Two (In B) (In t) x y
-  two g i z h u v w = record { left = i; right = z; left-twin = twin (in-16 h) u; right-twin = flip (twin (in-16 (g.few i z v).1) w); holds = v }
+  two g i z h u v w = record { left = i; right = z; left_twin = twin (in_16 h) u; right_twin = flip (twin (in_16 (g.few i z v).1) w); holds = v }
 
-  pub group-clash : GroupClash n (shares f) E → Clash n S
+  pub group_clash : GroupClash n (shares f) E → Clash n S
   unfolding has
-  group-clash (two-labels x y z h u v a b e) =
-      labels {x = x} (least (label x _) (one y (in-16 h) u (label-has f y _ refl a))) (least (label x _) (one z (in-16 h) v (label-has f z _ refl b))) e
-  group-clash (apart x y z h u v w) = differs (least (differ x x) (two differ-given y z h u v w))
+  group_clash (two_labels x y z h u v a b e) =
+      labels {x = x} (least (label x _) (one y (in_16 h) u (label_has f y _ refl a))) (least (label x _) (one z (in_16 h) v (label_has f z _ refl b))) e
+  group_clash (apart x y z h u v w) = differs (least (differ x x) (two differ_given y z h u v w))
 
   -- ---- the tables after the pass
 
@@ -164,11 +164,11 @@ module _ {n : ℕ} {f : Facts} {k : Groups} (o : Start n f k) (S : List Fact) (s
     abbrev g : Facts
     g = record { child = t.child; parent = t.parent; below = j.below; above = k.above; differ = t.differ; before = f.before; after = f.after; root = roots; label = t.label; leaf = leaves }
 
-    done : (x : ℕ) → x < n → ShareOf E (shares f) k.several x (shareAt t x)
+    done : (x : ℕ) → x < n → ShareOf E (shares f) k.several x (share_at t x)
     done x h = w.done well x h
 
     -- rows from n on are as they were, and hold nothing
-    rest : (x : ℕ) → ¬ (x < n) → shareAt t x ≡ shareAt (shares f) x
+    rest : (x : ℕ) → ¬ (x < n) → share_at t x ≡ share_at (shares f) x
     rest x h = w.rest well x (omega arith)
 
     -- u has what the groups share of t, and nothing else
@@ -190,98 +190,98 @@ module _ {n : ℕ} {f : Facts} {k : Groups} (o : Start n f k) (S : List Fact) (s
         from x y v (no h) = absurd (h (g.few x y (subst (λ (i : ℕ). Yes (bit i y)) (e x h) v)).0)
 
         to : (x y : ℕ) (v : Two (In B) (In t) x y) → Dec (y ≡ v.right) → In u x y
-        to x y v (yes i) = b x v.left y (twin-in v.left-twin) (group v.left-twin) (subst (In t v.left) (sym i) v.holds)
-        to x y v (no i) = c x v.left v.right y (twin-in v.left-twin) (group v.left-twin) (g.apart v.left v.right v.holds)
-            (visited x v.right y (λ q. absurd (i q)) v.right-twin) v.holds (group (flip v.right-twin))
+        to x y v (yes i) = b x v.left y (twin_in v.left_twin) (group v.left_twin) (subst (In t v.left) (sym i) v.holds)
+        to x y v (no i) = c x v.left v.right y (twin_in v.left_twin) (group v.left_twin) (g.apart v.left v.right v.holds)
+            (visited x v.right y (λ q. absurd (i q)) v.right_twin) v.holds (group (flip v.right_twin))
 
-    child-spread : Spread f.child t.child
-    child-spread = spread child-given (λ x h. ap (λ (i : Share). i.child) (rest x h)) (λ x y h u. (done x h).taking.child y u) (λ x i y h e u. ((done x h).taken i e).child y u) (λ x i z y h e d v u q. (((done x h).taken i e).twins z d v).child u y q)
+    child_spread : Spread f.child t.child
+    child_spread = spread child_given (λ x h. ap (λ (i : Share). i.child) (rest x h)) (λ x y h u. (done x h).taking.child y u) (λ x i y h e u. ((done x h).taken i e).child y u) (λ x i z y h e d v u q. (((done x h).taken i e).twins z d v).child u y q)
 
-    parent-spread : Spread f.parent t.parent
-    parent-spread = spread parent-given (λ x h. ap (λ (i : Share). i.parent) (rest x h)) (λ x y h u. (done x h).taking.parent y u) (λ x i y h e u. ((done x h).taken i e).parent y u) (λ x i z y h e d v u q. (((done x h).taken i e).twins z d v).parent u y q)
+    parent_spread : Spread f.parent t.parent
+    parent_spread = spread parent_given (λ x h. ap (λ (i : Share). i.parent) (rest x h)) (λ x y h u. (done x h).taking.parent y u) (λ x i y h e u. ((done x h).taken i e).parent y u) (λ x i z y h e d v u q. (((done x h).taken i e).twins z d v).parent u y q)
 
-    differ-spread : Spread f.differ t.differ
-    differ-spread = spread differ-given (λ x h. ap (λ (i : Share). i.differ) (rest x h)) (λ x y h u. (done x h).taking.differ y u) (λ x i y h e u. ((done x h).taken i e).differ y u) (λ x i z y h e d v u q. (((done x h).taken i e).twins z d v).differ y q)
+    differ_spread : Spread f.differ t.differ
+    differ_spread = spread differ_given (λ x h. ap (λ (i : Share). i.differ) (rest x h)) (λ x y h u. (done x h).taking.differ y u) (λ x i y h e u. ((done x h).taken i e).differ y u) (λ x i z y h e d v u q. (((done x h).taken i e).twins z d v).differ y q)
 
-    to-child : (x y : ℕ) → In t.parent y x → In t.child x y
+    to_child : (x y : ℕ) → In t.parent y x → In t.child x y
     unfolding has
-    to-child x y u = child-spread.to x y (turn parent-child (parent-spread.from y x u))
+    to_child x y u = child_spread.to x y (turn parent_child (parent_spread.from y x u))
 
-    to-parent : (x y : ℕ) → In t.child x y → In t.parent y x
+    to_parent : (x y : ℕ) → In t.child x y → In t.parent y x
     unfolding has
-    to-parent x y u = parent-spread.to y x (turn child-parent (child-spread.from x y u))
+    to_parent x y u = parent_spread.to y x (turn child_parent (child_spread.from x y u))
 
     -- a variable of whole groups, and the one that it is the same as
     whole_from : {t r : ℕ} → WholeGroups E t r → ((x : ℕ) → Yes (bit t x) → x < n) → (x : ℕ) → Yes (bit r x) → One (In B) (λ i. Yes (bit t i)) x
     whole_from w few x u = ⊎_elim (λ v. own (itself (few x v)) v) (λ v. one v.1 v.0 v.2 v.3) (w.from x u)
 
     whole_to : {t r : ℕ} → WholeGroups E t r → (x : ℕ) → One (In B) (λ i. Yes (bit t i)) x → Yes (bit r x)
-    whole_to w x v = w.to x v.it (in-16 (twin-in v.twin)) (group v.twin) v.holds
+    whole_to w x v = w.to x v.it (in_16 (twin_in v.twin)) (group v.twin) v.holds
 
-    label-from : (x m : ℕ) → Yes (has g (label x m)) → One (In B) (λ i. P (label i m)) x
-    label-from x m u = go (dec_lt x n)
+    label_from : (x m : ℕ) → Yes (has g (label x m)) → One (In B) (λ i. P (label i m)) x
+    label_from x m u = go (dec_lt x n)
       where
         q : (row t.label x ≡ m) × (m ≢ 0)
         q = label_is g x m u
 
         go : Dec (x < n) → One (In B) (λ i. P (label i m)) x
-        go (yes h) = let v = (done x h).taking.label (λ z. q.1 (sym q.0 ∙ z)) in one v.0 (in-16 h) v.1 (label-has f v.0 m (v.2 ∙ q.0) q.1)
-        go (no h) = absurd (h (within (label x m) (label-has f x m (sym (ap (λ (i : Share). i.label) (rest x h)) ∙ q.0) q.1)))
+        go (yes h) = let v = (done x h).taking.label (λ z. q.1 (sym q.0 ∙ z)) in one v.0 (in_16 h) v.1 (label_has f v.0 m (v.2 ∙ q.0) q.1)
+        go (no h) = absurd (h (within (label x m) (label_has f x m (sym (ap (λ (i : Share). i.label) (rest x h)) ∙ q.0) q.1)))
 
     -- but for what joining added to below, the tables have what the groups share
     from : (Q : Fact → Type 0) → ((φ : Fact) → groups.Shared (In B) R P φ → Q φ) → ((x y : ℕ) → In j.below x y → Q (below x y)) → (φ : Fact) → Yes (has g φ) → Q φ
     unfolding has
-    from Q q b (child x y) u = q (child x y) (child-spread.from x y u)
+    from Q q b (child x y) u = q (child x y) (child_spread.from x y u)
     from Q q b (below x y) u = b x y u
-    from Q q b (differ x y) u = q (differ x y) (differ-spread.from x y u)
+    from Q q b (differ x y) u = q (differ x y) (differ_spread.from x y u)
     from Q q b (before x y) u = q (before x y) u
     from Q q b (root x) u = q (root x) (whole_from r (λ i. within (root i)) x u)
     from Q q b (leaf x) u = q (leaf x) (whole_from l (λ i. within (leaf i)) x u)
-    from Q q b (label x m) u = q (label x m) (label-from x m u)
+    from Q q b (label x m) u = q (label x m) (label_from x m u)
 
     to : (φ : Fact) → groups.Shared (In B) R P φ → Yes (has g φ)
     unfolding has
-    to (child x y) v = child-spread.to x y v
+    to (child x y) v = child_spread.to x y v
     to (below x y) v = (a.up x).kept y v
-    to (differ x y) v = differ-spread.to x y v
+    to (differ x y) v = differ_spread.to x y v
     to (before x y) v = v
     to (root x) v = whole_to r x v
     to (leaf x) v = whole_to l x v
     to (label x m) v =
         let q = label_is f v.it m v.holds in
-        label-has g x m (((done x (twin-in v.twin)).taken v.it (group v.twin)).label (λ z. q.1 (sym q.0 ∙ z)) ∙ q.0) q.1
+        label_has g x m (((done x (twin_in v.twin)).taken v.it (group v.twin)).label (λ z. q.1 (sym q.0 ∙ z)) ∙ q.0) q.1
 
-    child-s : (x y : ℕ) → In t.child x y → Settled n S (child x y)
+    child_s : (x y : ℕ) → In t.child x y → Settled n S (child x y)
     unfolding has
-    child-s x y u = least (child x y) (child-spread.from x y u)
+    child_s x y u = least (child x y) (child_spread.from x y u)
 
-    root-s : (x : ℕ) → Yes (bit roots x) → Settled n S (root x)
+    root_s : (x : ℕ) → Yes (bit roots x) → Settled n S (root x)
     unfolding has
-    root-s x u = least (root x) (whole_from r (λ i. within (root i)) x u)
+    root_s x u = least (root x) (whole_from r (λ i. within (root i)) x u)
 
-    joins-s : (x y : ℕ) → x < n → Joins k.above f.leaf roots t.child t.parent x y → Settled n S (below x y)
+    joins_s : (x y : ℕ) → x < n → Joins k.above f.leaf roots t.child t.parent x y → Settled n S (below x y)
     unfolding has
-    joins-s x y h (by-leaf u v) = leaf-below (seed.sound (leaf y) v) (B-s y x ((o.groups.columns.columns x (in-16 h)).from y u))
-    joins-s x y h (by-child z u v) = one_parent (child-s x z u) (child-s y z (to-child y z v))
-    joins-s x y h (by-root z u v w) = one-element (root-s z v) (child-s z x (to-child z x u)) (child-s z y w)
+    joins_s x y h (by_leaf u v) = leaf_below (seed.sound (leaf y) v) (B-s y x ((o.groups.columns.columns x (in_16 h)).from y u))
+    joins_s x y h (by_child z u v) = one_parent (child_s x z u) (child_s y z (to_child y z v))
+    joins_s x y h (by_root z u v w) = one_element (root_s z v) (child_s z x (to_child z x u)) (child_s z y w)
 
-    joined-s : (x y : ℕ) → In j.below x y → Settled n S (below x y)
-    joined-s x y u = ⊎_elim (B-s x y) (λ v. joins-s x y v.0 v.1) (a.from x y u)
+    joined_s : (x y : ℕ) → In j.below x y → Settled n S (below x y)
+    joined_s x y u = ⊎_elim (B-s x y) (λ v. joins_s x y v.0 v.1) (a.from x y u)
 
     keeps : (φ : Fact) → P φ → Yes (has g φ)
     unfolding has
-    keeps φ u = to φ (embed-in n P (In B) R (λ x y. (o.groups.chained.up x).kept y) o.groups.chained.itself (λ x y v. v) within φ u)
+    keeps φ u = to φ (embed_in n P (In B) R (λ x y. (o.groups.chained.up x).kept y) o.groups.chained.itself (λ x y v. v) within φ u)
 
     pub seeded : Seeded n S g
     unfolding has
     seeded = record {
       inside = seed.inside;
       held = λ φ m. keeps φ (seed.held φ m);
-      sound = from (Settled n S) least joined-s;
-      child-differ = λ x y u. differ-spread.to x y (each seed.child-differ (child-spread.from x y u));
-      before-differ = λ x y u. keeps (differ x y) (seed.before-differ x y u);
-      turned = λ x y u. differ-spread.to y x (turn seed.turned (differ-spread.from x y u));
-      parents = λ x y hx hy. yes-eq _ _ (to-child x y) (to-parent x y);
+      sound = from (Settled n S) least joined_s;
+      child_differ = λ x y u. differ_spread.to x y (each seed.child_differ (child_spread.from x y u));
+      before_differ = λ x y u. keeps (differ x y) (seed.before_differ x y u);
+      turned = λ x y u. differ_spread.to y x (turn seed.turned (differ_spread.from x y u));
+      parents = λ x y hx hy. yes_eq _ _ (to_child x y) (to_parent x y);
       siblings = seed.siblings;
     }
 
@@ -297,41 +297,41 @@ module _ {n : ℕ} {f : Facts} {k : Groups} (o : Start n f k) (S : List Fact) (s
         keeps = λ x y. (o.groups.chained.up x).kept y;
         self = o.groups.chained.itself;
         chain = B-chain;
-        over-child = λ x y u. o.groups.chained.parent x y (within (child x y) u).0 u;
-        under-root = λ x y u. o.groups.chained.rooted x y (within (root x) u) u;
-        under-leaf = λ x y u v. let i = B-in x y v in out y x (a.to y x i.1 (by-leaf ((o.groups.columns.columns y (in-16 i.1)).to x (in-16 i.0) v) u));
-        child-differ = seed.child-differ;
+        over_child = λ x y u. o.groups.chained.parent x y (within (child x y) u).0 u;
+        under_root = λ x y u. o.groups.chained.rooted x y (within (root x) u) u;
+        under_leaf = λ x y u v. let i = B-in x y v in out y x (a.to y x i.1 (by_leaf ((o.groups.columns.columns y (in_16 i.1)).to x (in_16 i.0) v) u));
+        child_differ = seed.child_differ;
         differ_back = seed.turned;
       }
 
-      no-differ : (x : ℕ) → Yes (has g (differ x x)) → ⊥
+      no_differ : (x : ℕ) → Yes (has g (differ x x)) → ⊥
       unfolding has
-      no-differ x u =
-          let v = differ-spread.from x x u in
-          let t = v.right-twin in
-          (((done x (twin-in t)).taken v.left (group v.left-twin)).twins v.right v.holds (visited x v.right x sym t)).apart (group (flip t))
+      no_differ x u =
+          let v = differ_spread.from x x u in
+          let t = v.right_twin in
+          (((done x (twin_in t)).taken v.left (group v.left_twin)).twins v.right v.holds (visited x v.right x sym t)).apart (group (flip t))
 
       pub closed : PassRules n g
       unfolding has
       closed = record {
-        sharing = sharing-same n (groups.Shared (In B) R P) (λ φ. Yes (has g φ)) to (from (groups.Shared (In B) R P) (λ φ s. s) out) (shared-sharing n P (In B) order R);
-        one_parent = λ x y z u v. a.to x y (twin-in (child-spread.from x z u).left-twin) (by-child z u (to-parent y z v));
-        one-element = λ x y z q u v. a.to y z (twin-in (child-spread.from x y u).right-twin) (by-root x (to-parent x y u) q v);
-        apart = no-differ;
-        ancestors = λ x y hx hy. transposed-columns o.groups.columns x y hx hy ∙ ap (λ (i : ℕ). bit i y) (sym (a.still still x));
+        sharing = sharing_same n (groups.Shared (In B) R P) (λ φ. Yes (has g φ)) to (from (groups.Shared (In B) R P) (λ φ s. s) out) (shared_sharing n P (In B) order R);
+        one_parent = λ x y z u v. a.to x y (twin_in (child_spread.from x z u).left_twin) (by_child z u (to_parent y z v));
+        one_element = λ x y z q u v. a.to y z (twin_in (child_spread.from x y u).right_twin) (by_root x (to_parent x y u) q v);
+        apart = no_differ;
+        ancestors = λ x y hx hy. transposed_columns o.groups.columns x y hx hy ∙ ap (λ (i : ℕ). bit i y) (sym (a.still still x));
       }
 
 -- ---- how a pass ends
 
 module _ {n : ℕ} {f : Facts} {k : Groups} (o : Start n f k) {s : Shared} (w : SharedOf n (shares f) k.same k.several s) where
-  pub ended-well : {j : Joined} {roots leaves : ℕ} → s.clash ≡ false → JoinedOf n k.below k.above f.leaf roots s.shares.child s.shares.parent j
+  pub ended_well : {j : Joined} {roots leaves : ℕ} → s.clash ≡ false → JoinedOf n k.below k.above f.leaf roots s.shares.child s.shares.parent j
       → WholeGroups k.same f.root roots → WholeGroups k.same f.leaf leaves → SteppedOf (PassRules n) n f (record {
         clash = false;
         more = j.more;
         facts = record { child = s.shares.child; parent = s.shares.parent; below = j.below; above = k.above; differ = s.shares.differ; before = f.before; after = f.after; root = roots; label = s.shares.label; leaf = leaves };
       })
   unfolding weight pick
-  ended-well {j} well a r l = record {
+  ended_well {j} well a r l = record {
     clashes = λ d. absurd (false≢true d);
     seeded = λ d S seed. seeded o S seed w well a r l;
     closed = λ d still S seed. closed o S seed w well a r l still;
@@ -341,33 +341,33 @@ module _ {n : ℕ} {f : Facts} {k : Groups} (o : Start n f k) {s : Shared} (w : 
       up : (x : ℕ) → row f.below x ≤ row j.below x
       up x = le_trans (o.groups.chained.up x).most (a.up x).most
 
-      child-up : (x : ℕ) → row f.child x ≤ row s.shares.child x
-      child-up x = bits-le 16 _ _ (o.child-small x) (λ y u. kept y u (dec_lt x n))
+      child_up : (x : ℕ) → row f.child x ≤ row s.shares.child x
+      child_up x = bits_le 16 _ _ (o.child_small x) (λ y u. kept y u (dec_lt x n))
         where
           -- x is in its own group
           kept : (y : ℕ) → Yes (bit (row f.child x) y) → Dec (x < n) → Yes (bit (row s.shares.child x) y)
           kept y u (yes h) =
               let b = o.groups.chained.itself x h in
               let l = le_trans h o.few in
-              let e = both-in (row k.below x) (row k.above x) x b ((o.groups.columns.columns x l).to x l b) in
+              let e = both_in (row k.below x) (row k.above x) x b ((o.groups.columns.columns x l).to x l b) in
               ((w.done well x h).taken x (subst (λ (i : ℕ). Yes (bit i x)) (sym (o.groups.common.rows x)) e)).child y u
           kept y u (no h) = subst (λ (i : ℕ). Yes (bit i y)) (sym (ap (λ (i : Share). i.child) (w.rest well x (omega arith)))) u
 
-      child-sum : sum 16 (row f.child) ≤ sum 16 (row s.shares.child)
-      child-sum = sum-le 16 (row f.child) (row s.shares.child) (λ x h. child-up x)
+      child_sum : sum 16 (row f.child) ≤ sum 16 (row s.shares.child)
+      child_sum = sum_le 16 (row f.child) (row s.shares.child) (λ x h. child_up x)
 
       grown : (b : Bool) → j.more ≡ b → sum 16 (row f.below) + sum 16 (row f.child) + sum 16 (row f.before) + pick b 1 0
           ≤ sum 16 (row j.below) + sum 16 (row s.shares.child) + sum 16 (row f.before)
-      grown false e = let q = sum-le 16 (row f.below) (row j.below) (λ x h. up x) in let p = child-sum in omega arith
+      grown false e = let q = sum_le 16 (row f.below) (row j.below) (λ x h. up x) in let p = child_sum in omega arith
       grown true e =
           let m = a.moved e in
           let q = sum_lt 16 (row f.below) (row j.below) (λ x h. up x) m.0 (le_trans m.1 o.few) (let b = (o.groups.chained.up m.0).most in let c = m.2 in omega arith) in
-          let p = child-sum in
+          let p = child_sum in
           omega arith
 
-  pub ended-clash : (g : Facts) (more : Bool) → s.clash ≡ true → SteppedOf (PassRules n) n f (record { clash = true; more = more; facts = g })
-  ended-clash g more c = record {
-    clashes = λ d S seed. group-clash o S seed (w.clashes c);
+  pub ended_clash : (g : Facts) (more : Bool) → s.clash ≡ true → SteppedOf (PassRules n) n f (record { clash = true; more = more; facts = g })
+  ended_clash g more c = record {
+    clashes = λ d S seed. group_clash o S seed (w.clashes c);
     seeded = λ d. absurd (false≢true (sym d));
     closed = λ d. absurd (false≢true (sym d));
     grown = λ d. absurd (false≢true (sym d));

@@ -15,8 +15,8 @@ abbrev pub In : List ℕ → ℕ → ℕ → Type 0
 In t x y = Yes (bit (row t x) y)
 
 -- a row of below by the rules that look at no other row: itself, its children, and all if it is a root
-unfoldable pub firstRow : ℕ → ℕ → ℕ → ℕ → ℕ → ℕ
-firstRow b c roots x n = gained (bit roots x) (bit_or (bit_or b c) (2 ^ x)) (2 ^ n - 1)
+unfoldable pub first_row : ℕ → ℕ → ℕ → ℕ → ℕ → ℕ
+first_row b c roots x n = gained (bit roots x) (bit_or (bit_or b c) (2 ^ x)) (2 ^ n - 1)
 
 -- r has every variable that is in the row of another one
 pub record Grouped (same : List ℕ) (r : ℕ) : Type 0 where
@@ -64,9 +64,9 @@ pub record WholeGroups (same : List ℕ) (t r : ℕ) : Type 0 where
 
 -- x has become the same as a leaf above it, as another parent of a child, or as another child of a root
 pub data Joins (above : List ℕ) (leaf roots : ℕ) (children parents : List ℕ) (x y : ℕ) : Type 0 where
-  by-leaf : Yes (bit (row above x) y) → Yes (bit leaf y) → Joins above leaf roots children parents x y
-  by-child : (z : ℕ) → Yes (bit (row children x) z) → Yes (bit (row parents z) y) → Joins above leaf roots children parents x y
-  by-root : (z : ℕ) → Yes (bit (row parents x) z) → Yes (bit roots z) → Yes (bit (row children z) y) → Joins above leaf roots children parents x y
+  by_leaf : Yes (bit (row above x) y) → Yes (bit leaf y) → Joins above leaf roots children parents x y
+  by_child : (z : ℕ) → Yes (bit (row children x) z) → Yes (bit (row parents z) y) → Joins above leaf roots children parents x y
+  by_root : (z : ℕ) → Yes (bit (row parents x) z) → Yes (bit roots z) → Yes (bit (row children z) y) → Joins above leaf roots children parents x y
 
 pub record JoinedOf (n : ℕ) (t above : List ℕ) (leaf roots : ℕ) (children parents : List ℕ) (r : Joined) : Type 0 where
   pub up : (x : ℕ) → Up (row t x) (row r.below x)

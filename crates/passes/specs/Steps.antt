@@ -26,7 +26,7 @@ pub record SteppedOf (G : Facts → Type 0) (n : ℕ) (f : Facts) (r : Stepped) 
 pub record PassRules (n : ℕ) (f : Facts) : Type 0 where
   pub sharing : Sharing n (λ φ. Yes (has f φ))
   pub one_parent : (x y z : Var) → Yes (has f (child x z)) → Yes (has f (child y z)) → Yes (has f (below x y))
-  pub one-element : (x y z : Var) → Yes (has f (root x)) → Yes (has f (child x y)) → Yes (has f (child x z)) → Yes (has f (below y z))
+  pub one_element : (x y z : Var) → Yes (has f (root x)) → Yes (has f (child x y)) → Yes (has f (child x z)) → Yes (has f (below y z))
   pub apart : (x : Var) → ¬ Yes (has f (differ x x))
   pub ancestors : Columns f.below f.above
 

@@ -1,6 +1,6 @@
 // One pass of settling over x, y and z. What `settle` uses of it is pub only because crates are split: each caller shows what a helper requires.
 ghost use Rattle.std.specs.Prelude.{◌≡◌, ◌<◌, ◌≤◌};
-ghost use Rattle.passes.specs.Rows.{firstRow, Grouped, ChainOf, Chained, GroupsOf, WholeGroups, JoinedOf};
+ghost use Rattle.passes.specs.Rows.{first_row, Grouped, ChainOf, Chained, GroupsOf, WholeGroups, JoinedOf};
 ghost use Rattle.passes.specs.Steps.{SteppedOf, PassRules, BareRules};
 
 use sharing::{Shares, share_rows};
@@ -8,7 +8,7 @@ use tables::Facts;
 
 fn first_row(below: u16, child: u16, root: u16, x: usize, n: usize) -> u16
     requires { (x < 16) × (n ≤ 16) }
-    ensures { result ≡ firstRow below child root x n }
+    ensures { result ≡ first_row below child root x n }
 {
     tables::gain(
         rowbits::has(root, x),

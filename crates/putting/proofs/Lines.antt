@@ -11,57 +11,57 @@ use borrow.Author.Tests.{eq-eqb, ne_eqb}
 use Rattle.meaning.specs.Files.{Quad, quad, quads}
 use Rattle.meaning.specs.Finite.{pick}
 use Rattle.meaning.specs.Ascii.{ascii}
-use Rattle.meaning.specs.Text.{decimal, numbered, recordLine, recordLines, kindName}
-use Rattle.constraints.specs.Record.{kindNumber}
+use Rattle.meaning.specs.Text.{decimal, numbered, record_line, record_lines, kind_name}
+use Rattle.constraints.specs.Record.{kind_number}
 use Rattle.constraints.specs.declared.Kind.{Kind}
 use Rattle.constraints.specs.declared.Kind.TheVariants.{Child, Below, StrictlyBelow, Same, Differ, Root, Leaf, Label, Before}
-use Rattle.answers.proofs.Quads.{quadAt, quad_at, no-quad}
-use Rattle.putting.proofs.Numbers.{byte-digits}
+use Rattle.answers.proofs.Quads.{quad_at, quad_at_lem, no_quad}
+use Rattle.putting.proofs.Numbers.{byte_digits}
 
 -- two numbers with a space between them
 abbrev pub pair : ℕ → ℕ → List ℕ
 pair a b = decimal a ++ (ascii " " ++ decimal b)
 
-pub pair-short : (a b : ℕ) → a < 256 → b < 256 → length (pair a b) ≤ 7
+pub pair_short : (a b : ℕ) → a < 256 → b < 256 → length (pair a b) ≤ 7
 unfolding ascii
-pair-short a b h l = omega (arith, length-append (decimal a) (ascii " " ++ decimal b), byte-digits a h, byte-digits b l)
+pair_short a b h l = omega (arith, length-append (decimal a) (ascii " " ++ decimal b), byte_digits a h, byte_digits b l)
 
 module _ (k a b c : ℕ) where
-  pub place-line : k ≢ 1 → (ascii "var " ++ pair a b) ++ ascii "\n" ≡ recordLine (quad k a b c)
-  unfolding recordLine numbered pick
-  place-line h = rw (ne_eqb k 1 h) (simp append_assoc)
+  pub place_line : k ≢ 1 → (ascii "var " ++ pair a b) ++ ascii "\n" ≡ record_line (quad k a b c)
+  unfolding record_line numbered pick
+  place_line h = rw (ne_eqb k 1 h) (simp append_assoc)
 
-  pub node-line : k ≡ 1 → (ascii "node " ++ pair a b) ++ (ascii " " ++ (decimal c ++ ascii "\n")) ≡ recordLine (quad k a b c)
-  unfolding recordLine numbered pick
-  node-line h = rw (eq-eqb k 1 h) (simp append_assoc)
+  pub node_line : k ≡ 1 → (ascii "node " ++ pair a b) ++ (ascii " " ++ (decimal c ++ ascii "\n")) ≡ record_line (quad k a b c)
+  unfolding record_line numbered pick
+  node_line h = rw (eq-eqb k 1 h) (simp append_assoc)
 
-  pub record-short : a < 256 → b < 256 → c < 256 → length (recordLine (quad k a b c)) ≤ 17
-  unfolding ascii recordLine numbered pick
-  record-short h l m = by (eqb k 1)
+  pub record_short : a < 256 → b < 256 → c < 256 → length (record_line (quad k a b c)) ≤ 17
+  unfolding ascii record_line numbered pick
+  record_short h l m = by (eqb k 1)
     where
       by : (t : Bool) → length (pick t (ascii "node " ++ (decimal a ++ (ascii " " ++ (decimal b ++ numbered " " c)))) (ascii "var " ++ (decimal a ++ numbered " " b))) ≤ 17
-      by true = simp (length-append) (omega (arith, byte-digits a h, byte-digits b l, byte-digits c m))
-      by false = simp (length-append) (omega (arith, byte-digits a h, byte-digits b l))
+      by true = simp (length-append) (omega (arith, byte_digits a h, byte_digits b l, byte_digits c m))
+      by false = simp (length-append) (omega (arith, byte_digits a h, byte_digits b l))
 
 -- one record more
-pub lines_more : (bs text : List ℕ) (i : ℕ) → i < length bs / 4 → recordLines (quads bs) ≡ text ++ recordLines (drop i (quads bs))
-    → recordLines (quads bs) ≡ (text ++ recordLine (quadAt bs i)) ++ recordLines (drop (i + 1) (quads bs))
-unfolding recordLines
-lines_more bs text i h e = e ∙ ap (λ (qs : List Quad). text ++ recordLines qs) (quad_at bs i h) ∙ sym (append_assoc text (recordLine (quadAt bs i)) (recordLines (drop (i + 1) (quads bs))))
+pub lines_more : (bs text : List ℕ) (i : ℕ) → i < length bs / 4 → record_lines (quads bs) ≡ text ++ record_lines (drop i (quads bs))
+    → record_lines (quads bs) ≡ (text ++ record_line (quad_at bs i)) ++ record_lines (drop (i + 1) (quads bs))
+unfolding record_lines
+lines_more bs text i h e = e ∙ ap (λ (qs : List Quad). text ++ record_lines qs) (quad_at_lem bs i h) ∙ sym (append_assoc text (record_line (quad_at bs i)) (record_lines (drop (i + 1) (quads bs))))
 
 -- no record is left
-pub lines-all : (bs text : List ℕ) (i : ℕ) → length bs / 4 ≤ i → recordLines (quads bs) ≡ text ++ recordLines (drop i (quads bs)) → text ≡ recordLines (quads bs)
-unfolding recordLines
-lines-all bs text i h e = sym (append-nil text) ∙ sym (ap (λ (qs : List Quad). text ++ recordLines qs) (no-quad bs i h)) ∙ sym e
+pub lines_all : (bs text : List ℕ) (i : ℕ) → length bs / 4 ≤ i → record_lines (quads bs) ≡ text ++ record_lines (drop i (quads bs)) → text ≡ record_lines (quads bs)
+unfolding record_lines
+lines_all bs text i h e = sym (append-nil text) ∙ sym (ap (λ (qs : List Quad). text ++ record_lines qs) (no_quad bs i h)) ∙ sym e
 
-pub name-short : (k : Kind) → length (ascii (kindName (kindNumber k))) ≤ 14
-unfolding ascii kindName kindNumber pick
-name-short Child = omega arith
-name-short Below = omega arith
-name-short StrictlyBelow = omega arith
-name-short Same = omega arith
-name-short Differ = omega arith
-name-short Root = omega arith
-name-short Leaf = omega arith
-name-short Label = omega arith
-name-short Before = omega arith
+pub name_short : (k : Kind) → length (ascii (kind_name (kind_number k))) ≤ 14
+unfolding ascii kind_name kind_number pick
+name_short Child = omega arith
+name_short Below = omega arith
+name_short StrictlyBelow = omega arith
+name_short Same = omega arith
+name_short Differ = omega arith
+name_short Root = omega arith
+name_short Leaf = omega arith
+name_short Label = omega arith
+name_short Before = omega arith

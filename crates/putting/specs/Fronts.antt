@@ -1,7 +1,7 @@
 -- What stands at the front of a buffer that is printed.
 use Rattle.std.specs.Prelude.{◌≡◌, List, ◌++◌, ℕ, length, drop}
-use Rattle.meaning.specs.Results.{Fill, fillWrote}
-use Rattle.meaning.specs.Text.{fillText}
+use Rattle.meaning.specs.Results.{Fill, fill_wrote}
+use Rattle.meaning.specs.Text.{fill_text}
 use Rattle.lent.specs.Filling.{AnswerOf}
 use Rattle.lent.specs.declared.Answer.{Answer}
 
@@ -12,4 +12,4 @@ pub record Fronted (text before : List ℕ) (r : ℕ) (after : List ℕ) : Type 
 
 -- of what was answered where a buffer was filled: r bytes are printed of it
 abbrev pub Shown : Answer → List ℕ → ℕ → List ℕ → Type 0
-Shown answer filled r after = (a : Fill) (before : List ℕ) → AnswerOf a answer → filled ≡ fillWrote a before → Fronted (fillText a) before r after
+Shown answer filled r after = (a : Fill) (before : List ℕ) → AnswerOf a answer → filled ≡ fill_wrote a before → Fronted (fill_text a) before r after

@@ -2,8 +2,8 @@
 ghost use Rattle.std.specs.Prelude.{◌++◌, ◌+◌, ◌*◌, ◌/◌, ◌≤◌, length};
 ghost use Rattle.meaning.specs.Files.{quad, quads};
 ghost use Rattle.meaning.specs.Ascii.{ascii};
-ghost use Rattle.meaning.specs.Text.{decimal, kindName, recordLine, recordLines};
-ghost use Rattle.constraints.specs.Record.{kindNumber};
+ghost use Rattle.meaning.specs.Text.{decimal, kind_name, record_line, record_lines};
+ghost use Rattle.constraints.specs.Record.{kind_number};
 ghost use Rattle.lent.specs.Putting.{Put};
 ghost use Rattle.putting.specs.Fronts.{Shown};
 
@@ -57,7 +57,7 @@ fn put_pair(out: &mut [u8], at: usize, word: &[u8], a: u8, b: u8) -> usize
 // Puts the line of one record.
 fn put_record(out: &mut [u8], at: usize, kind: u8, a: u8, b: u8, c: u8) -> usize
     requires { at + 17 ≤ length out.old }
-    ensures { Put out.old at (recordLine (quad kind a b c)) result out.new }
+    ensures { Put out.old at (record_line (quad kind a b c)) result out.new }
 {
     if kind != 1 {
         let end = put_pair(out, at, b"var ", a, b);
@@ -72,7 +72,7 @@ fn put_record(out: &mut [u8], at: usize, kind: u8, a: u8, b: u8, c: u8) -> usize
 // Puts a line for each record of an answer file.
 pub fn put_records(out: &mut [u8], at: usize, answer: &[u8]) -> usize
     requires { at + length answer.now / 4 * 17 ≤ length out.old }
-    ensures { Put out.old at (recordLines (quads answer.now)) result out.new }
+    ensures { Put out.old at (record_lines (quads answer.now)) result out.new }
 {
     let mut end = at;
     let mut i: usize = 0;
@@ -90,7 +90,7 @@ pub fn put_records(out: &mut [u8], at: usize, answer: &[u8]) -> usize
 // Puts the name of a kind.
 pub fn put_kind(out: &mut [u8], at: usize, kind: Kind) -> usize
     requires { at + 14 ≤ length out.old }
-    ensures { Put out.old at (ascii (kindName (kindNumber kind))) result out.new }
+    ensures { Put out.old at (ascii (kind_name (kind_number kind))) result out.new }
 {
     match kind {
         Kind::Child => put(out, at, b"child"),

@@ -12,42 +12,42 @@ use lib.Count.{ones, ones_step, ones_cat}
 use lib.Dec.{eqb}
 use lib.Pow.{pow_mono, pow_pos, shr_lt, split}
 use Rattle.meaning.specs.Finite.{Yes, ◌and◌, neg, pick, anyb, one, sum, picked}
-use Rattle.meaning.proofs.Tests.{clash, yes-eq, no-neg, is_eq, eq_yes, not_yes}
-use Rattle.meaning.proofs.Finite.{any-intro, any-elim}
+use Rattle.meaning.proofs.Tests.{clash, yes_eq, no_neg, is_eq, eq_yes, not_yes}
+use Rattle.meaning.proofs.Finite.{any_intro, any_elim}
 use Rattle.rowbits.specs.Bit.{bit}
-use Rattle.rowbits.proofs.Laws.{bit-and, bit-none}
-use Rattle.tables.proofs.Bits.{all-has, some_in}
+use Rattle.rowbits.proofs.Laws.{bit-bit_and, bit_none}
+use Rattle.tables.proofs.Bits.{all_has, some_in}
 use Rattle.tables.proofs.Helpers.{and_is}
 use Rattle.ordering.specs.Rows.{Gathered}
-use Rattle.ordering.proofs.Bits.{and-true, bit_past, picked-eq}
+use Rattle.ordering.proofs.Bits.{and_true, bit_past, picked_eq}
 
 -- ---- single bits
 
-pub bit-meet : (a b i : ℕ) → bit (bit_and a b) i ≡ (bit a i and bit b i)
-bit-meet a b i = bit-and a b i ∙ and_is _ _
+pub bit_meet : (a b i : ℕ) → bit (bit_and a b) i ≡ (bit a i and bit b i)
+bit_meet a b i = bit-bit_and a b i ∙ and_is _ _
 
-bit-mod : (k a i : ℕ) → i < k → bit (a % 2 ^ k) i ≡ bit a i
-bit-mod k a i h =
-    ap (λ (b : ℕ). bit b i) (sym (and_mask a k)) ∙ bit-meet a (2 ^ k - 1) i ∙ ap (λ (b : Bool). bit a i and b) (all-has k i h) ∙ and-true _
+bit_mod : (k a i : ℕ) → i < k → bit (a % 2 ^ k) i ≡ bit a i
+bit_mod k a i h =
+    ap (λ (b : ℕ). bit b i) (sym (and_mask a k)) ∙ bit_meet a (2 ^ k - 1) i ∙ ap (λ (b : Bool). bit a i and b) (all_has k i h) ∙ and_true _
 
 -- ---- pointwise
 
-pub sum-eq : (n : ℕ) (f g : ℕ → ℕ) → ((k : ℕ) → k < n → f k ≡ g k) → sum n f ≡ sum n g
+pub sum_eq : (n : ℕ) (f g : ℕ → ℕ) → ((k : ℕ) → k < n → f k ≡ g k) → sum n f ≡ sum n g
 unfolding sum
-sum-eq zero f g h = refl
-sum-eq (suc n) f g h = let a = sum-eq n f g (λ k l. h k (le_step l)) in let b = h n (le_refl _) in omega arith
+sum_eq zero f g h = refl
+sum_eq (suc n) f g h = let a = sum_eq n f g (λ k l. h k (le_step l)) in let b = h n (le_refl _) in omega arith
 
-pub any-eq : (n : ℕ) (p q : ℕ → Bool) → ((k : ℕ) → k < n → p k ≡ q k) → anyb n p ≡ anyb n q
-any-eq n p q h =
-    yes-eq _ _
-    (λ t. let w = any-elim n p t in any-intro n q w.0 w.1 (sym (h w.0 w.1) ∙ w.2))
-    (λ t. let w = any-elim n q t in any-intro n p w.0 w.1 (h w.0 w.1 ∙ w.2))
+pub any_eq : (n : ℕ) (p q : ℕ → Bool) → ((k : ℕ) → k < n → p k ≡ q k) → anyb n p ≡ anyb n q
+any_eq n p q h =
+    yes_eq _ _
+    (λ t. let w = any_elim n p t in any_intro n q w.0 w.1 (sym (h w.0 w.1) ∙ w.2))
+    (λ t. let w = any_elim n q t in any_intro n p w.0 w.1 (h w.0 w.1 ∙ w.2))
 
 -- nothing passes the test between k and m
-picked-stop : (k m : ℕ) (p : ℕ → Bool) → k ≤ m → ((y : ℕ) → k ≤ y → y < m → p y ≡ false) → picked m p ≡ picked k p
+picked_stop : (k m : ℕ) (p : ℕ → Bool) → k ≤ m → ((y : ℕ) → k ≤ y → y < m → p y ≡ false) → picked m p ≡ picked k p
 unfolding picked pick
-picked-stop k zero p l h = let e : 0 ≡ k = omega arith in ap (λ (i : ℕ). picked i p) e
-picked-stop k (suc m) p l h = go (ℕ_discrete k (suc m)) (λ q. picked-stop k m p q (λ y a b. h y a (le_step b)))
+picked_stop k zero p l h = let e : 0 ≡ k = omega arith in ap (λ (i : ℕ). picked i p) e
+picked_stop k (suc m) p l h = go (ℕ_discrete k (suc m)) (λ q. picked_stop k m p q (λ y a b. h y a (le_step b)))
   where
     nothing : (xs : List ℕ) → p m ≡ false → xs ++ pick (p m) (m ∷ []) [] ≡ xs
     nothing xs e = rw e (append-nil xs)
@@ -56,8 +56,8 @@ picked-stop k (suc m) p l h = go (ℕ_discrete k (suc m)) (λ q. picked-stop k m
     go (yes e) r = rw e
     go (no e) r = nothing _ (h m (omega arith) (le_refl _)) ∙ r (omega arith)
 
-pub gathered-picked : (n : ℕ) (p : ℕ → Bool) (r : ℕ) → n ≤ 16 → Gathered n p r → picked 16 (bit r) ≡ picked n p
-gathered-picked n p r h g = picked-stop n 16 (bit r) h (λ y l m. bit_past n r y g.small l) ∙ picked-eq n (bit r) p g.each
+pub gathered_picked : (n : ℕ) (p : ℕ → Bool) (r : ℕ) → n ≤ 16 → Gathered n p r → picked 16 (bit r) ≡ picked n p
+gathered_picked n p r h g = picked_stop n 16 (bit r) h (λ y l m. bit_past n r y g.small l) ∙ picked_eq n (bit r) p g.each
 
 -- ---- the numbers of a row, counted
 
@@ -68,7 +68,7 @@ counted (suc k) a h =
     let q : a / 2 ^ k < 2 = shr_lt 1 k (subst (λ (i : ℕ). a < 2 ^ i) (omega arith) h) in
     let e : ones a ≡ ones (a / 2 ^ k) + ones (a % 2 ^ k) = ap ones (sym (split a k)) ∙ ones_cat k (a / 2 ^ k) (a % 2 ^ k) (mod-lt a (pow_pos k)) in
     let r = counted k (a % 2 ^ k) (mod-lt a (pow_pos k)) in
-    let s = sum-eq k (λ y. one (bit (a % 2 ^ k) y)) (λ y. one (bit a y)) (λ y l. ap one (bit-mod k a y l)) in
+    let s = sum_eq k (λ y. one (bit (a % 2 ^ k) y)) (λ y. one (bit a y)) (λ y l. ap one (bit_mod k a y l)) in
     let t : ones (a / 2 ^ k) ≡ one (bit a k) = last (a / 2 ^ k) q in
     omega arith
   where
@@ -86,18 +86,18 @@ ones_none (suc k) a h e =
     omega arith
 
 -- a row is empty where it has no numbers
-pub ones-zero : (a : ℕ) → a < 65536 → eqb (ones a) 0 ≡ eqb a 0
+pub ones_zero : (a : ℕ) → a < 65536 → eqb (ones a) 0 ≡ eqb a 0
 unfolding ones
-ones-zero a h = yes-eq _ _ (λ t. eq_yes (ones_none 16 a h (is_eq t))) (λ t. eq_yes (ap ones (is_eq {x = a} {y = 0} t)))
+ones_zero a h = yes_eq _ _ (λ t. eq_yes (ones_none 16 a h (is_eq t))) (λ t. eq_yes (ap ones (is_eq {x = a} {y = 0} t)))
 
 pub empty : (k a : ℕ) → k ≤ 16 → a < 2 ^ k → eqb a 0 ≡ neg (anyb k (bit a))
 empty k a l h =
-    yes-eq _ _
-    (λ t. no-neg (λ u. let w = any-elim k (bit a) u in not_yes (ap (λ (i : ℕ). bit i w.0) (is_eq t) ∙ bit-none w.0) w.2))
+    yes_eq _ _
+    (λ t. no_neg (λ u. let w = any_elim k (bit a) u in not_yes (ap (λ (i : ℕ). bit i w.0) (is_eq t) ∙ bit_none w.0) w.2))
     (λ z. eq_yes (go z (ℕ_discrete a 0)))
   where
     member : Yes (neg (anyb k (bit a))) → (i : ℕ) → Yes (bit a i) → Dec (i < k) → a ≡ 0
-    member z i u (yes q) = clash (any-intro k (bit a) i q u) z
+    member z i u (yes q) = clash (any_intro k (bit a) i q u) z
     member z i u (no q) = absurd (not_yes (bit_past k a i h (omega arith)) u)
 
     go : Yes (neg (anyb k (bit a))) → Dec (a ≡ 0) → a ≡ 0

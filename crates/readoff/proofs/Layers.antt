@@ -12,45 +12,45 @@ use lib.Pow.{pow_mono}
 use Rattle.meaning.specs.Constraint.{before}
 use Rattle.meaning.specs.Finite.{◌and◌, arranged, picked}
 use Rattle.meaning.specs.ReadOff.{lowest, depth, layer, layers, order}
-use Rattle.meaning.proofs.Nodes.{length-picked}
+use Rattle.meaning.proofs.Nodes.{length_picked}
 use Rattle.rowbits.specs.Bit.{bit}
 use Rattle.tables.specs.declared.Facts.{Facts}
 use Rattle.tables.specs.Tables.{row, has, Columns}
-use Rattle.ordering.specs.Rows.{Gathered, isLowest, inLayer}
-use Rattle.ordering.specs.Listing.{inLine, listed}
-use Rattle.ordering.proofs.Bits.{picked-eq}
-use Rattle.readoff.proofs.Counting.{counted, gathered-picked}
-use Rattle.ordering.proofs.InLine.{length-in-line}
+use Rattle.ordering.specs.Rows.{Gathered, is_lowest, in_layer}
+use Rattle.ordering.specs.Listing.{in_line, listed}
+use Rattle.ordering.proofs.Bits.{picked_eq}
+use Rattle.readoff.proofs.Counting.{counted, gathered_picked}
+use Rattle.ordering.proofs.InLine.{length_in_line}
 use Rattle.ordering.proofs.Layered.{Layered}
 use Rattle.readoff.proofs.Preceding.{SayBefore}
-use Rattle.readoff.proofs.Meaning.{lows-is, depth_is}
+use Rattle.readoff.proofs.Meaning.{lows_is, depth_is}
 
-module _ (f : Facts) (n : ℕ) (few : n ≤ 16) (m : Columns f.below f.above) (lows : ℕ) (g : Gathered n (isLowest f.below f.above f.root) lows)
+module _ (f : Facts) (n : ℕ) (few : n ≤ 16) (m : Columns f.below f.above) (lows : ℕ) (g : Gathered n (is_lowest f.below f.above f.root) lows)
     (rows : List ℕ) (ls : Layered f.below f.above n lows n rows) (says : SayBefore f) where
-  members-are : (d : ℕ) → d < 17 → picked 16 (bit (row rows d)) ≡ picked n (λ x. lowest n (has f) x and eqb (depth n (has f) x) d)
-  unfolding inLayer Layered
-  members-are d h =
-      gathered-picked n _ (row rows d) few (ls d h)
-      ∙ picked-eq n _ _ (λ x l. rw (lows-is f n few m lows g x l, depth_is f n few m lows g x (omega arith)))
+  members_are : (d : ℕ) → d < 17 → picked 16 (bit (row rows d)) ≡ picked n (λ x. lowest n (has f) x and eqb (depth n (has f) x) d)
+  unfolding in_layer Layered
+  members_are d h =
+      gathered_picked n _ (row rows d) few (ls d h)
+      ∙ picked_eq n _ _ (λ x l. rw (lows_is f n few m lows g x l, depth_is f n few m lows g x (omega arith)))
 
-  layer-is : (d : ℕ) → d < 17 → inLine f.after (row rows d) ≡ layer n (has f) d
-  unfolding layer inLine
-  layer-is d h =
+  layer_is : (d : ℕ) → d < 17 → in_line f.after (row rows d) ≡ layer n (has f) d
+  unfolding layer in_line
+  layer_is d h =
       ap (λ (b : ℕ → ℕ → Bool). let gs = picked 16 (bit (row rows d)) in arranged b (length gs) gs) says
-      ∙ ap (λ (gs : List ℕ). arranged (λ w x. has f (before w x)) (length gs) gs) (members-are d h)
+      ∙ ap (λ (gs : List ℕ). arranged (λ w x. has f (before w x)) (length gs) gs) (members_are d h)
 
-  listed-is : (d : ℕ) → d ≤ 17 → listed f.after rows d ≡ layers n (has f) d
+  listed_is : (d : ℕ) → d ≤ 17 → listed f.after rows d ≡ layers n (has f) d
   unfolding listed layers
-  listed-is zero h = refl
-  listed-is (suc d) h = rw (listed-is d (omega arith), layer-is d h)
+  listed_is zero h = refl
+  listed_is (suc d) h = rw (listed_is d (omega arith), layer_is d h)
 
   pub order_is : listed f.after rows n ≡ order n (has f)
   unfolding order
-  order_is = listed-is n (omega arith)
+  order_is = listed_is n (omega arith)
 
   pub tops_are : ones (row rows 0) ≡ length (layer n (has f) 0)
   unfolding Layered
   tops_are =
       let p : 2 ^ n ≤ 2 ^ 16 = pow_mono few in
-      counted 16 (row rows 0) (le_trans (ls 0 (omega arith)).small p) ∙ sym (length-picked 16 (bit (row rows 0)))
-      ∙ sym (length-in-line f.after (row rows 0)) ∙ ap length (layer-is 0 (omega arith))
+      counted 16 (row rows 0) (le_trans (ls 0 (omega arith)).small p) ∙ sym (length_picked 16 (bit (row rows 0)))
+      ∙ sym (length_in_line f.after (row rows 0)) ∙ ap length (layer_is 0 (omega arith))

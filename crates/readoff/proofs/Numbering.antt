@@ -3,22 +3,22 @@ use mathlib.Core.Path.{◌≡◌, refl, fun_ext}
 use Prim.Native.Nat.{ℕ, ◌≤◌, ◌<◌}
 use native.Mathlib.Omega.{arith}
 use lib.ListN.{length}
-use Rattle.meaning.specs.ReadOff.{FactSet, layer, element, nodeAt}
-use Rattle.ordering.specs.Numbering.{elementOf, numbered}
+use Rattle.meaning.specs.ReadOff.{FactSet, layer, element, node_at}
+use Rattle.ordering.specs.Numbering.{element_of, numbered}
 
-pub numbered-later : (e i j : ℕ) → i < j → numbered e i < numbered e j
+pub numbered_later : (e i j : ℕ) → i < j → numbered e i < numbered e j
 unfolding numbered
-numbered-later e i j l = omega arith
+numbered_later e i j l = omega arith
 
-pub numbered-fits : (e i k : ℕ) → i ≤ k → numbered e k < 256 → numbered e i < 256
+pub numbered_fits : (e i k : ℕ) → i ≤ k → numbered e k < 256 → numbered e i < 256
 unfolding numbered
-numbered-fits e i k l m = omega arith
+numbered_fits e i k l m = omega arith
 
 module _ (n : ℕ) (h : FactSet) where
-  pub element-is : elementOf (length (layer n h 0)) ≡ element n h
-  unfolding elementOf element
-  element-is = refl
+  pub element_is : element_of (length (layer n h 0)) ≡ element n h
+  unfolding element_of element
+  element_is = refl
 
-  pub numbered_is : numbered (element n h) ≡ nodeAt n h
-  unfolding numbered nodeAt
+  pub numbered_is : numbered (element n h) ≡ node_at n h
+  unfolding numbered node_at
   numbered_is = fun_ext (λ i. refl)

@@ -15,26 +15,26 @@ use Rattle.ordering.specs.declared.Order.{Order}
 use Rattle.tables.specs.Rows.{Lowest}
 use Rattle.ordering.specs.Listing.{groups, Small, Placed}
 use Rattle.readoff.specs.Nodes.{Led}
-use Rattle.ordering.proofs.Listing.{count-is}
+use Rattle.ordering.proofs.Listing.{count_is}
 
-position-most : (p : ℕ → Bool) (xs : List ℕ) → position p xs ≤ length xs
+position_most : (p : ℕ → Bool) (xs : List ℕ) → position p xs ≤ length xs
 unfolding position pick
-position-most p [] = le_refl _
-position-most p (x ∷ xs) = go (p x) (position-most p xs)
+position_most p [] = le_refl _
+position_most p (x ∷ xs) = go (p x) (position_most p xs)
   where
     go : (b : Bool) → position p xs ≤ length xs → pick b 0 (suc (position p xs)) ≤ suc (length xs)
     go true h = zero-le
     go false h = suc-le-suc h
 
-pub position-eq : (p q : ℕ → Bool) (xs : List ℕ) → ((x : ℕ) → Memᴰ x xs → p x ≡ q x) → position p xs ≡ position q xs
+pub position_eq : (p q : ℕ → Bool) (xs : List ℕ) → ((x : ℕ) → Memᴰ x xs → p x ≡ q x) → position p xs ≡ position q xs
 unfolding position
-position-eq p q [] h = refl
-position-eq p q (x ∷ xs) h = rw (h x (Memᴰ.head refl), position-eq p q xs (λ y m. h y (Memᴰ.tail m)))
+position_eq p q [] h = refl
+position_eq p q (x ∷ xs) h = rw (h x (Memᴰ.head refl), position_eq p q xs (λ y m. h y (Memᴰ.tail m)))
 
-pub place-most : (p : ℕ → Bool) (o : Order) → length o.group ≡ 16 → Small o → position p (groups o) ≤ o.len
-place-most p o long s = let b = position-most p (groups o) in omega (arith, count-is o long s)
+pub place_most : (p : ℕ → Bool) (o : Order) → length o.group ≡ 16 → Small o → position p (groups o) ≤ o.len
+place_most p o long s = let b = position_most p (groups o) in omega (arith, count_is o long s)
 
 -- the place of the lowest of a group is that of the first that is in the group
-pub place-led : (t u : List ℕ) (root n : ℕ) (gs ps : List ℕ) → Led t u root n gs → Placed gs ps → (x k : ℕ) → x < n → ¬ Yes (bit root x) → Lowest (bit_and (row u x) (row t x)) k
+pub place_led : (t u : List ℕ) (root n : ℕ) (gs ps : List ℕ) → Led t u root n gs → Placed gs ps → (x k : ℕ) → x < n → ¬ Yes (bit root x) → Lowest (bit_and (row u x) (row t x)) k
     → row ps k ≡ position (bit (bit_and (row u x) (row t x))) gs
-place-led t u root n gs ps w p x k l under low = let c = w x k l under low in p k c.0 ∙ position-eq (λ y. eqb y k) (bit (bit_and (row u x) (row t x))) gs (λ g m. sym (c.1 g m))
+place_led t u root n gs ps w p x k l under low = let c = w x k l under low in p k c.0 ∙ position_eq (λ y. eqb y k) (bit (bit_and (row u x) (row t x))) gs (λ g m. sym (c.1 g m))

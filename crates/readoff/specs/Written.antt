@@ -1,7 +1,7 @@
 -- Records of four bytes written into a buffer, and the rest of it as it was.
 use Rattle.std.specs.Prelude.{◌≡◌, ◌≢◌, List, [], ◌∷◌, ◌++◌, ℕ, ◌+◌, ◌*◌, ◌≤◌, ◌<◌, length, get_or, drop}
 use Rattle.meaning.specs.Constraint.{Fact}
-use Rattle.meaning.specs.ReadOff.{FactSet, blankRecord, nodeBytes, placeBytes, answerFile}
+use Rattle.meaning.specs.ReadOff.{FactSet, blank_record, node_bytes, place_bytes, answer_file}
 use Rattle.tables.specs.Tables.{has, showing, Ready}
 use Rattle.tables.specs.declared.Facts.{Facts}
 
@@ -16,17 +16,17 @@ abbrev pub Put : ℕ → List ℕ → List ℕ → List ℕ → Type 0
 Put v bytes old new = Recorded (λ i. v) (λ i. bytes) 1 old new
 
 -- the record of node v, blank and with 0 as its parent
-abbrev pub blankAt : ℕ → List ℕ
-blankAt v = nodeBytes v (blankRecord ∷ [])
+abbrev pub blank_at : ℕ → List ℕ
+blank_at v = node_bytes v (blank_record ∷ [])
 
 -- the records of the nodes of the variables
-abbrev pub placeRecord : List ℕ → ℕ → List ℕ
-placeRecord vs x = placeBytes x (get_or vs x 0 ∷ [])
+abbrev pub place_record : List ℕ → ℕ → List ℕ
+place_record vs x = place_bytes x (get_or vs x 0 ∷ [])
 
 -- the answer file is at the front, and r is how many bytes it has
 pub record FileWritten (n : ℕ) (h : FactSet) (old : List ℕ) (r : ℕ) (new : List ℕ) : Type 0 where
-  pub size : r ≡ length (answerFile n h)
-  pub bytes : new ≡ answerFile n h ++ drop (length (answerFile n h)) old
+  pub size : r ≡ length (answer_file n h)
+  pub bytes : new ≡ answer_file n h ++ drop (length (answer_file n h)) old
   pub most : r ≤ 136
 
 -- so of any settled set whose rows these are

@@ -7,8 +7,8 @@ ghost use Rattle.tables.specs.Tables.{showing, Ready};
 ghost use Rattle.tables.specs.declared.Facts.{Facts};
 ghost use Rattle.ordering.specs.Numbering.{numbered};
 ghost use Rattle.ordering.specs.Listing.{groups, Small};
-ghost use Rattle.readoff.specs.Nodes.{Led, nodeNumbers, place_in, parent_in, groupRecord};
-ghost use Rattle.readoff.specs.Written.{Recorded, Put, blankAt, placeRecord, WrittenOf};
+ghost use Rattle.readoff.specs.Nodes.{Led, node_numbers, place_in, parent_in, group_record};
+ghost use Rattle.readoff.specs.Written.{Recorded, Put, blank_at, place_record, WrittenOf};
 
 use ids::{Node, Var};
 use ordering::Order;
@@ -41,7 +41,7 @@ fn assign(
     n: usize,
 ) -> [Node; 16]
     requires { Small order × (numbered element order.len < 256) × (n ≤ 16) × Led below above root n (groups order) }
-    ensures { nodeNumbers n result ≡ tab n (place_in below above root element (groups order)) }
+    ensures { node_numbers n result ≡ tab n (place_in below above root element (groups order)) }
 {
     let first = Node(0);
     let mut nodes = [first; 16];
@@ -89,7 +89,7 @@ fn put_place(answer: &mut [u8], number: usize, own: Var, node: Node)
 // The document node and the blank element.
 fn put_front(answer: &mut [u8], element: u8)
     requires { (element ≤ 1) × (suc element * 4 ≤ length answer.old) }
-    ensures { Recorded (λ v. v) blankAt (suc element) answer.old answer.new }
+    ensures { Recorded (λ v. v) blank_at (suc element) answer.old answer.new }
 {
     put_node(answer, Node(0), Node(0), 0);
     if element == 1 {
@@ -109,7 +109,7 @@ fn put_nodes(
     n: usize,
 )
     requires { Small order × (numbered element order.len < 256) × (n ≤ 16) × (numbered element order.len * 4 ≤ length answer.old) }
-    ensures { Recorded (numbered element) (groupRecord below above label n lows element (groups order)) order.len answer.old answer.new }
+    ensures { Recorded (numbered element) (group_record below above label n lows element (groups order)) order.len answer.old answer.new }
 {
     let len = order.len;
     for i in 0..len {
@@ -133,7 +133,7 @@ fn put_nodes(
 // The places of the variables.
 fn put_places(answer: &mut [u8], first: usize, nodes: [Node; 16], n: usize)
     requires { (n ≤ 16) × ((first + n) * 4 ≤ length answer.old) }
-    ensures { Recorded (λ x. first + x) (placeRecord (nodeNumbers n nodes)) n answer.old answer.new }
+    ensures { Recorded (λ x. first + x) (place_record (node_numbers n nodes)) n answer.old answer.new }
 {
     for x in 0..n {
         let v = nodes[x];

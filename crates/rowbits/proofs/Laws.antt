@@ -9,7 +9,7 @@ use lib.Dec.{eqb, ltb}
 use lib.Bits.{bit_or, bit_and, or_shr, and_shr, or_step, and_step, or_lt}
 use lib.Pow.{pow_pos, pow-lt, pow-add, shl-shr}
 use borrow.Author.Tests.{eq-eqb, ne_eqb, ltb-true, ltb-false}
-use Rattle.rowbits.specs.Bit.{bit, withBit}
+use Rattle.rowbits.specs.Bit.{bit, with_bit}
 
 -- a digit below 2 is 0 or 1
 digit : (n : ℕ) → n < 2 → (n ≡ 0) ⊎ (n ≡ 1)
@@ -24,40 +24,40 @@ digits2 P a b c d x y =
     (λ (e : x % 2 ≡ 1). ⊎_elim (λ (f : y % 2 ≡ 0). rw (e, f) c) (λ (f : y % 2 ≡ 1). rw (e, f) d) (digit (y % 2) (mod-lt y (zero-lt-suc 1))))
     (digit (x % 2) (mod-lt x (zero-lt-suc 1)))
 
-pub bit-or : (a b i : ℕ) → bit (bit_or a b) i ≡ (bit a i || bit b i)
+pub bit-bit_or : (a b i : ℕ) → bit (bit_or a b) i ≡ (bit a i || bit b i)
 unfolding bit
-bit-or a b i =
+bit-bit_or a b i =
     rw (or_shr a b i, or_step (a / 2 ^ i) (b / 2 ^ i), mul-add-mod_self_right)
     (digits2 (λ p q. eqb (max p q % 2) 1 ≡ (eqb p 1 || eqb q 1)) refl refl refl refl (a / 2 ^ i) (b / 2 ^ i))
 
-pub bit-and : (a b i : ℕ) → bit (bit_and a b) i ≡ (bit a i && bit b i)
+pub bit-bit_and : (a b i : ℕ) → bit (bit_and a b) i ≡ (bit a i && bit b i)
 unfolding bit
-bit-and a b i =
+bit-bit_and a b i =
     rw (and_shr a b i, and_step (a / 2 ^ i) (b / 2 ^ i), mul-add-mod_self_right)
     (digits2 (λ p q. eqb (min p q % 2) 1 ≡ (eqb p 1 && eqb q 1)) refl refl refl refl (a / 2 ^ i) (b / 2 ^ i))
 
 -- bit i of 2 ^ j: above, at and below j
-power-above : (i j : ℕ) → j < i → 2 ^ j / 2 ^ i % 2 ≡ 0
-power-above i j h = rw (div-eq_of_lt (pow-lt h))
+power_above : (i j : ℕ) → j < i → 2 ^ j / 2 ^ i % 2 ≡ 0
+power_above i j h = rw (div-eq_of_lt (pow-lt h))
 
-power-gap : (d i : ℕ) → 2 ^ (suc d + i) / 2 ^ i % 2 ≡ 0
-power-gap d i = rw (pow-add 2 (suc d) i, shl-shr (2 ^ suc d) i, pow-suc 2 d) (omega arith)
+power_gap : (d i : ℕ) → 2 ^ (suc d + i) / 2 ^ i % 2 ≡ 0
+power_gap d i = rw (pow-add 2 (suc d) i, shl-shr (2 ^ suc d) i, pow-suc 2 d) (omega arith)
 
 power_below : (i j : ℕ) → i < j → 2 ^ j / 2 ^ i % 2 ≡ 0
 power_below i j h =
     let e : suc (j - suc i) + i ≡ j = omega arith in
-    rw e at (power-gap (j - suc i) i)
+    rw e at (power_gap (j - suc i) i)
 
-lt-or-le : (i j : ℕ) → (i < j) ⊎ (j ≤ i)
-lt-or-le i j = go (ltb i j) refl
+lt_or_le : (i j : ℕ) → (i < j) ⊎ (j ≤ i)
+lt_or_le i j = go (ltb i j) refl
   where
     go : (b : Bool) → ltb i j ≡ b → (i < j) ⊎ (j ≤ i)
     go true e = inl (ltb-true i j e)
     go false e = inr (ltb-false i j e)
 
-pub bit-one : (j i : ℕ) → bit (2 ^ j) i ≡ eqb i j
+pub bit_one : (j i : ℕ) → bit (2 ^ j) i ≡ eqb i j
 unfolding bit
-bit-one j i = ⊎_elim below above (lt-or-le i j)
+bit_one j i = ⊎_elim below above (lt_or_le i j)
   where
     below : i < j → eqb (2 ^ j / 2 ^ i % 2) 1 ≡ eqb i j
     below l = rw (power_below i j l) (sym (ne_eqb i j (λ e. omega arith)))
@@ -65,21 +65,21 @@ bit-one j i = ⊎_elim below above (lt-or-le i j)
     above : j ≤ i → eqb (2 ^ j / 2 ^ i % 2) 1 ≡ eqb i j
     above le = ⊎_elim
         (λ (e : j ≡ i). rw (e, div_self (pow_pos i)) (sym (eq-eqb i i refl)))
-        (λ (l : j < i). rw (power-above i j l) (sym (ne_eqb i j (λ e. omega arith))))
+        (λ (l : j < i). rw (power_above i j l) (sym (ne_eqb i j (λ e. omega arith))))
         (eq-or-lt_of_le le)
 
 -- a row with j more
-pub bit-with : (a j i : ℕ) → bit (withBit a j) i ≡ (bit a i || eqb i j)
-unfolding withBit
-bit-with a j i = bit-or a (2 ^ j) i ∙ ap (λ (b : Bool). bit a i || b) (bit-one j i)
+pub bit_with : (a j i : ℕ) → bit (with_bit a j) i ≡ (bit a i || eqb i j)
+unfolding with_bit
+bit_with a j i = bit-bit_or a (2 ^ j) i ∙ ap (λ (b : Bool). bit a i || b) (bit_one j i)
 
-pub bit-none : (i : ℕ) → bit 0 i ≡ false
+pub bit_none : (i : ℕ) → bit 0 i ≡ false
 unfolding bit
-bit-none i = rw (div-eq_of_lt (pow_pos i))
+bit_none i = rw (div-eq_of_lt (pow_pos i))
 
-pub with-lt : (k a j : ℕ) → a < 2 ^ k → j < k → withBit a j < 2 ^ k
-unfolding withBit
-with-lt k a j h l = or_lt k a (2 ^ j) h (pow-lt l)
+pub with_lt : (k a j : ℕ) → a < 2 ^ k → j < k → with_bit a j < 2 ^ k
+unfolding with_bit
+with_lt k a j h l = or_lt k a (2 ^ j) h (pow-lt l)
 
 -- what the code computes: a shifted one
 pub shifted_one : (w j : ℕ) → j < w → (1 * 2 ^ j) % 2 ^ w ≡ 2 ^ j

@@ -8,60 +8,60 @@ use Prim.Native.Nat.{ℕ, ◌+◌, ◌≤◌, ◌<◌}
 use native.Mathlib.Decide.{dec_le}
 use native.Mathlib.Omega.{arith}
 use Rattle.meaning.specs.Constraint.{Fact}
-use Rattle.meaning.specs.FixedSearch.{first-alternative, second-alternative, Outcome, in-none, in_tree}
+use Rattle.meaning.specs.FixedSearch.{first_alternative, second_alternative, Outcome, in_none, in_tree}
 use Rattle.meaning.specs.Closed.{Inside}
-use Rattle.theory.specs.Search.{firstJoin, search}
+use Rattle.theory.specs.Search.{first_join, search}
 use Rattle.theory.proofs.Absent.{Adds}
-use Rattle.theory.proofs.Steps.{EndsAs, search-clash, search-solved, search-first, search-second, adds-first, adds-second}
+use Rattle.theory.proofs.Steps.{EndsAs, search_clash, search_solved, search_first, search_second, adds_first, adds_second}
 use Rattle.tables.specs.Tables.{has, Ready}
 use Rattle.tables.specs.declared.Facts.{Facts}
 use Rattle.tables.specs.declared.Settled.{Settled}
 use Rattle.enter.specs.Entered.{EnteredOf}
-use Rattle.search.specs.Searching.{facts, Enters, Alternatives, StepOf, Line, withoutTree, TreeRows, Reports, Report}
+use Rattle.search.specs.Searching.{facts, Enters, Alternatives, StepOf, Line, without_tree, TreeRows, Reports, Report}
 use Rattle.search.specs.declared.Below.{Below}
 use Rattle.search.specs.declared.Step.{Step}
 use Rattle.search.specs.declared.End.TheVariants.{Tree, None, Spent}
 use Rattle.search.specs.declared.Searched.{Searched}
-use Rattle.search.proofs.Reporting.{WasNone, reports-none, reports-tree, reports-spent, reports-search, was-none}
+use Rattle.search.proofs.Reporting.{WasNone, reports_none, reports_tree, reports_spent, reports_search, was_none}
 
 -- the step taken is this one
-pub step-as : (n : ℕ) (f : Facts) {r q : Step} → r ≡ q → StepOf n f r → StepOf n f q
-step-as n f e w = subst (StepOf n f) e w
+pub step_as : (n : ℕ) (f : Facts) {r q : Step} → r ≡ q → StepOf n f r → StepOf n f q
+step_as n f e w = subst (StepOf n f) e w
 
 -- ---- the two alternatives
 
 -- the tables after an alternative
-entered-line : (n : ℕ) (S : List Fact) (f : Facts) → Ready n S f → (p : Below) (apart : Bool) (A : List Fact) → Inside n (A ++ S) → Enters n S p apart A
+entered_line : (n : ℕ) (S : List Fact) (f : Facts) → Ready n S f → (p : Below) (apart : Bool) (A : List Fact) → Inside n (A ++ S) → Enters n S p apart A
     → (e : Settled) → EnteredOf n f (facts p apart) e → Line n (A ++ S) e
-entered-line n S f r p apart A ins w e g = record { inside = ins; clashes = λ q. w.clash (g.clashes q S r); ready = λ q. w.ready (g.settles q S r) }
+entered_line n S f r p apart A ins w e g = record { inside = ins; clashes = λ q. w.clash (g.clashes q S r); ready = λ q. w.ready (g.settles q S r) }
 
 module _ (n : ℕ) (S : List Fact) (f : Facts) (w : Ready n S f) (p q : Below) (apart : Bool) (t : Alternatives n S f p q apart) where
   abbrev pub S₁ : List Fact
-  S₁ = first-alternative t.join ++ S
+  S₁ = first_alternative t.join ++ S
 
   abbrev pub S₂ : List Fact
-  S₂ = second-alternative t.join ++ S
+  S₂ = second_alternative t.join ++ S
 
-  adds₁ : Adds n S (first-alternative t.join)
-  adds₁ = adds-first n S w.inside w.free (has f) w.decides t.join t.is-first
+  adds₁ : Adds n S (first_alternative t.join)
+  adds₁ = adds_first n S w.inside w.free (has f) w.decides t.join t.is_first
 
-  adds₂ : Adds n S (second-alternative t.join)
-  adds₂ = adds-second n S w.inside w.free (has f) w.decides t.join t.is-first
+  adds₂ : Adds n S (second_alternative t.join)
+  adds₂ = adds_second n S w.inside w.free (has f) w.decides t.join t.is_first
 
   -- what they start from
-  pub first-line : (e : Settled) → EnteredOf n f (facts p false) e → Line n S₁ e
-  first-line e g = entered-line n S f w p false _ adds₁.inside t.first e g
+  pub first_line : (e : Settled) → EnteredOf n f (facts p false) e → Line n S₁ e
+  first_line e g = entered_line n S f w p false _ adds₁.inside t.first e g
 
-  pub second-line : (e : Settled) → EnteredOf n f (facts q apart) e → Line n S₂ e
-  second-line e g = entered-line n S f w q apart _ adds₂.inside t.second e g
+  pub second_line : (e : Settled) → EnteredOf n f (facts q apart) e → Line n S₂ e
+  second_line e g = entered_line n S f w q apart _ adds₂.inside t.second e g
 
   -- how the search ends, from how they end
   found : {R : List Fact} → (search n S₁).outcome ≡ in_tree R → EndsAs n S (in_tree R) (1 + (search n S₁).count)
-  found e = search-first n S w.inside w.free (has f) w.decides t.join t.is-first (record { outcome = e; count = refl })
+  found e = search_first n S w.inside w.free (has f) w.decides t.join t.is_first (record { outcome = e; count = refl })
 
-  went_on : (search n S₁).outcome ≡ in-none → EndsAs n S (search n S₂).outcome (2 + (search n S₁).count + (search n S₂).count)
+  went_on : (search n S₁).outcome ≡ in_none → EndsAs n S (search n S₂).outcome (2 + (search n S₁).count + (search n S₂).count)
   went_on e =
-      search-second n S w.inside w.free (has f) w.decides t.join t.is-first (record { outcome = e; count = refl })
+      search_second n S w.inside w.free (has f) w.decides t.join t.is_first (record { outcome = e; count = refl })
       (record { outcome = refl; count = refl })
 
   -- at the least the first is entered and searched
@@ -69,23 +69,23 @@ module _ (n : ℕ) (S : List Fact) (f : Facts) (w : Ready n S f) (p q : Below) (
   more = go (search n S₁).outcome refl
     where
       go : (o : Outcome) → (search n S₁).outcome ≡ o → 1 + (search n S₁).count ≤ (search n S).count
-      go in-none e = let c = (went_on e).count in omega arith
+      go in_none e = let c = (went_on e).count in omega arith
       go (in_tree R) e = let c = (found e).count in omega arith
 
 -- ---- what a line reports, with k alternatives entered before
 
 module _ (A n k : ℕ) (S : List Fact) where
-  pub line-clash : (s : Settled) → Line n S s → s.clash ≡ true → k ≤ A → (r : Searched) → r ≡ withoutTree None k → Report A n k S r
-  line-clash s l e h r d = reports-search A n S (search-clash n S l.inside (l.clashes e)) k k r (omega arith) (reports-none A n k r h d)
+  pub line_clash : (s : Settled) → Line n S s → s.clash ≡ true → k ≤ A → (r : Searched) → r ≡ without_tree None k → Report A n k S r
+  line_clash s l e h r d = reports_search A n S (search_clash n S l.inside (l.clashes e)) k k r (omega arith) (reports_none A n k r h d)
 
   module _ (f : Facts) (w : Ready n S f) where
-    pub line-solved : firstJoin n (has f) ≡ none → k ≤ A → (r : Searched) → r.end ≡ Tree → r.count ≡ k → TreeRows n S r → Report A n k S r
-    line-solved e h r a b g =
-        reports-search A n S (search-solved n S w.inside w.free (has f) w.decides e) k k r (omega arith) (reports-tree A n k r S h a b g)
+    pub line_solved : first_join n (has f) ≡ none → k ≤ A → (r : Searched) → r.end ≡ Tree → r.count ≡ k → TreeRows n S r → Report A n k S r
+    line_solved e h r a b g =
+        reports_search A n S (search_solved n S w.inside w.free (has f) w.decides e) k k r (omega arith) (reports_tree A n k r S h a b g)
 
     module _ (p q : Below) (apart : Bool) (t : Alternatives n S f p q apart) where
-      pub line-spent : k ≡ A → (r : Searched) → r ≡ withoutTree Spent k → Report A n k S r
-      line-spent e r d = let m = more n S f w p q apart t in reports-spent A n _ _ r (omega arith) (d ∙ ap (withoutTree Spent) e)
+      pub line_spent : k ≡ A → (r : Searched) → r ≡ without_tree Spent k → Report A n k S r
+      line_spent e r d = let m = more n S f w p q apart t in reports_spent A n _ _ r (omega arith) (d ∙ ap (without_tree Spent) e)
 
       -- from the first alternative's report
       module _ (r : Searched) (g : Report A n (k + 1) (S₁ n S f w p q apart t) r) where
@@ -94,26 +94,26 @@ module _ (A n k : ℕ) (S : List Fact) where
         line_first d = go (dec_le (k + 1 + (search n (S₁ n S f w p q apart t)).count) A) (search n (S₁ n S f w p q apart t)).outcome refl
           where
             go : Dec (k + 1 + (search n (S₁ n S f w p q apart t)).count ≤ A) → (o : Outcome) → (search n (S₁ n S f w p q apart t)).outcome ≡ o → Report A n k S r
-            go (no l) o e = let m = more n S f w p q apart t in reports-spent A n _ _ r (omega arith) (g.spent (omega arith))
-            go (yes l) in-none e = absurd (d (ap (λ (z : Searched). z.end) (g.none l e)))
+            go (no l) o e = let m = more n S f w p q apart t in reports_spent A n _ _ r (omega arith) (g.spent (omega arith))
+            go (yes l) in_none e = absurd (d (ap (λ (z : Searched). z.end) (g.none l e)))
             go (yes l) (in_tree R) e =
-                reports-search A n S (found n S f w p q apart t e) k (k + 1 + (search n (S₁ n S f w p q apart t)).count) r (omega arith)
+                reports_search A n S (found n S f w p q apart t e) k (k + 1 + (search n (S₁ n S f w p q apart t)).count) r (omega arith)
                 (subst (λ (o : Outcome). Reports A n o (k + 1 + (search n (S₁ n S f w p q apart t)).count) r) e g)
 
         module _ (e : r.end ≡ None) where
-          first-none : WasNone A n (search n (S₁ n S f w p q apart t)).outcome (k + 1 + (search n (S₁ n S f w p q apart t)).count) r
-          first-none = was-none A n _ _ r g e
+          first_none : WasNone A n (search n (S₁ n S f w p q apart t)).outcome (k + 1 + (search n (S₁ n S f w p q apart t)).count) r
+          first_none = was_none A n _ _ r g e
 
           pub first_counted : (k < r.count) × (r.count ≤ A)
-          first_counted = let v = first-none in (omega arith, omega arith)
+          first_counted = let v = first_none in (omega arith, omega arith)
 
-          pub line-spent-second : r.count ≡ A → (z : Searched) → z ≡ withoutTree Spent r.count → Report A n k S z
-          line-spent-second d z b =
-              let v = first-none in
+          pub line_spent_second : r.count ≡ A → (z : Searched) → z ≡ without_tree Spent r.count → Report A n k S z
+          line_spent_second d z b =
+              let v = first_none in
               let y = (went_on n S f w p q apart t v.is).count in
-              reports-spent A n _ _ z (omega arith) (b ∙ ap (withoutTree Spent) d)
+              reports_spent A n _ _ z (omega arith) (b ∙ ap (without_tree Spent) d)
 
           pub line_second : (z : Searched) → Report A n (r.count + 1) (S₂ n S f w p q apart t) z → Report A n k S z
           line_second z h =
-              let v = first-none in
-              reports-search A n S (went_on n S f w p q apart t v.is) k (r.count + 1 + (search n (S₂ n S f w p q apart t)).count) z (omega arith) h
+              let v = first_none in
+              reports_search A n S (went_on n S f w p q apart t v.is) k (r.count + 1 + (search n (S₂ n S f w p q apart t)).count) z (omega arith) h

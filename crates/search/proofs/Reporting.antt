@@ -5,35 +5,35 @@ use Prim.Native.Nat.{ℕ, ◌+◌, ◌≤◌, ◌<◌}
 use native.Mathlib.Decide.{dec_le}
 use native.Mathlib.Omega.{arith}
 use Rattle.meaning.specs.Constraint.{Fact}
-use Rattle.meaning.specs.FixedSearch.{Outcome, in-none, in_tree}
+use Rattle.meaning.specs.FixedSearch.{Outcome, in_none, in_tree}
 use Rattle.theory.proofs.Steps.{EndsAs}
-use Rattle.search.specs.Searching.{withoutTree, TreeRows, Reports, Report}
+use Rattle.search.specs.Searching.{without_tree, TreeRows, Reports, Report}
 use Rattle.search.specs.declared.End.{End}
 use Rattle.search.specs.declared.End.TheVariants.{Tree, None, Spent}
 use Rattle.search.specs.declared.Searched.{Searched}
 
-no-tree-none : {R : List Fact} → in_tree R ≡ in-none → ⊥
-no-tree-none e = let z : ◌≡◌ {A = ℕ} 0 1 = cc in omega arith
+no_tree_none : {R : List Fact} → in_tree R ≡ in_none → ⊥
+no_tree_none e = let z : ◌≡◌ {A = ℕ} 0 1 = cc in omega arith
 
-end_of : {r : Searched} {e : End} {c : ℕ} → r ≡ withoutTree e c → r.end ≡ e
+end_of : {r : Searched} {e : End} {c : ℕ} → r ≡ without_tree e c → r.end ≡ e
 end_of d = ap (λ (z : Searched). z.end) d
 
 module _ (A n : ℕ) where
-  pub reports-none : (c : ℕ) (r : Searched) → c ≤ A → r ≡ withoutTree None c → Reports A n in-none c r
-  reports-none c r l e = record { spent = λ h. absurd (omega arith); none = λ h o. e; tree = λ h o. absurd (no-tree-none (sym o)) }
+  pub reports_none : (c : ℕ) (r : Searched) → c ≤ A → r ≡ without_tree None c → Reports A n in_none c r
+  reports_none c r l e = record { spent = λ h. absurd (omega arith); none = λ h o. e; tree = λ h o. absurd (no_tree_none (sym o)) }
 
-  pub reports-tree : (c : ℕ) (r : Searched) (R : List Fact) → c ≤ A → r.end ≡ Tree → r.count ≡ c → TreeRows n R r → Reports A n (in_tree R) c r
-  reports-tree c r R l e k g = record { spent = λ h. absurd (omega arith); none = λ h o. absurd (no-tree-none o); tree = λ h {R = Q} o. (e, k, same Q o g) }
+  pub reports_tree : (c : ℕ) (r : Searched) (R : List Fact) → c ≤ A → r.end ≡ Tree → r.count ≡ c → TreeRows n R r → Reports A n (in_tree R) c r
+  reports_tree c r R l e k g = record { spent = λ h. absurd (omega arith); none = λ h o. absurd (no_tree_none o); tree = λ h {R = Q} o. (e, k, same Q o g) }
     where
       same : (Q : List Fact) → in_tree R ≡ in_tree Q → TreeRows n R r → TreeRows n Q r
       same Q o g = let d : R ≡ Q = cc in rw d at g
 
-  pub reports-spent : (o : Outcome) (c : ℕ) (r : Searched) → A < c → r ≡ withoutTree Spent A → Reports A n o c r
-  reports-spent o c r l e = record { spent = λ h. e; none = λ h q. absurd (omega arith); tree = λ h q. absurd (omega arith) }
+  pub reports_spent : (o : Outcome) (c : ℕ) (r : Searched) → A < c → r ≡ without_tree Spent A → Reports A n o c r
+  reports_spent o c r l e = record { spent = λ h. e; none = λ h q. absurd (omega arith); tree = λ h q. absurd (omega arith) }
 
   -- the same report of the search of S
-  pub reports-search : (S : List Fact) {o : Outcome} {c : ℕ} → EndsAs n S o c → (k d : ℕ) (r : Searched) → k + c ≡ d → Reports A n o d r → Report A n k S r
-  reports-search S w k d r e p = rw (w.outcome, w.count, e) p
+  pub reports_search : (S : List Fact) {o : Outcome} {c : ℕ} → EndsAs n S o c → (k d : ℕ) (r : Searched) → k + c ≡ d → Reports A n o d r → Report A n k S r
+  reports_search S w k d r e p = rw (w.outcome, w.count, e) p
 
   -- ---- what a report tells
 
@@ -43,31 +43,31 @@ module _ (A n : ℕ) where
     pub within : c ≤ A
 
   pub record WasNone (o : Outcome) (c : ℕ) (r : Searched) : Type 0 where
-    pub is : o ≡ in-none
+    pub is : o ≡ in_none
     pub within : c ≤ A
     pub counted : r.count ≡ c
 
   module _ (o : Outcome) (c : ℕ) (r : Searched) (p : Reports A n o c r) where
-    pub was-tree : r.end ≡ Tree → WasTree o c
-    was-tree e = go (dec_le c A) o refl
+    pub was_tree : r.end ≡ Tree → WasTree o c
+    was_tree e = go (dec_le c A) o refl
       where
         go : Dec (c ≤ A) → (q : Outcome) → o ≡ q → WasTree o c
         go (no l) q d = let w = end_of (p.spent (omega arith)) in let z : ◌≡◌ {A = ℕ} 0 1 = cc in absurd (omega arith)
-        go (yes l) in-none d = let w = end_of (p.none l d) in let z : ◌≡◌ {A = ℕ} 0 1 = cc in absurd (omega arith)
+        go (yes l) in_none d = let w = end_of (p.none l d) in let z : ◌≡◌ {A = ℕ} 0 1 = cc in absurd (omega arith)
         go (yes l) (in_tree R) d = record { tree = R; is = d; within = l }
 
-    pub was-none : r.end ≡ None → WasNone o c r
-    was-none e = go (dec_le c A) o refl
+    pub was_none : r.end ≡ None → WasNone o c r
+    was_none e = go (dec_le c A) o refl
       where
         go : Dec (c ≤ A) → (q : Outcome) → o ≡ q → WasNone o c r
         go (no l) q d = let w = end_of (p.spent (omega arith)) in let z : ◌≡◌ {A = ℕ} 0 1 = cc in absurd (omega arith)
-        go (yes l) in-none d = record { is = d; within = l; counted = ap (λ (z : Searched). z.count) (p.none l d) }
+        go (yes l) in_none d = record { is = d; within = l; counted = ap (λ (z : Searched). z.count) (p.none l d) }
         go (yes l) (in_tree R) d = let w = (p.tree l d).0 in let z : ◌≡◌ {A = ℕ} 0 1 = cc in absurd (omega arith)
 
-    pub was-spent : r.end ≡ Spent → A < c
-    was-spent e = go (dec_le c A) o refl
+    pub was_spent : r.end ≡ Spent → A < c
+    was_spent e = go (dec_le c A) o refl
       where
         go : Dec (c ≤ A) → (q : Outcome) → o ≡ q → A < c
         go (no l) q d = omega arith
-        go (yes l) in-none d = let w = end_of (p.none l d) in let z : ◌≡◌ {A = ℕ} 0 1 = cc in absurd (omega arith)
+        go (yes l) in_none d = let w = end_of (p.none l d) in let z : ◌≡◌ {A = ℕ} 0 1 = cc in absurd (omega arith)
         go (yes l) (in_tree R) d = let w = (p.tree l d).0 in let z : ◌≡◌ {A = ℕ} 0 1 = cc in absurd (omega arith)

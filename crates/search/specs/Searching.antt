@@ -5,9 +5,9 @@ use Rattle.std.proofs.Math.Option.{none, some}
 use Rattle.meaning.specs.Constraint.{Fact, below}
 use Rattle.meaning.specs.Settled.{Clash}
 use Rattle.meaning.specs.Finite.{Yes}
-use Rattle.meaning.specs.FixedSearch.{Join, first-alternative, second-alternative, Outcome, in-none, in_tree}
+use Rattle.meaning.specs.FixedSearch.{Join, first_alternative, second_alternative, Outcome, in_none, in_tree}
 use Rattle.meaning.specs.Closed.{Inside}
-use Rattle.theory.specs.Search.{firstJoin, search}
+use Rattle.theory.specs.Search.{first_join, search}
 use Rattle.tables.specs.Tables.{has, showing, Ready}
 use Rattle.tables.specs.declared.Facts.{Facts}
 use Rattle.tables.specs.declared.Settled.{Settled}
@@ -41,12 +41,12 @@ pub record Enters (n : ℕ) (S : List Fact) (p : Below) (apart : Bool) (A : List
 -- p enters the first alternative of the first join, and q the second, with `apart`
 pub record Alternatives (n : ℕ) (S : List Fact) (f : Facts) (p q : Below) (apart : Bool) : Type 0 where
   pub join : Join
-  pub is-first : firstJoin n (has f) ≡ some join
-  pub first : Enters n S p false (first-alternative join)
-  pub second : Enters n S q apart (second-alternative join)
+  pub is_first : first_join n (has f) ≡ some join
+  pub first : Enters n S p false (first_alternative join)
+  pub second : Enters n S q apart (second_alternative join)
 
 abbrev pub StepOf : ℕ → Facts → Step → Type 0
-StepOf n f Solved = (S : List Fact) → Ready n S f → firstJoin n (has f) ≡ none
+StepOf n f Solved = (S : List Fact) → Ready n S f → first_join n (has f) ≡ none
 StepOf n f (Split p q apart) =
     PairInside n p × PairInside n q × (Yes apart → Forked f q.upper.0 q.lower.0) × ((S : List Fact) → Ready n S f → Alternatives n S f p q apart)
 
@@ -62,8 +62,8 @@ pub record Line (n : ℕ) (S : List Fact) (s : Settled) : Type 0 where
   pub ready : s.clash ≡ false → Ready n S s.facts
 
 -- an end without a tree: blank rows
-abbrev pub withoutTree : End → ℕ → Searched
-withoutTree e c = record { end = e; root = 0; count = c; below = replicate 16 0; above = replicate 16 0; after = replicate 16 0; label = replicate 16 0 }
+abbrev pub without_tree : End → ℕ → Searched
+without_tree e c = record { end = e; root = 0; count = c; below = replicate 16 0; above = replicate 16 0; after = replicate 16 0; label = replicate 16 0 }
 
 -- the rows that r shows are those of tables that decide the settled set of R
 abbrev pub TreeRows : ℕ → List Fact → Searched → Type 0
@@ -71,8 +71,8 @@ TreeRows n R r = (g : Facts) × Ready n R (showing r.below r.above r.after r.lab
 
 -- r reports a search that ends in o after entering c alternatives in all
 pub record Reports (A n : ℕ) (o : Outcome) (c : ℕ) (r : Searched) : Type 0 where
-  pub spent : A < c → r ≡ withoutTree Spent A
-  pub none : c ≤ A → o ≡ in-none → r ≡ withoutTree None c
+  pub spent : A < c → r ≡ without_tree Spent A
+  pub none : c ≤ A → o ≡ in_none → r ≡ without_tree None c
   pub tree : c ≤ A → {R : List Fact} → o ≡ in_tree R → (r.end ≡ Tree) × (r.count ≡ c) × TreeRows n R r
 
 -- the report of a search of S, with k alternatives entered before

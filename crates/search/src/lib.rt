@@ -3,7 +3,7 @@
 ghost use Rattle.std.specs.Prelude.{◌≡◌, List, ◌≤◌};
 ghost use Rattle.meaning.specs.Constraint.{Fact};
 ghost use Rattle.tables.specs.Tables.{Ready};
-ghost use Rattle.search.specs.Searching.{StepOf, Line, tables_of, withoutTree, LineOf, SearchedOf};
+ghost use Rattle.search.specs.Searching.{StepOf, Line, tables_of, without_tree, LineOf, SearchedOf};
 
 use ids::Var;
 use stages::{Found, JoinKind};
@@ -68,7 +68,7 @@ fn next_step(f: Facts, n: usize) -> Step
 }
 
 fn without_tree(end: End, count: u32) -> Searched
-    ensures { result ≡ withoutTree end count }
+    ensures { result ≡ without_tree end count }
 {
     Searched {
         end,

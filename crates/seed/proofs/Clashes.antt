@@ -5,5 +5,5 @@ use Rattle.meaning.specs.Constraint.{Fact}
 use Rattle.meaning.specs.Settled.{Clash, labels, given}
 use Rattle.seed.specs.Seeds.{GivesTwoLabels}
 
-pub two-labels-clash : (n : ℕ) {S : List Fact} → GivesTwoLabels S → Clash n S
-two-labels-clash n t = labels (given t.gives_one) (given t.gives_other) t.unlike
+pub two_labels_clash : (n : ℕ) {S : List Fact} → GivesTwoLabels S → Clash n S
+two_labels_clash n t = labels (given t.gives_one) (given t.gives_other) t.unlike

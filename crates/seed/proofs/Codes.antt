@@ -5,67 +5,67 @@ use mathlib.Core.List.{List, ◌∷◌, Memᴰ}
 use Prim.Native.Nat.{ℕ, ◌<◌}
 use native.Mathlib.Omega.{arith}
 use Rattle.meaning.specs.Tree.{Var, Label, folded}
-use Rattle.meaning.specs.Constraint.{Constraint, is-child, is_below, is-strictly-below, is_same, is-differ, is-root, is_IsLeaf, is-label, is-before, named, Fact, child, below, differ, before, root, leaf, label, facts, facts_of}
+use Rattle.meaning.specs.Constraint.{Constraint, is_child, is_below, is-strictly-below, is_same, is-differ, is-root, is_IsLeaf, is_label, is_before, named, Fact, child, below, differ, before, root, leaf, label, facts, facts_of}
 use Rattle.meaning.specs.Marking.{kind}
-use Rattle.meaning.specs.Files.{quadOf}
-use Rattle.meaning.proofs.Constraints.{fact-in, fact-from}
+use Rattle.meaning.specs.Files.{quad_of}
+use Rattle.meaning.proofs.Constraints.{fact_in, fact_from}
 use Rattle.meaning.proofs.Facts.{in_one, in_two}
-use Rattle.meaning.proofs.Records.{kind-first, named-record}
-use Rattle.constraints.specs.Record.{kind_of, constraintAs, constraintOf, recordOf}
-use Rattle.constraints.proofs.ByKind.{constraint-again}
+use Rattle.meaning.proofs.Records.{kind_first, named_record}
+use Rattle.constraints.specs.Record.{kind_of, constraint_as, constraint_of, record_of}
+use Rattle.constraints.proofs.ByKind.{constraint_again}
 
 abbrev pub left : Constraint → ℕ
-left c = (quadOf c).second
+left c = (quad_of c).second
 
 -- 0 where it names one variable
 abbrev pub right : Constraint → ℕ
-right c = (quadOf c).third
+right c = (quad_of c).third
 
 abbrev pub name : Constraint → ℕ
-name c = (quadOf c).fourth
+name c = (quad_of c).fourth
 
-pub spelt-as : (c : Constraint) {k x y : ℕ} → kind c ≡ k → left c ≡ x → right c ≡ y → c ≡ constraintAs (kind_of k) x y (name c)
-unfolding constraintOf recordOf
-spelt-as c a b d = rw (sym a, sym b, sym d, kind-first c) (sym (constraint-again c))
+pub spelt_as : (c : Constraint) {k x y : ℕ} → kind c ≡ k → left c ≡ x → right c ≡ y → c ≡ constraint_as (kind_of k) x y (name c)
+unfolding constraint_of record_of
+spelt_as c a b d = rw (sym a, sym b, sym d, kind_first c) (sym (constraint_again c))
 
-pub variables-named : (c : Constraint) → (left c < named c) × (right c < named c)
-variables-named c = let e = named-record c in (omega arith, omega arith)
+pub variables_named : (c : Constraint) → (left c < named c) × (right c < named c)
+variables_named c = let e = named_record c in (omega arith, omega arith)
 
 -- ---- a fact's constraints
 
 module _ (cs : List Constraint) where
   -- a label record of x whose label, its capital made small, is l
   abbrev pub Labelled : Var → Label → Type 0
-  Labelled x l = (k : Label) × Memᴰ (is-label x k) cs × (folded k ≡ l)
+  Labelled x l = (k : Label) × Memᴰ (is_label x k) cs × (folded k ≡ l)
 
   abbrev pub Source : Fact → Type 0
-  Source (child x y) = Memᴰ (is-child x y) cs
+  Source (child x y) = Memᴰ (is_child x y) cs
   Source (below x y) = Memᴰ (is_below x y) cs ⊎ (Memᴰ (is-strictly-below x y) cs ⊎ (Memᴰ (is_same x y) cs ⊎ Memᴰ (is_same y x) cs))
   Source (differ x y) = Memᴰ (is-strictly-below x y) cs ⊎ Memᴰ (is-differ x y) cs
-  Source (before x y) = Memᴰ (is-before x y) cs
+  Source (before x y) = Memᴰ (is_before x y) cs
   Source (root x) = Memᴰ (is-root x) cs
   Source (leaf x) = Memᴰ (is_IsLeaf x) cs
   Source (label x l) = Labelled x l
 
-  one-source : (c : Constraint) → Memᴰ c cs → (φ : Fact) → Memᴰ φ (facts c) → Source φ
-  one-source (is-child x y) k φ m = in_one Source k m
-  one-source (is_below x y) k φ m = in_one Source (inl k) m
-  one-source (is-strictly-below x y) k φ m = in_two Source (inr (inl k)) (inl k) m
-  one-source (is_same x y) k φ m = in_two Source (inr (inr (inl k))) (inr (inr (inr k))) m
-  one-source (is-differ x y) k φ m = in_one Source (inr k) m
-  one-source (is-root x) k φ m = in_one Source k m
-  one-source (is_IsLeaf x) k φ m = in_one Source k m
-  one-source (is-label x l) k φ m = in_one Source (l, k, refl) m
-  one-source (is-before x y) k φ m = in_one Source k m
+  one_source : (c : Constraint) → Memᴰ c cs → (φ : Fact) → Memᴰ φ (facts c) → Source φ
+  one_source (is_child x y) k φ m = in_one Source k m
+  one_source (is_below x y) k φ m = in_one Source (inl k) m
+  one_source (is-strictly-below x y) k φ m = in_two Source (inr (inl k)) (inl k) m
+  one_source (is_same x y) k φ m = in_two Source (inr (inr (inl k))) (inr (inr (inr k))) m
+  one_source (is-differ x y) k φ m = in_one Source (inr k) m
+  one_source (is-root x) k φ m = in_one Source k m
+  one_source (is_IsLeaf x) k φ m = in_one Source k m
+  one_source (is_label x l) k φ m = in_one Source (l, k, refl) m
+  one_source (is_before x y) k φ m = in_one Source k m
 
   pub source : (φ : Fact) → Memᴰ φ (facts_of cs) → Source φ
-  source φ m = let w = fact-from cs φ m in one-source w.0 w.1 φ w.2
+  source φ m = let w = fact_from cs φ m in one_source w.0 w.1 φ w.2
 
   first : {c : Constraint} {φ : Fact} {φs : List Fact} → facts c ≡ φ ∷ φs → Memᴰ c cs → Memᴰ φ (facts_of cs)
-  first e m = fact-in m (rw e (Memᴰ.head refl))
+  first e m = fact_in m (rw e (Memᴰ.head refl))
 
   second : {c : Constraint} {φ ψ : Fact} {φs : List Fact} → facts c ≡ ψ ∷ φ ∷ φs → Memᴰ c cs → Memᴰ φ (facts_of cs)
-  second e m = fact-in m (rw e (Memᴰ.tail (Memᴰ.head refl)))
+  second e m = fact_in m (rw e (Memᴰ.tail (Memᴰ.head refl)))
 
   pub sourced : (φ : Fact) → Source φ → Memᴰ φ (facts_of cs)
   sourced (child x y) m = first refl m

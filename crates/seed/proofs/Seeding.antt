@@ -11,31 +11,31 @@ use lib.ListN.{length, get_or, set, replicate}
 use Rattle.meaning.specs.Tree.{folded}
 use Rattle.meaning.specs.Constraint.{Constraint, facts_of}
 use Rattle.meaning.specs.Files.{accepted, judge}
-use Rattle.meaning.proofs.Constraints.{named-most}
-use Rattle.theory.proofs.ConstraintFile.{bytes, accepted-vars}
-use Rattle.constraints.proofs.Records.{good-at}
+use Rattle.meaning.proofs.Constraints.{named_most}
+use Rattle.theory.proofs.ConstraintFile.{bytes, accepted_vars}
+use Rattle.constraints.proofs.Records.{good_at}
 use Rattle.tables.specs.Tables.{row}
-use Rattle.seed.specs.Seeds.{labelled, secondLabel, GivesTwoLabels}
-use Rattle.seed.proofs.Codes.{left, right, variables-named}
-use Rattle.seed.proofs.Bytes.{GoodBytes, good-bytes}
-use Rattle.seed.proofs.Gathering.{Gathered, Labels, gathered_none, labels-none, here_in, gathered-more, labels-more, two-labels}
+use Rattle.seed.specs.Seeds.{labelled, second_label, GivesTwoLabels}
+use Rattle.seed.proofs.Codes.{left, right, variables_named}
+use Rattle.seed.proofs.Bytes.{GoodBytes, good_bytes}
+use Rattle.seed.proofs.Gathering.{Gathered, Labels, gathered_none, labels_none, here_in, gathered_more, labels_more, two_labels}
 
 pub record Seeding (cs : List Constraint) (i : ℕ) (rows columns names : List ℕ) : Type 0 where
   pub by_row : Gathered cs i left right rows
-  pub by-column : Gathered cs i right left columns
+  pub by_column : Gathered cs i right left columns
   pub labels : Labels cs i names
 
-pub seeding-start : (cs : List Constraint) → Seeding cs 0 (replicate 256 0) (replicate 256 0) (replicate 16 0)
-seeding-start cs = record { by_row = gathered_none cs left right; by-column = gathered_none cs right left; labels = labels-none cs }
+pub seeding_start : (cs : List Constraint) → Seeding cs 0 (replicate 256 0) (replicate 256 0) (replicate 16 0)
+seeding_start cs = record { by_row = gathered_none cs left right; by_column = gathered_none cs right left; labels = labels_none cs }
 
 -- ---- one record more, as the code has it
 
 module _ (file : List ℕ) (cs : List Constraint) (e : judge file ≡ accepted cs) (small : (i : ℕ) → get_or file i 0 < 256) where
   pub few : (c : Constraint) → Memᴰ c cs → (left c < 16) × (right c < 16)
   few c m =
-      let w = variables-named c in
-      let a = named-most cs c m in
-      let b = accepted-vars file (bytes file small) cs e in
+      let w = variables_named c in
+      let a = named_most cs c m in
+      let b = accepted_vars file (bytes file small) cs e in
       (omega (arith, w.0, a, b), omega (arith, w.1, a, b))
 
   module _ (i : ℕ) (h : i < length file / 4) (rows columns names : List ℕ) (s : Seeding cs i rows columns names) where
@@ -52,50 +52,50 @@ module _ (file : List ℕ) (cs : List Constraint) (e : judge file ≡ accepted c
     l = get_or file (i * 4 + 3) 0
 
     abbrev d : Constraint
-    d = (good-at file cs e i h).0
+    d = (good_at file cs e i h).0
 
     good : GoodBytes k x y l d
-    good = good-bytes _ _ _ _ (good-at file cs e i h).1
+    good = good_bytes _ _ _ _ (good_at file cs e i h).1
 
-    x-small : x < 16
-    x-small = subst (λ (j : ℕ). j < 16) good.is-left (few d (here_in cs i d (good-at file cs e i h).2)).0
+    x_small : x < 16
+    x_small = subst (λ (j : ℕ). j < 16) good.is_left (few d (here_in cs i d (good_at file cs e i h).2)).0
 
-    y-small : y < 16
-    y-small = subst (λ (j : ℕ). j < 16) good.is_right (few d (here_in cs i d (good-at file cs e i h).2)).1
+    y_small : y < 16
+    y_small = subst (λ (j : ℕ). j < 16) good.is_right (few d (here_in cs i d (good_at file cs e i h).2)).1
 
-    next : secondLabel (row names x) (labelled (eqb k 8) (row names x) (folded l)) ≡ false → Seeding cs (i + 1) (set rows (k * 16 + x) (bit_or (row rows (k * 16 + x)) (2 ^ y)))
+    next : second_label (row names x) (labelled (eqb k 8) (row names x) (folded l)) ≡ false → Seeding cs (i + 1) (set rows (k * 16 + x) (bit_or (row rows (k * 16 + x)) (2 ^ y)))
         (set columns (k * 16 + y) (bit_or (row columns (k * 16 + y)) (2 ^ x))) (set names x (labelled (eqb k 8) (row names x) (folded l)))
     next free =
-        let at = (good-at file cs e i h).2 in
+        let at = (good_at file cs e i h).2 in
         let m = good.most in
         record {
-          by_row = gathered-more cs i d at left right rows _ _ (rw (good.is_number, good.is-left)) good.is_right (omega (arith, m, x-small)) s.by_row;
-          by-column = gathered-more cs i d at right left columns _ _ (rw (good.is_number, good.is_right)) good.is-left (omega (arith, m, y-small)) s.by-column;
-          labels = labels-more cs i d at k x y l good x-small names s.labels free;
+          by_row = gathered_more cs i d at left right rows _ _ (rw (good.is_number, good.is_left)) good.is_right (omega (arith, m, x_small)) s.by_row;
+          by_column = gathered_more cs i d at right left columns _ _ (rw (good.is_number, good.is_right)) good.is_left (omega (arith, m, y_small)) s.by_column;
+          labels = labels_more cs i d at k x y l good x_small names s.labels free;
         }
 
     -- the code's numbers are the record's
     module _ (k' x' y' l' : ℕ) (ek : k' ≡ k % 16) (ex : x' ≡ x % 16) (ey : y' ≡ y % 16) (el : l' ≡ folded l)
-        (new : ℕ) (en : new ≡ labelled (eqb k' 8) (row names x') l') (second : Bool) (es : second ≡ secondLabel (row names x') new) where
-      kind-is : k' ≡ k
-      kind-is = ek ∙ mod-eq_of_lt (let m = good.most in omega arith)
+        (new : ℕ) (en : new ≡ labelled (eqb k' 8) (row names x') l') (second : Bool) (es : second ≡ second_label (row names x') new) where
+      kind_is : k' ≡ k
+      kind_is = ek ∙ mod-eq_of_lt (let m = good.most in omega arith)
 
       left_is : x' ≡ x
-      left_is = ex ∙ mod-eq_of_lt x-small
+      left_is = ex ∙ mod-eq_of_lt x_small
 
       right_is : y' ≡ y
-      right_is = ey ∙ mod-eq_of_lt y-small
+      right_is = ey ∙ mod-eq_of_lt y_small
 
       new_is : new ≡ labelled (eqb k 8) (row names x) (folded l)
-      new_is = en ∙ rw (kind-is, left_is, el)
+      new_is = en ∙ rw (kind_is, left_is, el)
 
-      second_is : second ≡ secondLabel (row names x) (labelled (eqb k 8) (row names x) (folded l))
+      second_is : second ≡ second_label (row names x) (labelled (eqb k 8) (row names x) (folded l))
       second_is = es ∙ rw (new_is, left_is)
 
-      pub seeding-step : second ≡ false → (r₁ c₁ : ℕ) → r₁ ≡ 2 ^ y' → c₁ ≡ 2 ^ x'
+      pub seeding_step : second ≡ false → (r₁ c₁ : ℕ) → r₁ ≡ 2 ^ y' → c₁ ≡ 2 ^ x'
           → Seeding cs (i + 1) (set rows (k' * 16 + x') (bit_or (row rows (k' * 16 + x')) r₁))
           (set columns (k' * 16 + y') (bit_or (row columns (k' * 16 + y')) c₁)) (set names x' new)
-      seeding-step free r₁ c₁ e₁ e₂ = rw (e₁, e₂, new_is, kind-is, left_is, right_is) (next (sym second_is ∙ free))
+      seeding_step free r₁ c₁ e₁ e₂ = rw (e₁, e₂, new_is, kind_is, left_is, right_is) (next (sym second_is ∙ free))
 
-      pub seeding-clash : second ≡ true → GivesTwoLabels (facts_of cs)
-      seeding-clash q = two-labels cs i d (good-at file cs e i h).2 k x y l good x-small names s.labels (sym second_is ∙ q)
+      pub seeding_clash : second ≡ true → GivesTwoLabels (facts_of cs)
+      seeding_clash q = two_labels cs i d (good_at file cs e i h).2 k x y l good x_small names s.labels (sym second_is ∙ q)

@@ -6,7 +6,7 @@ use Rattle.std.specs.Int.Bits.{bit_or}
 use Rattle.meaning.specs.Tree.{Var, Label}
 use Rattle.meaning.specs.Constraint.{Fact, child, below, differ, before, root, leaf, label, vars, facts_of}
 use Rattle.meaning.specs.Finite.{Yes, ◌and◌, neg, pick}
-use Rattle.constraints.specs.Judgement.{constraintsIn}
+use Rattle.constraints.specs.Judgement.{constraints_in}
 use Rattle.tables.specs.Tables.{row, has, Seeded}
 use Rattle.tables.specs.declared.Facts.{Facts}
 use Rattle.seed.specs.declared.Seeds.{Seeds}
@@ -15,11 +15,11 @@ unfoldable pub labelled : Bool → ℕ → ℕ → ℕ
 labelled given old new = pick given new old
 
 -- another label than the one that stands
-unfoldable pub secondLabel : ℕ → ℕ → Bool
-secondLabel old new = neg (eqb old 0) and neg (eqb old new)
+unfoldable pub second_label : ℕ → ℕ → Bool
+second_label old new = neg (eqb old 0) and neg (eqb old new)
 
-unfoldable pub noFacts : Facts
-noFacts = record {
+unfoldable pub no_facts : Facts
+no_facts = record {
   child = replicate 16 0;
   parent = replicate 16 0;
   below = replicate 16 0;
@@ -33,8 +33,8 @@ noFacts = record {
 }
 
 -- row x of a kind
-abbrev pub kindRow : List ℕ → ℕ → ℕ → ℕ
-kindRow t kind x = row t (kind * 16 + x)
+abbrev pub kind_row : List ℕ → ℕ → ℕ → ℕ
+kind_row t kind x = row t (kind * 16 + x)
 
 -- a table of 16 rows
 pub record RowsOf (rows : ℕ → ℕ) (r : List ℕ) : Type 0 where
@@ -42,22 +42,22 @@ pub record RowsOf (rows : ℕ → ℕ) (r : List ℕ) : Type 0 where
   pub beyond : (x : ℕ) → 16 ≤ x → row r x ≡ 0
 
 -- row x and column x of a kind
-abbrev pub bothWays : List ℕ → List ℕ → ℕ → ℕ → ℕ
-bothWays rows columns kind x = bit_or (kindRow rows kind x) (kindRow columns kind x)
+abbrev pub both_ways : List ℕ → List ℕ → ℕ → ℕ → ℕ
+both_ways rows columns kind x = bit_or (kind_row rows kind x) (kind_row columns kind x)
 
 -- the tables, from the rows and columns by kind: strictly below is below and differ, same is below both ways, and child, before and differ
 -- are differ both ways
 pub record TogetherOf (rows columns names : List ℕ) (r : Facts) : Type 0 where
-  pub child-rows : RowsOf (kindRow rows 1) r.child
-  pub parent-rows : RowsOf (kindRow columns 1) r.parent
-  pub below_rows : RowsOf (λ x. bit_or (kindRow rows 2 x) (bit_or (kindRow rows 3 x) (bothWays rows columns 4 x))) r.below
+  pub child_rows : RowsOf (kind_row rows 1) r.child
+  pub parent_rows : RowsOf (kind_row columns 1) r.parent
+  pub below_rows : RowsOf (λ x. bit_or (kind_row rows 2 x) (bit_or (kind_row rows 3 x) (both_ways rows columns 4 x))) r.below
   pub above_rows : r.above ≡ replicate 16 0
-  pub differ-rows : RowsOf (λ x. bit_or (bit_or (bothWays rows columns 1 x) (bothWays rows columns 9 x)) (bit_or (bothWays rows columns 3 x) (bothWays rows columns 5 x))) r.differ
-  pub before-rows : RowsOf (kindRow rows 9) r.before
-  pub after-rows : RowsOf (kindRow columns 9) r.after
-  pub root-row : r.root ≡ kindRow columns 6 0
-  pub leaf-row : r.leaf ≡ kindRow columns 7 0
-  pub names-kept : r.label ≡ names
+  pub differ_rows : RowsOf (λ x. bit_or (bit_or (both_ways rows columns 1 x) (both_ways rows columns 9 x)) (bit_or (both_ways rows columns 3 x) (both_ways rows columns 5 x))) r.differ
+  pub before_rows : RowsOf (kind_row rows 9) r.before
+  pub after_rows : RowsOf (kind_row columns 9) r.after
+  pub root_row : r.root ≡ kind_row columns 6 0
+  pub leaf_row : r.leaf ≡ kind_row columns 7 0
+  pub names_kept : r.label ≡ names
 
 -- S says that x and y differ, one way round, by differ, by child or by before
 abbrev pub SaidDiffer : List Fact → ℕ → ℕ → Type 0
@@ -83,9 +83,9 @@ pub record GivesTwoLabels (S : List Fact) : Type 0 where
   pub unlike : one ≢ other
 
 pub record SeedsOf (file : List ℕ) (r : Seeds) : Type 0 where
-  pub clashes : Yes r.clash ↔ GivesTwoLabels (facts_of (constraintsIn file))
-  pub cleared : r.clash ≡ true → r.facts ≡ noFacts
+  pub clashes : Yes r.clash ↔ GivesTwoLabels (facts_of (constraints_in file))
+  pub cleared : r.clash ≡ true → r.facts ≡ no_facts
   -- else the tables hold what is sown and no other fact; that `parent` is the columns of `child`, and `after` of `before`, is in seeded
-  pub exact : r.clash ≡ false → (φ : Fact) → Yes (has r.facts φ) ↔ Sown (facts_of (constraintsIn file)) φ
+  pub exact : r.clash ≡ false → (φ : Fact) → Yes (has r.facts φ) ↔ Sown (facts_of (constraints_in file)) φ
   pub unmirrored : r.clash ≡ false → r.facts.above ≡ replicate 16 0
-  pub seeded : r.clash ≡ false → (n : ℕ) → vars (constraintsIn file) ≤ n → Seeded n (facts_of (constraintsIn file)) r.facts
+  pub seeded : r.clash ≡ false → (n : ℕ) → vars (constraints_in file) ≤ n → Seeded n (facts_of (constraints_in file)) r.facts

@@ -2,7 +2,7 @@
 ghost use Rattle.std.specs.Prelude.{◌≡◌, ℕ, ◌%◌, ◌<◌};
 ghost use Rattle.constraints.specs.Judgement.{judgement};
 ghost use Rattle.constraints.specs.declared.Judgement.TheVariants.{Accepted};
-ghost use Rattle.seed.specs.Seeds.{labelled, secondLabel, noFacts, kindRow, RowsOf, TogetherOf, SeedsOf};
+ghost use Rattle.seed.specs.Seeds.{labelled, second_label, no_facts, kind_row, RowsOf, TogetherOf, SeedsOf};
 
 use tables::Facts;
 
@@ -25,7 +25,7 @@ fn label_with(given: bool, old: u8, new: u8) -> u8
 
 // Another label than the one that stands. One product and not two tests, which are compiled to branches that a mix of records mispredicts.
 fn second_label(old: u8, new: u8) -> bool
-    ensures { result ≡ secondLabel old new }
+    ensures { result ≡ second_label old new }
 {
     let change = old ^ new;
     old as u16 * change as u16 != 0
@@ -39,7 +39,7 @@ fn index(byte: u8) -> usize
 }
 
 fn blank() -> Facts
-    ensures { result ≡ noFacts }
+    ensures { result ≡ no_facts }
 {
     Facts {
         child: [0; 16],
@@ -58,7 +58,7 @@ fn blank() -> Facts
 // The rows of one kind.
 fn table(rows: [u16; 256], kind: usize) -> [u16; 16]
     requires { kind < 16 }
-    ensures { RowsOf (kindRow rows kind) result }
+    ensures { RowsOf (kind_row rows kind) result }
 {
     let mut a = [0u16; 16];
     for x in 0usize..16 {

@@ -9,26 +9,26 @@ use Rattle.meaning.specs.ReadOff.{Decides}
 use Rattle.meaning.specs.Finite.{Yes, pick, sum}
 use Rattle.meaning.proofs.Finite.{sum_bound}
 use Rattle.meaning.specs.Closed.{Rules}
-use Rattle.theory.proofs.Closure.{rules-decide}
+use Rattle.theory.proofs.Closure.{rules_decide}
 use Rattle.tables.specs.Tables.{row, has, Seeded, Ready}
 use Rattle.tables.specs.declared.Facts.{Facts}
 use Rattle.tables.specs.Free.{Bare}
-use Rattle.tables.proofs.Clashes.{free-clash}
+use Rattle.tables.proofs.Clashes.{free_clash}
 use Rattle.passes.specs.Steps.{weight, SteppedOf, PassRules}
 use Rattle.passes.specs.declared.Stepped.{Stepped}
 use Rattle.settle.proofs.Sibling.{SiblingRules}
 
 module _ (n : ℕ) (S : List Fact) (f : Facts) (seed : Seeded n S f) (passed : PassRules n f) (bare : Bare (λ φ. Yes (has f φ))) (ordered : SiblingRules n f) where
   rules : Rules n (λ φ. Yes (has f φ))
-  rules = record { sharing = passed.sharing; siblings = ordered.siblings; one_parent = passed.one_parent; one-element = passed.one-element }
+  rules = record { sharing = passed.sharing; siblings = ordered.siblings; one_parent = passed.one_parent; one_element = passed.one_element }
 
   decided : Decides n S (has f)
-  decided = rules-decide n S (has f) seed.sound seed.held rules
+  decided = rules_decide n S (has f) seed.sound seed.held rules
 
   pub ready : Ready n S f
   ready = record {
     inside = seed.inside;
-    free = free-clash n S f decided (record { apart = passed.apart; clear = ordered.clear; bare = bare });
+    free = free_clash n S f decided (record { apart = passed.apart; clear = ordered.clear; bare = bare });
     decides = decided;
     mirrored = record { parents = seed.parents; ancestors = passed.ancestors; siblings = seed.siblings };
   }
@@ -41,9 +41,9 @@ grew {f = f} {r = r} w c m = let a : weight f + 1 ≤ weight r.facts = subst (λ
 pub no_less : {G : Facts → Type 0} {n : ℕ} {f : Facts} {r : Stepped} → SteppedOf G n f r → r.clash ≡ false → weight f ≤ weight r.facts
 no_less {f = f} {r = r} w c = let a : weight f + pick r.more 1 0 ≤ weight r.facts = w.grown c in omega arith
 
-pub weight-most : (f : Facts) → ((x : ℕ) → row f.below x < 65536) → ((x : ℕ) → row f.child x < 65536) → ((x : ℕ) → row f.before x < 65536) → weight f ≤ 3145680
+pub weight_most : (f : Facts) → ((x : ℕ) → row f.below x < 65536) → ((x : ℕ) → row f.child x < 65536) → ((x : ℕ) → row f.before x < 65536) → weight f ≤ 3145680
 unfolding weight
-weight-most f b c d = let p = most (row f.below) b in let q = most (row f.child) c in let r = most (row f.before) d in omega arith
+weight_most f b c d = let p = most (row f.below) b in let q = most (row f.child) c in let r = most (row f.before) d in omega arith
   where
     most : (t : ℕ → ℕ) → ((x : ℕ) → t x < 65536) → sum 16 t ≤ 1048560
     most t h = sum_bound 16 65535 t (λ x l. let a = h x in omega arith)

@@ -11,19 +11,19 @@ use native.Mathlib.Decide.{dec_lt}
 use native.Mathlib.Omega.{arith}
 use lib.ListN.{length, get_or-eq_default}
 use Rattle.meaning.specs.Constraint.{Fact, child, below, differ, before, root, leaf, label}
-use Rattle.meaning.specs.Settled.{Settled, Clash, child-differ, differ_back, before-differ}
+use Rattle.meaning.specs.Settled.{Settled, Clash, child_differ, differ_back, before_differ}
 use Rattle.meaning.specs.Closed.{Within, Siblings}
 use Rattle.meaning.specs.Finite.{Yes}
-use Rattle.meaning.proofs.Finite.{sum-le, sum_lt}
-use Rattle.meaning.proofs.Least.{settled-within}
+use Rattle.meaning.proofs.Finite.{sum_le, sum_lt}
+use Rattle.meaning.proofs.Least.{settled_within}
 use Rattle.rowbits.specs.Bit.{bit}
 use Rattle.tables.specs.Tables.{row, has, Columns, Sound, Seeded}
 use Rattle.tables.specs.Rows.{Blank, Transposed}
 use Rattle.tables.specs.Free.{Clear, Bare}
 use Rattle.tables.specs.declared.Facts.{Facts}
-use Rattle.tables.proofs.Bits.{in_both, both-in, none_in}
-use Rattle.tables.proofs.Loops.{transposed-columns}
-use Rattle.tables.proofs.Clashes.{crossed-clash, uncrossed-clear}
+use Rattle.tables.proofs.Bits.{in_both, both_in, none_in}
+use Rattle.tables.proofs.Loops.{transposed_columns}
+use Rattle.tables.proofs.Clashes.{crossed_clash, uncrossed_clear}
 use Rattle.passes.specs.Rows.{In}
 use Rattle.settle.specs.Siblings.{Unlike, Groupwise, PassedOn, Parted, OrderOf}
 use Rattle.passes.specs.Steps.{weight, PassRules}
@@ -52,11 +52,11 @@ turned_rows {rows = rows} {columns = columns} few t long within = record {
 
 -- differ with a table and its columns: what holds of both and turns round
 module _ {t rows columns r : List ℕ} (w : Parted t rows columns r) (m : Turned rows columns) where
-  parted-turned : ((x y : ℕ) → In t x y → In t y x) → (x y : ℕ) → In r x y → In r y x
-  parted-turned h x y u = w.to y x (⊎_elim (λ v. inl (h x y v)) (λ v. inr (⊎_elim (λ a. inr (m.back x y a)) (λ a. inl (m.fro x y a)) v)) (w.from x y u))
+  parted_turned : ((x y : ℕ) → In t x y → In t y x) → (x y : ℕ) → In r x y → In r y x
+  parted_turned h x y u = w.to y x (⊎_elim (λ v. inl (h x y v)) (λ v. inr (⊎_elim (λ a. inr (m.back x y a)) (λ a. inl (m.fro x y a)) v)) (w.from x y u))
 
-  parted-least : (Q : ℕ → ℕ → Type 0) → ((x y : ℕ) → Q x y → Q y x) → ((x y : ℕ) → In t x y → Q x y) → ((x y : ℕ) → In rows x y → Q x y) → (x y : ℕ) → In r x y → Q x y
-  parted-least Q turn a b x y u = ⊎_elim (a x y) (⊎_elim (b x y) (λ v. turn y x (b y x (m.fro x y v)))) (w.from x y u)
+  parted_least : (Q : ℕ → ℕ → Type 0) → ((x y : ℕ) → Q x y → Q y x) → ((x y : ℕ) → In t x y → Q x y) → ((x y : ℕ) → In rows x y → Q x y) → (x y : ℕ) → In r x y → Q x y
+  parted_least Q turn a b x y u = ⊎_elim (a x y) (⊎_elim (b x y) (λ v. turn y x (b y x (m.fro x y v)))) (w.from x y u)
 
 -- ---- with the new rows of before
 
@@ -68,59 +68,59 @@ pub record Rowed (n : ℕ) (f : Facts) (r : Order) : Type 0 where
   pub few : n ≤ 16
   pub columns : Columns f.below f.above
   pub order : OrderOf n f.before f.below f.above r
-  pub after-long : length r.after ≡ 16
+  pub after_long : length r.after ≡ 16
 
 module _ {n : ℕ} {f : Facts} {r : Order} (o : Rowed n f r) (S : List Fact) (seed : Seeded n S f) where
-  in-16 : {x : ℕ} → x < n → x < 16
-  in-16 h = le_trans h o.few
+  in_16 : {x : ℕ} → x < n → x < 16
+  in_16 h = le_trans h o.few
 
   abbrev same : List ℕ
   same = o.order.same
 
   within : (φ : Fact) → Settled n S φ → Within n φ
-  within φ s = settled-within n S seed.inside s
+  within φ s = settled_within n S seed.inside s
 
-  below-s : (x y : ℕ) → In f.below x y → Settled n S (below x y)
+  below_s : (x y : ℕ) → In f.below x y → Settled n S (below x y)
   unfolding has
-  below-s x y u = seed.sound (below x y) u
+  below_s x y u = seed.sound (below x y) u
 
   same_out : (x y : ℕ) → In same x y → In f.below x y × In f.below y x
   same_out x y u =
       let q = in_both (row f.below x) (row f.above x) y (subst (λ (k : ℕ). Yes (bit k y)) (o.order.common.rows x) u) in
-      let i = within (below x y) (below-s x y q.0) in
-      (q.0, sym (o.columns y x (in-16 i.1) (in-16 i.0)) ∙ q.1)
+      let i = within (below x y) (below_s x y q.0) in
+      (q.0, sym (o.columns y x (in_16 i.1) (in_16 i.0)) ∙ q.1)
 
   same_in : (x y : ℕ) → In f.below x y → In f.below y x → In same x y
   same_in x y u v =
-      let i = within (below x y) (below-s x y u) in
+      let i = within (below x y) (below_s x y u) in
       subst (λ (k : ℕ). Yes (bit k y)) (sym (o.order.common.rows x))
-      (both-in (row f.below x) (row f.above x) y u (o.columns y x (in-16 i.1) (in-16 i.0) ∙ v))
+      (both_in (row f.below x) (row f.above x) y u (o.columns y x (in_16 i.1) (in_16 i.0) ∙ v))
 
-  before-s : (x y : ℕ) → In r.before x y → Settled n S (before x y)
+  before_s : (x y : ℕ) → In r.before x y → Settled n S (before x y)
   unfolding has
-  before-s = o.order.ordered.sound S (λ x y. seed.sound (before x y)) (λ x y u. let q = same_out x y u in (below-s x y q.0, below-s y x q.1))
+  before_s = o.order.ordered.sound S (λ x y. seed.sound (before x y)) (λ x y u. let q = same_out x y u in (below_s x y q.0, below_s y x q.1))
 
-  before-in : (x y : ℕ) → In r.before x y → (x < n) × (y < n)
-  before-in x y u = within (before x y) (before-s x y u)
+  before_in : (x y : ℕ) → In r.before x y → (x < n) × (y < n)
+  before_in x y u = within (before x y) (before_s x y u)
 
   turned : Turned r.before r.after
-  turned = turned_rows o.few o.order.columns o.after-long before-in
+  turned = turned_rows o.few o.order.columns o.after_long before_in
 
-  sound-with : (differs : List ℕ) → ((x y : ℕ) → In differs x y → Settled n S (differ x y)) → Sound n S (ordering f r differs)
+  sound_with : (differs : List ℕ) → ((x y : ℕ) → In differs x y → Settled n S (differ x y)) → Sound n S (ordering f r differs)
   unfolding has
-  sound-with t h (child x y) u = seed.sound (child x y) u
-  sound-with t h (below x y) u = seed.sound (below x y) u
-  sound-with t h (differ x y) u = h x y u
-  sound-with t h (before x y) u = before-s x y u
-  sound-with t h (root x) u = seed.sound (root x) u
-  sound-with t h (leaf x) u = seed.sound (leaf x) u
-  sound-with t h (label x l) u = seed.sound (label x l) u
+  sound_with t h (child x y) u = seed.sound (child x y) u
+  sound_with t h (below x y) u = seed.sound (below x y) u
+  sound_with t h (differ x y) u = h x y u
+  sound_with t h (before x y) u = before_s x y u
+  sound_with t h (root x) u = seed.sound (root x) u
+  sound_with t h (leaf x) u = seed.sound (leaf x) u
+  sound_with t h (label x l) u = seed.sound (label x l) u
 
-  pub ordered-clash : r.clash ≡ true → Clash n S
+  pub ordered_clash : r.clash ≡ true → Clash n S
   unfolding has
-  ordered-clash e =
-      let h = sound-with f.differ (λ x y. seed.sound (differ x y)) in
-      crossed-clash n o.few (ordering f r f.differ) o.columns (λ φ u. within φ (h φ u)) r.clash o.order.crossed S h e
+  ordered_clash e =
+      let h = sound_with f.differ (λ x y. seed.sound (differ x y)) in
+      crossed_clash n o.few (ordering f r f.differ) o.columns (λ φ u. within φ (h φ u)) r.clash o.order.crossed S h e
 
   module _ {differs : List ℕ} (d : Parted f.differ r.before r.after differs) where
     abbrev g : Facts
@@ -128,8 +128,8 @@ module _ {n : ℕ} {f : Facts} {r : Order} (o : Rowed n f r) (S : List Fact) (se
 
     sound : Sound n S g
     unfolding has
-    sound = sound-with differs
-        (parted-least d turned (λ i j. Settled n S (differ i j)) (λ i j. differ_back) (λ i j. seed.sound (differ i j)) (λ i j u. before-differ (before-s i j u)))
+    sound = sound_with differs
+        (parted_least d turned (λ i j. Settled n S (differ i j)) (λ i j. differ_back) (λ i j. seed.sound (differ i j)) (λ i j u. before_differ (before_s i j u)))
 
     keeps : (φ : Fact) → Yes (has f φ) → Yes (has g φ)
     unfolding has
@@ -141,96 +141,96 @@ module _ {n : ℕ} {f : Facts} {r : Order} (o : Rowed n f r) (S : List Fact) (se
     keeps (leaf x) u = u
     keeps (label x l) u = u
 
-    pub ordered-seeded : Seeded n S g
+    pub ordered_seeded : Seeded n S g
     unfolding has
-    ordered-seeded = record {
+    ordered_seeded = record {
       inside = seed.inside;
       held = λ φ m. keeps φ (seed.held φ m);
       sound = sound;
-      child-differ = λ x y u. d.to x y (inl (seed.child-differ x y u));
-      before-differ = λ x y u. d.to x y (inr (inl u));
-      turned = parted-turned d turned seed.turned;
+      child_differ = λ x y u. d.to x y (inl (seed.child_differ x y u));
+      before_differ = λ x y u. d.to x y (inr (inl u));
+      turned = parted_turned d turned seed.turned;
       parents = seed.parents;
-      siblings = transposed-columns o.order.columns;
+      siblings = transposed_columns o.order.columns;
     }
 
     -- roots, leaves and labels are as they were
-    pub ordered-bare : Bare (λ φ. Yes (has f φ)) → Bare (λ φ. Yes (has g φ))
+    pub ordered_bare : Bare (λ φ. Yes (has f φ)) → Bare (λ φ. Yes (has g φ))
     unfolding has
-    ordered-bare b = record { no-leaf = b.no-leaf; no_label = b.no_label }
+    ordered_bare b = record { no_leaf = b.no_leaf; no_label = b.no_label }
 
     module _ (e : r.clash ≡ false) (p : PassRules n f) where
       clear : Clear (λ φ. Yes (has g φ))
-      clear = uncrossed-clear n o.few g o.columns (λ φ u. within φ (sound φ u)) r.clash o.order.crossed e
+      clear = uncrossed_clear n o.few g o.columns (λ φ u. within φ (sound φ u)) r.clash o.order.crossed e
 
       groups : Groupwise n same
       unfolding has
       groups = record {
-        few = λ x y u. within (below x y) (below-s x y (same_out x y u).0);
+        few = λ x y u. within (below x y) (below_s x y (same_out x y u).0);
         chain = λ x y z u v. let a = same_out x y u in let b = same_out y z v in same_in x z (p.sharing.chain x y z a.0 b.0) (p.sharing.chain z y x b.1 a.1);
       }
 
-      first-in : (x y : ℕ) → In f.before x y → (x < n) × (y < n)
+      first_in : (x y : ℕ) → In f.before x y → (x < n) × (y < n)
       unfolding has
-      first-in x y u = within (before x y) (seed.sound (before x y) u)
+      first_in x y u = within (before x y) (seed.sound (before x y) u)
 
       firsts : (x y u : ℕ) → In f.below x u → In f.below u x → In r.before x y → In r.before u y
-      firsts x y u a b = o.order.ordered.firsts groups first-in x y u (same_in u x b a)
+      firsts x y u a b = o.order.ordered.firsts groups first_in x y u (same_in u x b a)
 
       lasts : (x y u : ℕ) → In f.below y u → In f.below u y → In r.before x y → In r.before x u
-      lasts x y u a b = o.order.ordered.lasts groups first-in x y u (same_in y u a b)
+      lasts x y u a b = o.order.ordered.lasts groups first_in x y u (same_in y u a b)
 
-      same-differ : (x y u : ℕ) → In f.below x u → In f.below u x → In differs x y → In differs u y
+      same_differ : (x y u : ℕ) → In f.below x u → In f.below u x → In differs x y → In differs u y
       unfolding has
-      same-differ x y u a b v = d.to u y (⊎_elim (λ c. inl (p.sharing.same-differ x y u a b c))
+      same_differ x y u a b v = d.to u y (⊎_elim (λ c. inl (p.sharing.same_differ x y u a b c))
           (λ c. inr (⊎_elim (λ c. inl (firsts x y u a b c)) (λ c. inr (turned.back y u (lasts y x u a b (turned.fro x y c)))) c)) (d.from x y v))
 
       -- nothing is before itself, since it is below itself
-      no-before : (x : ℕ) → In r.before x x → ⊥
+      no_before : (x : ℕ) → In r.before x x → ⊥
       unfolding has
-      no-before x u = clear.not-above x x u (p.sharing.self-below x (before-in x x u).0)
+      no_before x u = clear.not_above x x u (p.sharing.self_below x (before_in x x u).0)
 
-      pub ordered-passed : PassRules n g
+      pub ordered_passed : PassRules n g
       unfolding has
-      ordered-passed = record {
+      ordered_passed = record {
         sharing = record {
-          child-below = p.sharing.child-below;
-          child-differ = λ x y u. d.to x y (inl (p.sharing.child-differ x y u));
-          self-below = p.sharing.self-below;
+          child_below = p.sharing.child_below;
+          child_differ = λ x y u. d.to x y (inl (p.sharing.child_differ x y u));
+          self_below = p.sharing.self_below;
           chain = p.sharing.chain;
           root_below = p.sharing.root_below;
-          leaf-below = p.sharing.leaf-below;
-          differ_back = parted-turned d turned seed.turned;
-          same-parent = p.sharing.same-parent;
-          same-child = p.sharing.same-child;
-          same-differ = same-differ;
-          same-root = p.sharing.same-root;
-          same-leaf = p.sharing.same-leaf;
-          same-label = p.sharing.same-label;
+          leaf_below = p.sharing.leaf_below;
+          differ_back = parted_turned d turned seed.turned;
+          same_parent = p.sharing.same_parent;
+          same_child = p.sharing.same_child;
+          same_differ = same_differ;
+          same_root = p.sharing.same_root;
+          same_leaf = p.sharing.same_leaf;
+          same_label = p.sharing.same_label;
         };
         one_parent = p.one_parent;
-        one-element = p.one-element;
-        apart = λ x u. ⊎_elim (p.apart x) (⊎_elim (no-before x) (λ v. no-before x (turned.fro x x v))) (d.from x x u);
+        one_element = p.one_element;
+        apart = λ x u. ⊎_elim (p.apart x) (⊎_elim (no_before x) (λ v. no_before x (turned.fro x x v))) (d.from x x u);
         ancestors = p.ancestors;
       }
 
       -- where child gained nothing
-      pub ordered-closed : {childs : List ℕ} {b : Bool} → PassedOn f.child r.before r.after childs → Unlike f.child childs b → b ≡ false → SiblingRules n g
+      pub ordered_closed : {childs : List ℕ} {b : Bool} → PassedOn f.child r.before r.after childs → Unlike f.child childs b → b ≡ false → SiblingRules n g
       unfolding has
-      ordered-closed {childs} c u z = record {
+      ordered_closed {childs} c u z = record {
         siblings = record {
-          before-chain = λ x y z u v. let i = before-in x y u in o.order.ordered.chained x y z (in-16 i.0) i.1 u v;
-          before-differ = λ x y u. d.to x y (inr (inl u));
-          before_child = λ x y u p q. was u y (child-in u x q) (c.later x y u (child-in u x q) p q);
-          after-child = λ x y u p q. was u x (child-in u y q) (c.earlier x y u (child-in u y q) (turned.back x y p) q);
-          same-before = firsts;
+          before_chain = λ x y z u v. let i = before_in x y u in o.order.ordered.chained x y z (in_16 i.0) i.1 u v;
+          before_differ = λ x y u. d.to x y (inr (inl u));
+          before_child = λ x y u p q. was u y (child_in u x q) (c.later x y u (child_in u x q) p q);
+          after_child = λ x y u p q. was u x (child_in u y q) (c.earlier x y u (child_in u y q) (turned.back x y p) q);
+          same_before = firsts;
           same_after = lasts;
         };
         clear = clear;
       }
         where
-          child-in : (x y : ℕ) → In f.child x y → x < 16
-          child-in x y v = in-16 (within (child x y) (seed.sound (child x y) v)).0
+          child_in : (x y : ℕ) → In f.child x y → x < 16
+          child_in x y v = in_16 (within (child x y) (seed.sound (child x y) v)).0
 
           was : (x y : ℕ) → x < 16 → In childs x y → In f.child x y
           was x y h v = subst (λ (k : ℕ). Yes (bit k y)) (sym (u.none z x h)) v
@@ -242,43 +242,43 @@ passing f c p d = record { child = c; parent = p; below = f.below; above = f.abo
 
 module _ {n : ℕ} {f : Facts} {childs parents differs : List ℕ} (few : n ≤ 16) (c : PassedOn f.child f.before f.after childs) (t : Transposed childs parents)
     (long : length parents ≡ 16) (after : Turned f.before f.after) (d : Parted f.differ childs parents differs) (S : List Fact) (seed : Seeded n S f) where
-  child-s : (x y : ℕ) → In childs x y → Settled n S (child x y)
+  child_s : (x y : ℕ) → In childs x y → Settled n S (child x y)
   unfolding has
-  child-s = c.sound n S (λ x y. seed.sound (child x y)) (λ x y. seed.sound (before x y)) (λ x y u. seed.sound (before x y) (after.fro y x u))
+  child_s = c.sound n S (λ x y. seed.sound (child x y)) (λ x y. seed.sound (before x y)) (λ x y u. seed.sound (before x y) (after.fro y x u))
 
-  child-turned : Turned childs parents
-  child-turned = turned_rows few t long (λ x y u. settled-within n S seed.inside (child-s x y u))
+  child_turned : Turned childs parents
+  child_turned = turned_rows few t long (λ x y u. settled_within n S seed.inside (child_s x y u))
 
-  passed-sound : Sound n S (passing f childs parents differs)
+  passed_sound : Sound n S (passing f childs parents differs)
   unfolding has
-  passed-sound (child x y) u = child-s x y u
-  passed-sound (below x y) u = seed.sound (below x y) u
-  passed-sound (differ x y) u = parted-least d child-turned (λ i j. Settled n S (differ i j)) (λ i j. differ_back) (λ i j. seed.sound (differ i j)) (λ i j v. child-differ (child-s i j v)) x y u
-  passed-sound (before x y) u = seed.sound (before x y) u
-  passed-sound (root x) u = seed.sound (root x) u
-  passed-sound (leaf x) u = seed.sound (leaf x) u
-  passed-sound (label x l) u = seed.sound (label x l) u
+  passed_sound (child x y) u = child_s x y u
+  passed_sound (below x y) u = seed.sound (below x y) u
+  passed_sound (differ x y) u = parted_least d child_turned (λ i j. Settled n S (differ i j)) (λ i j. differ_back) (λ i j. seed.sound (differ i j)) (λ i j v. child_differ (child_s i j v)) x y u
+  passed_sound (before x y) u = seed.sound (before x y) u
+  passed_sound (root x) u = seed.sound (root x) u
+  passed_sound (leaf x) u = seed.sound (leaf x) u
+  passed_sound (label x l) u = seed.sound (label x l) u
 
-  passed-keeps : (φ : Fact) → Yes (has f φ) → Yes (has (passing f childs parents differs) φ)
+  passed_keeps : (φ : Fact) → Yes (has f φ) → Yes (has (passing f childs parents differs) φ)
   unfolding has
-  passed-keeps (child x y) u = (c.up x).kept y u
-  passed-keeps (below x y) u = u
-  passed-keeps (differ x y) u = d.to x y (inl u)
-  passed-keeps (before x y) u = u
-  passed-keeps (root x) u = u
-  passed-keeps (leaf x) u = u
-  passed-keeps (label x l) u = u
+  passed_keeps (child x y) u = (c.up x).kept y u
+  passed_keeps (below x y) u = u
+  passed_keeps (differ x y) u = d.to x y (inl u)
+  passed_keeps (before x y) u = u
+  passed_keeps (root x) u = u
+  passed_keeps (leaf x) u = u
+  passed_keeps (label x l) u = u
 
-  passed-seeded : Seeded n S (passing f childs parents differs)
+  passed_seeded : Seeded n S (passing f childs parents differs)
   unfolding has
-  passed-seeded = record {
+  passed_seeded = record {
     inside = seed.inside;
-    held = λ φ m. passed-keeps φ (seed.held φ m);
-    sound = passed-sound;
-    child-differ = λ x y u. d.to x y (inr (inl u));
-    before-differ = λ x y u. d.to x y (inl (seed.before-differ x y u));
-    turned = parted-turned d child-turned seed.turned;
-    parents = transposed-columns t;
+    held = λ φ m. passed_keeps φ (seed.held φ m);
+    sound = passed_sound;
+    child_differ = λ x y u. d.to x y (inr (inl u));
+    before_differ = λ x y u. d.to x y (inl (seed.before_differ x y u));
+    turned = parted_turned d child_turned seed.turned;
+    parents = transposed_columns t;
     siblings = seed.siblings;
   }
 
@@ -286,35 +286,35 @@ module _ {n : ℕ} {f : Facts} {childs parents differs : List ℕ} (few : n ≤ 
 
 module _ {n : ℕ} {f : Facts} {r : Order} {differs childs : List ℕ} (o : Rowed n f r) (d : Parted f.differ r.before r.after differs)
     (c : PassedOn f.child r.before r.after childs) where
-  pub both-seeded : {parents aparts : List ℕ} → Transposed childs parents → length parents ≡ 16 → Parted differs childs parents aparts → (S : List Fact) → Seeded n S f
+  pub both_seeded : {parents aparts : List ℕ} → Transposed childs parents → length parents ≡ 16 → Parted differs childs parents aparts → (S : List Fact) → Seeded n S f
       → Seeded n S (passing (ordering f r differs) childs parents aparts)
-  both-seeded t long e S seed = passed-seeded o.few c t long (turned o S seed) e S (ordered-seeded o S seed d)
+  both_seeded t long e S seed = passed_seeded o.few c t long (turned o S seed) e S (ordered_seeded o S seed d)
 
-  pub both-grew : (parents aparts : List ℕ) {b : Bool} → Unlike f.child childs b → b ≡ true → weight f < weight (passing (ordering f r differs) childs parents aparts)
+  pub both_grew : (parents aparts : List ℕ) {b : Bool} → Unlike f.child childs b → b ≡ true → weight f < weight (passing (ordering f r differs) childs parents aparts)
   unfolding weight
-  both-grew parents aparts u m =
+  both_grew parents aparts u m =
       let w = u.some m in
       let p = sum_lt 16 (row f.child) (row childs) (λ k _. (c.up k).most) w.0 w.1 (let l = (c.up w.0).most in let q = w.2 in omega arith) in
-      let q = sum-le 16 (row f.before) (row r.before) (λ k _. (o.order.ordered.up k).most) in
+      let q = sum_le 16 (row f.before) (row r.before) (λ k _. (o.order.ordered.up k).most) in
       omega arith
 
 -- ---- tables without a before fact need neither
 
-pub no-siblings : {n : ℕ} {S : List Fact} {f : Facts} {r : Bool} → n ≤ 16 → Seeded n S f → Blank f.before r → r ≡ true → SiblingRules n f
+pub no_siblings : {n : ℕ} {S : List Fact} {f : Facts} {r : Bool} → n ≤ 16 → Seeded n S f → Blank f.before r → r ≡ true → SiblingRules n f
 unfolding has
-no-siblings {n} {S} {f} few seed w e = record {
+no_siblings {n} {S} {f} few seed w e = record {
   siblings = record {
-    before-chain = λ x y z u v. none x y u;
-    before-differ = λ x y u. none x y u;
+    before_chain = λ x y z u v. none x y u;
+    before_differ = λ x y u. none x y u;
     before_child = λ x y u p q. none x y p;
-    after-child = λ x y u p q. none x y p;
-    same-before = λ x y u p q c. none x y c;
+    after_child = λ x y u p q. none x y p;
+    same_before = λ x y u p q c. none x y c;
     same_after = λ x y u p q c. none x y c;
   };
-  clear = record { not-above = λ x y u. none x y u; not-under = λ x y u. none x y u };
+  clear = record { not_above = λ x y u. none x y u; not_under = λ x y u. none x y u };
 }
   where
     none : (x y : ℕ) {A : Type 0} → Yes (has f (before x y)) → A
     none x y u =
-        let h = (settled-within n S seed.inside (seed.sound (before x y) u)).0 in
+        let h = (settled_within n S seed.inside (seed.sound (before x y) u)).0 in
         absurd (w.none e x y (le_trans h few) u)

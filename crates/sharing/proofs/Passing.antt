@@ -12,9 +12,9 @@ use lib.Bits.{bit_or}
 use Rattle.meaning.specs.Finite.{Yes}
 use Rattle.rowbits.specs.Bit.{bit}
 use Rattle.tables.specs.Tables.{row}
-use Rattle.tables.proofs.Loops.{below-cases}
-use Rattle.tables.proofs.Members.{Passed, passed-all}
-use Rattle.sharing.specs.Shares.{shareAt, Taking, Taken, ShareOf, GroupClash, SharedOf}
+use Rattle.tables.proofs.Loops.{below_cases}
+use Rattle.tables.proofs.Members.{Passed, passed_all}
+use Rattle.sharing.specs.Shares.{share_at, Taking, Taken, ShareOf, GroupClash, SharedOf}
 use Rattle.sharing.specs.declared.Share.{Share}
 use Rattle.sharing.specs.declared.Shares.{Shares}
 
@@ -34,46 +34,46 @@ abbrev pub stored : Shares → ℕ → Share → Shares
 stored r x s = record { child = set r.child x s.child; parent = set r.parent x s.parent; differ = set r.differ x s.differ; label = set r.label x s.label }
 
 module _ (same : List ℕ) (t : Shares) (several : ℕ) where
-  pub share-of : (x ys v : ℕ) (s : Share) → ys ≡ 0 → Taking same t (row same x) s → v ≡ bit_or several (2 ^ x)
+  pub share_of : (x ys v : ℕ) (s : Share) → ys ≡ 0 → Taking same t (row same x) s → v ≡ bit_or several (2 ^ x)
       → Passed (Taken same t x v s) (row same x) ys → ShareOf same t several x s
-  share-of x ys v s none w e p = record {
+  share_of x ys v s none w e p = record {
     taking = w;
-    taken = subst (λ (i : ℕ). (j : ℕ) → Yes (bit (row same x) j) → Taken same t x i s j) e (passed-all _ _ ys p none);
+    taken = subst (λ (i : ℕ). (j : ℕ) → Yes (bit (row same x) j) → Taken same t x i s j) e (passed_all _ _ ys p none);
   }
 
   pub record Passing (x : ℕ) (r : Shares) : Type 0 where
     pub long : Long r
-    pub done : (k : ℕ) → k < x → ShareOf same t several k (shareAt r k)
-    pub rest : (k : ℕ) → x ≤ k → shareAt r k ≡ shareAt t k
+    pub done : (k : ℕ) → k < x → ShareOf same t several k (share_at r k)
+    pub rest : (k : ℕ) → x ≤ k → share_at r k ≡ share_at t k
 
-  pub passing-none : Long t → Passing 0 t
-  passing-none w = record { long = w; done = λ k h. absurd (not-suc-le-zero h); rest = λ k h. refl }
+  pub passing_none : Long t → Passing 0 t
+  passing_none w = record { long = w; done = λ k h. absurd (not-suc-le-zero h); rest = λ k h. refl }
 
-  pub passing-more : (x : ℕ) (r : Shares) (s : Share) → x < 16 → Passing x r → ShareOf same t several x s → Passing (x + 1) (stored r x s)
-  passing-more x r s h w p = record {
+  pub passing_more : (x : ℕ) (r : Shares) (s : Share) → x < 16 → Passing x r → ShareOf same t several x s → Passing (x + 1) (stored r x s)
+  passing_more x r s h w p = record {
     long = record {
       child = length-set r.child x s.child ∙ w.long.child;
       parent = length-set r.parent x s.parent ∙ w.long.parent;
       differ = length-set r.differ x s.differ ∙ w.long.differ;
       label = length-set r.label x s.label ∙ w.long.label;
     };
-    done = λ k i. ⊎_elim (λ e. subst (λ (j : ℕ). ShareOf same t several j (shareAt (stored r x s) j)) (sym e) (subst (ShareOf same t several x) (sym here) p))
-        (λ l. subst (ShareOf same t several k) (sym (there k (λ e. omega arith))) (w.done k l)) (below-cases i);
+    done = λ k i. ⊎_elim (λ e. subst (λ (j : ℕ). ShareOf same t several j (share_at (stored r x s) j)) (sym e) (subst (ShareOf same t several x) (sym here) p))
+        (λ l. subst (ShareOf same t several k) (sym (there k (λ e. omega arith))) (w.done k l)) (below_cases i);
     rest = λ k i. there k (λ e. omega arith) ∙ w.rest k (omega arith);
   }
     where
-      here : shareAt (stored r x s) x ≡ s
+      here : share_at (stored r x s) x ≡ s
       here = rw (same_row r.child x s.child h w.long.child, same_row r.parent x s.parent h w.long.parent, same_row r.differ x s.differ h w.long.differ, same_row r.label x s.label h w.long.label) refl
 
-      there : (k : ℕ) → k ≢ x → shareAt (stored r x s) k ≡ shareAt r k
+      there : (k : ℕ) → k ≢ x → share_at (stored r x s) k ≡ share_at r k
       there k n = rw (other_row r.child x s.child k n, other_row r.parent x s.parent k n, other_row r.differ x s.differ k n, other_row r.label x s.label k n) refl
 
-  pub shared-rows : (n x : ℕ) (r : Shares) (c : Bool) → x ≤ n → n ≤ x → c ≡ false → Passing x r → SharedOf n t same several (record { clash = c; shares = r })
-  shared-rows n x r c most least e w = record {
+  pub shared_rows : (n x : ℕ) (r : Shares) (c : Bool) → x ≤ n → n ≤ x → c ≡ false → Passing x r → SharedOf n t same several (record { clash = c; shares = r })
+  shared_rows n x r c most least e w = record {
     clashes = λ d. absurd (false≢true (sym e ∙ d));
     done = λ d k h. w.done k (omega arith);
     rest = λ d k h. w.rest k (omega arith);
   }
 
-  pub shared-clash : (n : ℕ) (r : Shares) → GroupClash n t same → SharedOf n t same several (record { clash = true; shares = r })
-  shared-clash n r h = record { clashes = λ d. h; done = λ d. absurd (false≢true (sym d)); rest = λ d. absurd (false≢true (sym d)) }
+  pub shared_clash : (n : ℕ) (r : Shares) → GroupClash n t same → SharedOf n t same several (record { clash = true; shares = r })
+  shared_clash n r h = record { clashes = λ d. h; done = λ d. absurd (false≢true (sym d)); rest = λ d. absurd (false≢true (sym d)) }

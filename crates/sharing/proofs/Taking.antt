@@ -12,24 +12,24 @@ use Rattle.meaning.proofs.Tests.{is_eq, eq_yes, pick_yes, pick_no, not_yes}
 use Rattle.rowbits.specs.Bit.{bit}
 use Rattle.tables.specs.Tables.{row}
 use Rattle.tables.specs.Rows.{Lowest, without}
-use Rattle.tables.proofs.Bits.{none_in, or_case, or_l, or_r, in_both, both-in, gained-up, gained-has, gained-case}
-use Rattle.tables.proofs.Tested.{and_yes, yes_and, not-eq, eq-not}
-use Rattle.tables.proofs.Members.{Passed, passed-more, passed-all, next-named}
-use Rattle.sharing.specs.Shares.{Clashing, WithRows, WithGroup, shareAt, Taking, Twin, Taken}
+use Rattle.tables.proofs.Bits.{none_in, or_case, or_l, or_r, in_both, both_in, gained_up, gained_has, gained_case}
+use Rattle.tables.proofs.Tested.{and_yes, yes_and, not_eq, eq_not}
+use Rattle.tables.proofs.Members.{Passed, passed_more, passed_all, next_named}
+use Rattle.sharing.specs.Shares.{Clashing, WithRows, WithGroup, share_at, Taking, Twin, Taken}
 use Rattle.sharing.specs.declared.Share.{Share}
 use Rattle.sharing.specs.declared.Shares.{Shares}
 
 -- ---- labels
 
-pub labels-clash : (l m : ℕ) → Clashing l m ((not (eqb l 0) && not (eqb m 0)) && not (eqb l m))
-labels-clash l m = record {
-  clash = λ e. let p = and_yes _ _ e in let q = and_yes _ _ p.0 in (not-eq l 0 q.0, not-eq m 0 q.1, not-eq l m p.1);
+pub labels_clash : (l m : ℕ) → Clashing l m ((not (eqb l 0) && not (eqb m 0)) && not (eqb l m))
+labels_clash l m = record {
+  clash = λ e. let p = and_yes _ _ e in let q = and_yes _ _ p.0 in (not_eq l 0 q.0, not_eq m 0 q.1, not_eq l m p.1);
   free = λ e a b. go e a b (ℕ_discrete l m);
 }
   where
     go : ((not (eqb l 0) && not (eqb m 0)) && not (eqb l m)) ≡ false → l ≢ 0 → m ≢ 0 → Dec (l ≡ m) → l ≡ m
     go e a b (yes q) = q
-    go e a b (no q) = absurd (not_yes e (yes_and _ _ (yes_and _ _ (eq-not l 0 a) (eq-not m 0 b)) (eq-not l m q)))
+    go e a b (no q) = absurd (not_yes e (yes_and _ _ (yes_and _ _ (eq_not l 0 a) (eq_not m 0 b)) (eq_not l m q)))
 
 -- ---- nothing taken is lost
 
@@ -39,11 +39,11 @@ pub record Grown (s r : Share) : Type 0 where
   pub differ : (j : ℕ) → Yes (bit s.differ j) → Yes (bit r.differ j)
   pub label : s.label ≢ 0 → r.label ≡ s.label
 
-pub grown-none : (s : Share) → Grown s s
-grown-none s = record { child = λ j u. u; parent = λ j u. u; differ = λ j u. u; label = λ z. refl }
+pub grown_none : (s : Share) → Grown s s
+grown_none s = record { child = λ j u. u; parent = λ j u. u; differ = λ j u. u; label = λ z. refl }
 
-pub grown-trans : {q s r : Share} → Grown q s → Grown s r → Grown q r
-grown-trans g h = record {
+pub grown_trans : {q s r : Share} → Grown q s → Grown s r → Grown q r
+grown_trans g h = record {
   child = λ j u. h.child j (g.child j u);
   parent = λ j u. h.parent j (g.parent j u);
   differ = λ j u. h.differ j (g.differ j u);
@@ -66,8 +66,8 @@ rows_grown {s} {r} {c} {p} {d} {l} e = record {
 }
 
 module _ (same : List ℕ) (t : Shares) (own : ℕ) where
-  pub taking-none : Taking same t own (record { child = 0; parent = 0; differ = 0; label = 0 })
-  taking-none = record { child = λ j u. none_in j u; parent = λ j u. none_in j u; differ = λ j u. none_in j u; label = λ z. absurd (z refl) }
+  pub taking_none : Taking same t own (record { child = 0; parent = 0; differ = 0; label = 0 })
+  taking_none = record { child = λ j u. none_in j u; parent = λ j u. none_in j u; differ = λ j u. none_in j u; label = λ z. absurd (z refl) }
 
   -- the rows of y are added, before the loop over z
   pub added : {s r : Share} (y : ℕ) → Taking same t own s → Yes (bit own y)
@@ -84,51 +84,51 @@ module _ (same : List ℕ) (t : Shares) (own : ℕ) where
       named (no n) = let q = w.label n in (q.0, q.1, q.2 ∙ sym ((rows_grown e).label n))
 
   module _ (x visits : ℕ) where
-    twin-up : {f s r : Share} {z : ℕ} → Grown s r → Twin same x f s z → Twin same x f r z
-    twin-up g w = record {
+    twin_up : {f s r : Share} {z : ℕ} → Grown s r → Twin same x f s z → Twin same x f r z
+    twin_up g w = record {
       apart = w.apart;
       child = λ u j v. g.child j (w.child u j v);
       parent = λ u j v. g.parent j (w.parent u j v);
       differ = λ j v. g.differ j (w.differ j v);
     }
 
-    taken-up : {s r : Share} {i : ℕ} → Grown s r → Taken same t x visits s i → Taken same t x visits r i
-    taken-up g w = record {
+    taken_up : {s r : Share} {i : ℕ} → Grown s r → Taken same t x visits s i → Taken same t x visits r i
+    taken_up g w = record {
       child = λ j u. g.child j (w.child j u);
       parent = λ j u. g.parent j (w.parent j u);
       differ = λ j u. g.differ j (w.differ j u);
       label = λ z. let q = w.label z in g.label (λ n. z (sym q ∙ n)) ∙ q;
-      twins = λ z u v. twin-up g (w.twins z u v);
+      twins = λ z u v. twin_up g (w.twins z u v);
     }
 
     -- ---- the loop over z
 
     -- what the loop over z knows: q is what x had when it began
     abbrev pub Zs : ℕ → Share → Share → ℕ → Type 0
-    Zs y q s zs = Taking same t own s × Passed (Twin same x (shareAt t y) s) (bit_and (row t.differ y) visits) zs × Grown q s
+    Zs y q s zs = Taking same t own s × Passed (Twin same x (share_at t y) s) (bit_and (row t.differ y) visits) zs × Grown q s
 
-    pub z-step : (q s r : Share) (y zs z : ℕ) (c p : Bool) → Zs y q s zs → Yes (bit own y) → zs ≢ 0 → Lowest zs z → bit (row same z) x ≡ false
+    pub z_step : (q s r : Share) (y zs z : ℕ) (c p : Bool) → Zs y q s zs → Yes (bit own y) → zs ≢ 0 → Lowest zs z → bit (row same z) x ≡ false
         → c ≡ bit (row t.child y) z → p ≡ bit (row t.parent y) z → WithGroup s c p (row same z) r → Zs y q r (without zs (2 ^ z))
-    z-step q s r y zs z c p (w, passed, g) at some low n ec ep e = (
+    z_step q s r y zs z c p (w, passed, g) at some low n ec ep e = (
       record {
-        child = λ j u. ⊎_elim (w.child j) (λ v. (y, at, inr (z, sym ec ∙ v.0, v.1))) (gained-case c s.child (row same z) j (of j e.child u));
-        parent = λ j u. ⊎_elim (w.parent j) (λ v. (y, at, inr (z, sym ep ∙ v.0, v.1))) (gained-case p s.parent (row same z) j (of j e.parent u));
-        differ = λ j u. ⊎_elim (w.differ j) (λ v. (y, at, inr (z, (in_both (row t.differ y) visits z (next-named _ _ zs z passed some low)).0, v))) (or_case s.differ (row same z) j (of j e.differ u));
+        child = λ j u. ⊎_elim (w.child j) (λ v. (y, at, inr (z, sym ec ∙ v.0, v.1))) (gained_case c s.child (row same z) j (of j e.child u));
+        parent = λ j u. ⊎_elim (w.parent j) (λ v. (y, at, inr (z, sym ep ∙ v.0, v.1))) (gained_case p s.parent (row same z) j (of j e.parent u));
+        differ = λ j u. ⊎_elim (w.differ j) (λ v. (y, at, inr (z, (in_both (row t.differ y) visits z (next_named _ _ zs z passed some low)).0, v))) (or_case s.differ (row same z) j (of j e.differ u));
         label = λ n. let q = w.label (λ k. n (e.label ∙ k)) in (q.0, q.1, q.2 ∙ sym e.label);
       },
-      passed-more _ _ zs z passed some low _ (λ i. twin-up up) record {
+      passed_more _ _ zs z passed some low _ (λ i. twin_up up) record {
         apart = λ u. false≢true (sym n ∙ u);
-        child = λ u j v. by j e.child (gained-has c s.child (row same z) j (ec ∙ u) v);
-        parent = λ u j v. by j e.parent (gained-has p s.parent (row same z) j (ep ∙ u) v);
+        child = λ u j v. by j e.child (gained_has c s.child (row same z) j (ec ∙ u) v);
+        parent = λ u j v. by j e.parent (gained_has p s.parent (row same z) j (ep ∙ u) v);
         differ = λ j v. by j e.differ (or_r s.differ (row same z) j v);
       },
-      grown-trans g up,
+      grown_trans g up,
     )
       where
         up : Grown s r
         up = record {
-          child = λ j u. by j e.child ((gained-up c s.child (row same z)).kept j u);
-          parent = λ j u. by j e.parent ((gained-up p s.parent (row same z)).kept j u);
+          child = λ j u. by j e.child ((gained_up c s.child (row same z)).kept j u);
+          parent = λ j u. by j e.parent ((gained_up p s.parent (row same z)).kept j u);
           differ = λ j u. by j e.differ (or_l s.differ (row same z) j u);
           label = λ n. e.label;
         }
@@ -138,16 +138,16 @@ module _ (same : List ℕ) (t : Shares) (own : ℕ) where
     abbrev pub Ys : Share → ℕ → Type 0
     Ys s ys = Taking same t own s × Passed (Taken same t x visits s) own ys
 
-    pub y-step : (s q r : Share) (ys y zs : ℕ) → Ys s ys → ys ≢ 0 → Lowest ys y → Clashing s.label (row t.label y) false
+    pub y_step : (s q r : Share) (ys y zs : ℕ) → Ys s ys → ys ≢ 0 → Lowest ys y → Clashing s.label (row t.label y) false
         → WithRows s (row t.child y) (row t.parent y) (row t.differ y) (row t.label y) q → zs ≡ 0 → Zs y q r zs → Ys r (without ys (2 ^ y))
-    y-step s q r ys y zs (_, w) some low nc e none (taking, p, g) = (
+    y_step s q r ys y zs (_, w) some low nc e none (taking, p, g) = (
       taking,
-      passed-more _ _ ys y w some low _ (λ i. taken-up (grown-trans (rows_grown e) g)) record {
+      passed_more _ _ ys y w some low _ (λ i. taken_up (grown_trans (rows_grown e) g)) record {
         child = λ j u. g.child j (by j e.child (or_r s.child _ j u));
         parent = λ j u. g.parent j (by j e.parent (or_r s.parent _ j u));
         differ = λ j u. g.differ j (by j e.differ (or_r s.differ _ j u));
         label = λ z. let n = named z (ℕ_discrete s.label 0) in g.label (λ k. z (sym n ∙ k)) ∙ n;
-        twins = λ z u v. passed-all _ _ zs p none z (both-in (row t.differ y) visits z u v);
+        twins = λ z u v. passed_all _ _ zs p none z (both_in (row t.differ y) visits z u v);
       },
     )
       where

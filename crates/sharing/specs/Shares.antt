@@ -27,8 +27,8 @@ pub record WithGroup (s : Share) (c p : Bool) (group : ℕ) (r : Share) : Type 0
   pub label : r.label ≡ s.label
 
 -- what variable x has
-abbrev pub shareAt : Shares → ℕ → Share
-shareAt t x = record { child = row t.child x; parent = row t.parent x; differ = row t.differ x; label = row t.label x }
+abbrev pub share_at : Shares → ℕ → Share
+share_at t x = record { child = row t.child x; parent = row t.parent x; differ = row t.differ x; label = row t.label x }
 
 -- j is in a row of the group, or the same as a number of such a row
 abbrev pub Source : List ℕ → List ℕ → ℕ → ℕ → Type 0
@@ -54,7 +54,7 @@ pub record Taken (same : List ℕ) (t : Shares) (x visits : ℕ) (s : Share) (y 
   pub parent : (j : ℕ) → Yes (bit (row t.parent y) j) → Yes (bit s.parent j)
   pub differ : (j : ℕ) → Yes (bit (row t.differ y) j) → Yes (bit s.differ j)
   pub label : row t.label y ≢ 0 → s.label ≡ row t.label y
-  pub twins : (z : ℕ) → Yes (bit (row t.differ y) z) → Yes (bit visits z) → Twin same x (shareAt t y) s z
+  pub twins : (z : ℕ) → Yes (bit (row t.differ y) z) → Yes (bit visits z) → Twin same x (share_at t y) s z
 
 -- x has taken all of its group and nothing else; the variables alone in their groups need no visit
 pub record ShareOf (same : List ℕ) (t : Shares) (several x : ℕ) (s : Share) : Type 0 where
@@ -63,11 +63,11 @@ pub record ShareOf (same : List ℕ) (t : Shares) (several x : ℕ) (s : Share) 
 
 -- a group has two labels, or differs from itself
 pub data GroupClash (n : ℕ) (t : Shares) (same : List ℕ) : Type 0 where
-  two-labels : (x y z : ℕ) → x < n → Yes (bit (row same x) y) → Yes (bit (row same x) z) → row t.label y ≢ 0 → row t.label z ≢ 0
+  two_labels : (x y z : ℕ) → x < n → Yes (bit (row same x) y) → Yes (bit (row same x) z) → row t.label y ≢ 0 → row t.label z ≢ 0
       → row t.label y ≢ row t.label z → GroupClash n t same
   apart : (x y z : ℕ) → x < n → Yes (bit (row same x) y) → Yes (bit (row t.differ y) z) → Yes (bit (row same z) x) → GroupClash n t same
 
 pub record SharedOf (n : ℕ) (t : Shares) (same : List ℕ) (several : ℕ) (r : Shared) : Type 0 where
   pub clashes : r.clash ≡ true → GroupClash n t same
-  pub done : r.clash ≡ false → (x : ℕ) → x < n → ShareOf same t several x (shareAt r.shares x)
-  pub rest : r.clash ≡ false → (x : ℕ) → n ≤ x → shareAt r.shares x ≡ shareAt t x
+  pub done : r.clash ≡ false → (x : ℕ) → x < n → ShareOf same t several x (share_at r.shares x)
+  pub rest : r.clash ≡ false → (x : ℕ) → n ≤ x → share_at r.shares x ≡ share_at t x

@@ -1,6 +1,6 @@
 // The sheet on which the records of a text are gathered: numbers are given away, and records put. What is pub is so only because crates are split.
 ghost use Rattle.std.specs.Prelude.{◌≡◌};
-ghost use Rattle.sheet.specs.Bytes.{nextIn, rootIn, numberedIn, put_in, rootedIn, axisIn, moveIn};
+ghost use Rattle.sheet.specs.Bytes.{next_in, root_in, numbered_in, put_in, rooted_in, axis_in, move_in};
 
 use axes::Axis;
 
@@ -22,8 +22,8 @@ const LABELLED: u8 = 8;
 
 // Gives the next number away.
 pub fn number(sheet: &mut [u8; SHEET_BYTES]) -> u8
-    ensures value { result ≡ nextIn sheet.old }
-    ensures wrote { sheet.new ≡ numberedIn sheet.old }
+    ensures value { result ≡ next_in sheet.old }
+    ensures wrote { sheet.new ≡ numbered_in sheet.old }
 {
     let next = sheet[NEXT];
     if next < 17 {
@@ -50,8 +50,8 @@ pub fn put(kind: u8, x: u8, y: u8, label: u8, sheet: &mut [u8; SHEET_BYTES])
 
 // The root's number: at the first start there it gets one, and its record.
 pub fn rooted(sheet: &mut [u8; SHEET_BYTES]) -> u8
-    ensures value { result ≡ rootIn (rootedIn sheet.old) }
-    ensures wrote { sheet.new ≡ rootedIn sheet.old }
+    ensures value { result ≡ root_in (rooted_in sheet.old) }
+    ensures wrote { sheet.new ≡ rooted_in sheet.old }
 {
     if sheet[ROOT] != 0 {
         return sheet[ROOT];
@@ -64,7 +64,7 @@ pub fn rooted(sheet: &mut [u8; SHEET_BYTES]) -> u8
 
 // The axis record of a step from x to y.
 fn put_axis(axis: Axis, x: u8, y: u8, sheet: &mut [u8; SHEET_BYTES])
-    ensures { sheet.new ≡ axisIn axis x y sheet.old }
+    ensures { sheet.new ≡ axis_in axis x y sheet.old }
 {
     if axis.1 {
         put(axis.0, y, x, 0, sheet);
@@ -75,7 +75,7 @@ fn put_axis(axis: Axis, x: u8, y: u8, sheet: &mut [u8; SHEET_BYTES])
 
 // The axis record of a step from x to y, then any label.
 pub fn put_move(axis: Axis, test: u8, x: u8, y: u8, sheet: &mut [u8; SHEET_BYTES])
-    ensures { sheet.new ≡ moveIn axis test x y sheet.old }
+    ensures { sheet.new ≡ move_in axis test x y sheet.old }
 {
     put_axis(axis, x, y, sheet);
     if test == b'*' {

@@ -27,18 +27,18 @@ Same P A = (x y : Var) → P (below x y) → P (below y x) → A x → A y
 
 pub record Adding (P : Fact → Type 0) (First Last Over Kin : Var → Type 0) : Type 0 where
   pub siblings : Through P Over First Last
-  pub first-same : Same P First
-  pub last-same : Same P Last
-  pub over-same : Same P Over
-  pub kin-same : Same P Kin
-  pub first-earlier : (x y : Var) → P (before x y) → First y → First x
-  pub last-later : (x y : Var) → P (before x y) → Last x → Last y
-  pub kin-earlier : (x y : Var) → P (before x y) → Kin y → Kin x
-  pub kin-later : (x y : Var) → P (before x y) → Kin x → Kin y
-  pub first-kin : (x : Var) → First x → Kin x
-  pub last-kin : (x : Var) → Last x → Kin x
-  pub kin-parents : (x y : Var) → P (child x y) → Kin y → Over x
-  pub over-kin : (x y : Var) → Over x → Kin y → P (below x y)
+  pub first_same : Same P First
+  pub last_same : Same P Last
+  pub over_same : Same P Over
+  pub kin_same : Same P Kin
+  pub first_earlier : (x y : Var) → P (before x y) → First y → First x
+  pub last_later : (x y : Var) → P (before x y) → Last x → Last y
+  pub kin_earlier : (x y : Var) → P (before x y) → Kin y → Kin x
+  pub kin_later : (x y : Var) → P (before x y) → Kin x → Kin y
+  pub first_kin : (x : Var) → First x → Kin x
+  pub last_kin : (x : Var) → Last x → Kin x
+  pub kin_parents : (x y : Var) → P (child x y) → Kin y → Over x
+  pub over_kin : (x y : Var) → Over x → Kin y → P (below x y)
 
 module _ (n : ℕ) (P : Fact → Type 0) (First Last Over Kin : Var → Type 0) (s : Sharing n P) (a : Adding P First Last Over Kin) where
   abbrev Q : Fact → Type 0
@@ -52,55 +52,55 @@ module _ (n : ℕ) (P : Fact → Type 0) (First Last Over Kin : Var → Type 0) 
   move A B k m p q (inl h) = inl (k _ _ p q h.0, h.1)
   move A B k m p q (inr h) = inr (m _ _ p q h.0, h.1)
 
-  pub added-sharing : Sharing n Q
-  added-sharing = record {
-    child-below = λ x y c. ⊎_elim (s.child-below x y) (λ h. a.over-kin x y h.0 h.1) c;
-    child-differ = λ x y c. ⊎_elim (λ h. inl (s.child-differ x y h)) (λ h. inr (inr (inl h))) c;
-    self-below = s.self-below;
+  pub added_sharing : Sharing n Q
+  added_sharing = record {
+    child_below = λ x y c. ⊎_elim (s.child_below x y) (λ h. a.over_kin x y h.0 h.1) c;
+    child_differ = λ x y c. ⊎_elim (λ h. inl (s.child_differ x y h)) (λ h. inr (inr (inl h))) c;
+    self_below = s.self_below;
     chain = s.chain;
     root_below = s.root_below;
-    leaf-below = s.leaf-below;
+    leaf_below = s.leaf_below;
     differ_back = λ x y d. ⊎_elim (λ h. inl (s.differ_back x y h)) (λ h. inr (⊎_elim (λ k. inl (turn First Last k)) (λ k. inr (turn Over Kin k)) h)) d;
-    same-parent = λ x y u p q c. ⊎_elim (λ h. inl (s.same-parent x y u p q h)) (λ h. inr (a.over-same x u p q h.0, h.1)) c;
-    same-child = λ x y u p q c. ⊎_elim (λ h. inl (s.same-child x y u p q h)) (λ h. inr (h.0, a.kin-same y u p q h.1)) c;
-    same-differ = λ x y u p q d. ⊎_elim (λ h. inl (s.same-differ x y u p q h))
-        (λ h. inr (⊎_elim (λ k. inl (move First Last a.first-same a.last-same p q k)) (λ k. inr (move Over Kin a.over-same a.kin-same p q k)) h)) d;
-    same-root = s.same-root;
-    same-leaf = s.same-leaf;
-    same-label = s.same-label;
+    same_parent = λ x y u p q c. ⊎_elim (λ h. inl (s.same_parent x y u p q h)) (λ h. inr (a.over_same x u p q h.0, h.1)) c;
+    same_child = λ x y u p q c. ⊎_elim (λ h. inl (s.same_child x y u p q h)) (λ h. inr (h.0, a.kin_same y u p q h.1)) c;
+    same_differ = λ x y u p q d. ⊎_elim (λ h. inl (s.same_differ x y u p q h))
+        (λ h. inr (⊎_elim (λ k. inl (move First Last a.first_same a.last_same p q k)) (λ k. inr (move Over Kin a.over_same a.kin_same p q k)) h)) d;
+    same_root = s.same_root;
+    same_leaf = s.same_leaf;
+    same_label = s.same_label;
   }
 
   linked : {x y z : Var} → Q (before x y) → Q (before y z) → Q (before x z)
-  linked (inl p) (inl q) = a.siblings.before-chain _ _ _ p q
-  linked (inl p) (inr q) = inr (a.first-earlier _ _ p q.0, q.1)
-  linked (inr p) (inl q) = inr (p.0, a.last-later _ _ q p.1)
+  linked (inl p) (inl q) = a.siblings.before_chain _ _ _ p q
+  linked (inl p) (inr q) = inr (a.first_earlier _ _ p q.0, q.1)
+  linked (inr p) (inl q) = inr (p.0, a.last_later _ _ q p.1)
   linked (inr p) (inr q) = inr (p.0, q.1)
 
   passed_on : {x y u : Var} → Q (before x y) → Q (child u x) → Q (child u y)
-  passed_on (inl p) (inl q) = ⊎_elim inl (λ h. inr (h.0, a.last-kin _ h.1)) (a.siblings.before_child _ _ _ p q)
-  passed_on (inl p) (inr q) = inr (q.0, a.kin-later _ _ p q.1)
-  passed_on (inr p) (inl q) = inr (a.kin-parents _ _ q (a.first-kin _ p.0), a.last-kin _ p.1)
-  passed_on (inr p) (inr q) = inr (q.0, a.last-kin _ p.1)
+  passed_on (inl p) (inl q) = ⊎_elim inl (λ h. inr (h.0, a.last_kin _ h.1)) (a.siblings.before_child _ _ _ p q)
+  passed_on (inl p) (inr q) = inr (q.0, a.kin_later _ _ p q.1)
+  passed_on (inr p) (inl q) = inr (a.kin_parents _ _ q (a.first_kin _ p.0), a.last_kin _ p.1)
+  passed_on (inr p) (inr q) = inr (q.0, a.last_kin _ p.1)
 
-  passed-back : {x y u : Var} → Q (before x y) → Q (child u y) → Q (child u x)
-  passed-back (inl p) (inl q) = ⊎_elim inl (λ h. inr (h.0, a.first-kin _ h.1)) (a.siblings.after-child _ _ _ p q)
-  passed-back (inl p) (inr q) = inr (q.0, a.kin-earlier _ _ p q.1)
-  passed-back (inr p) (inl q) = inr (a.kin-parents _ _ q (a.last-kin _ p.1), a.first-kin _ p.0)
-  passed-back (inr p) (inr q) = inr (q.0, a.first-kin _ p.0)
+  passed_back : {x y u : Var} → Q (before x y) → Q (child u y) → Q (child u x)
+  passed_back (inl p) (inl q) = ⊎_elim inl (λ h. inr (h.0, a.first_kin _ h.1)) (a.siblings.after_child _ _ _ p q)
+  passed_back (inl p) (inr q) = inr (q.0, a.kin_earlier _ _ p q.1)
+  passed_back (inr p) (inl q) = inr (a.kin_parents _ _ q (a.last_kin _ p.1), a.first_kin _ p.0)
+  passed_back (inr p) (inr q) = inr (q.0, a.first_kin _ p.0)
 
-  pub added-siblings : Siblings n Q
-  added-siblings = record {
-    before-chain = λ x y z p q. linked p q;
-    before-differ = λ x y p. ⊎_elim (λ h. inl (a.siblings.before-differ x y h)) (λ h. inr (inl (inl h))) p;
+  pub added_siblings : Siblings n Q
+  added_siblings = record {
+    before_chain = λ x y z p q. linked p q;
+    before_differ = λ x y p. ⊎_elim (λ h. inl (a.siblings.before_differ x y h)) (λ h. inr (inl (inl h))) p;
     before_child = λ x y u p q. passed_on p q;
-    after-child = λ x y u p q. passed-back p q;
-    same-before = λ x y u p q b. ⊎_elim (λ h. inl (a.siblings.same-before x y u p q h)) (λ h. inr (a.first-same x u p q h.0, h.1)) b;
-    same_after = λ x y u p q b. ⊎_elim (λ h. inl (a.siblings.same_after x y u p q h)) (λ h. inr (h.0, a.last-same y u p q h.1)) b;
+    after_child = λ x y u p q. passed_back p q;
+    same_before = λ x y u p q b. ⊎_elim (λ h. inl (a.siblings.same_before x y u p q h)) (λ h. inr (a.first_same x u p q h.0, h.1)) b;
+    same_after = λ x y u p q b. ⊎_elim (λ h. inl (a.siblings.same_after x y u p q h)) (λ h. inr (h.0, a.last_same y u p q h.1)) b;
   }
 
   -- two parents of one variable are those of before, or both are in Over
-  pub added-parents : (x y z : Var) → Q (child x z) → Q (child y z) → (P (child x z) × P (child y z)) ⊎ (Over x × Over y)
-  added-parents x y z (inl p) (inl q) = inl (p, q)
-  added-parents x y z (inl p) (inr q) = inr (a.kin-parents x z p q.1, q.0)
-  added-parents x y z (inr p) (inl q) = inr (p.0, a.kin-parents y z q p.1)
-  added-parents x y z (inr p) (inr q) = inr (p.0, q.0)
+  pub added_parents : (x y z : Var) → Q (child x z) → Q (child y z) → (P (child x z) × P (child y z)) ⊎ (Over x × Over y)
+  added_parents x y z (inl p) (inl q) = inl (p, q)
+  added_parents x y z (inl p) (inr q) = inr (a.kin_parents x z p q.1, q.0)
+  added_parents x y z (inr p) (inl q) = inr (p.0, a.kin_parents y z q p.1)
+  added_parents x y z (inr p) (inr q) = inr (p.0, q.0)

@@ -10,23 +10,23 @@ use lib.Bits.{bit_or}
 use lib.Dec.{eqb}
 use Rattle.meaning.specs.Tree.{Var}
 use Rattle.meaning.specs.Constraint.{Fact, child, below, differ, before, root, leaf, label}
-use Rattle.meaning.specs.Settled.{Settled, child-below, child-differ, chain, differ_back, one_parent, before-chain, before-differ, before_child, after-child}
+use Rattle.meaning.specs.Settled.{Settled, child_below, child_differ, chain, differ_back, one_parent, before_chain, before_differ, before_child, after_child}
 use Rattle.meaning.specs.Finite.{Yes, ◌and◌, neg}
 use Rattle.meaning.specs.Closed.{Within, Sharing, Siblings}
-use Rattle.meaning.proofs.Least.{settled-within}
+use Rattle.meaning.proofs.Least.{settled_within}
 use Rattle.tables.specs.Tables.{row, has, Mirrored}
 use Rattle.tables.specs.declared.Facts.{Facts}
 use Rattle.tables.specs.Free.{Clear}
 use Rattle.tables.proofs.Bits.{none_in, in_row, or_l, or_r}
-use Rattle.tables.proofs.Groups.{sharing-same, siblings-same}
-use Rattle.tables.proofs.Rises.{rises, raised-out, raised-in, columns-raised}
-use Rattle.tables.proofs.Wider.{Opening, Wider, wide-same, wide-sharing}
+use Rattle.tables.proofs.Groups.{sharing_same, siblings_same}
+use Rattle.tables.proofs.Rises.{rises, raised_out, raised_in, columns_raised}
+use Rattle.tables.proofs.Wider.{Opening, Wider, wide_same, wide_sharing}
 use Rattle.grouping.specs.Rows.{In}
-use Rattle.siblings.specs.Rows.{Kin, own, to-later, to-earlier}
+use Rattle.siblings.specs.Rows.{Kin, own, to_later, to_earlier}
 use Rattle.grouping.specs.Grouping.{Awaits, held, waits, Held, Pending, Through, Grouped}
 use Rattle.siblings.specs.Passing.{GivenToFamily}
-use Rattle.grouping.proofs.Masks.{union-columns, columns-union}
-use Rattle.siblings.proofs.Added.{Across, Added, Adding, added-sharing, added-siblings, added-parents}
+use Rattle.grouping.proofs.Masks.{union_columns, columns_union}
+use Rattle.siblings.proofs.Added.{Across, Added, Adding, added_sharing, added_siblings, added_parents}
 
 -- what comes next: the tables hold what is settled, and where before meets below neither way only the parents have yet to become the same
 pub record Follows (n : ℕ) (T : List Fact) (parents : ℕ) (g : Facts) : Type 0 where
@@ -48,27 +48,27 @@ module _ (n : ℕ) (T : List Fact) (group parents earlier later : ℕ) (f : Fact
   settled = o.standing.sound
 
   inner : (φ : Fact) → P φ → Within n φ
-  inner φ u = settled-within n T o.standing.inside (settled φ u)
+  inner φ u = settled_within n T o.standing.inside (settled φ u)
 
   sixteen : {x : Var} → x < n → x < 16
   sixteen h = le_trans h o.standing.few
 
   -- a parent of one of the group is one of all
-  of-group : (x k y : Var) → In group k → In group y → P (child x k) → P (child x y)
-  of-group x k y u v c = s.same-child x k y (o.one-group k y u v) (o.one-group y k v u) c
+  of_group : (x k y : Var) → In group k → In group y → P (child x k) → P (child x y)
+  of_group x k y u v c = s.same_child x k y (o.one_group k y u v) (o.one_group y k v u) c
 
-  of-all : (x y : Var) → In parents x → In group y → P (child x y)
-  of-all x y u v = let k = o.is-parents.from x u in of-group x k.0 y k.1 v k.2
+  of_all : (x y : Var) → In parents x → In group y → P (child x y)
+  of_all x y u v = let k = o.is_parents.from x u in of_group x k.0 y k.1 v k.2
 
   -- nothing is at or above a parent of its own
-  not-over : (x y : Var) → P (child x y) → ¬ P (below y x)
-  not-over x y c b = o.standing.apart y (s.same-differ x y y (s.child-below x y c) b (s.child-differ x y c))
+  not_over : (x y : Var) → P (child x y) → ¬ P (below y x)
+  not_over x y c b = o.standing.apart y (s.same_differ x y y (s.child_below x y c) b (s.child_differ x y c))
 
   -- two parents of the group have to be the same
-  pub parents-settled : (x y : Var) → In parents x → In parents y → Settled n T (below x y)
-  parents-settled x y u v =
-      let k = o.is-parents.from x u in
-      one_parent (settled (child x k.0) k.2) (settled (child y k.0) (of-all y k.0 v k.1))
+  pub parents_settled : (x y : Var) → In parents x → In parents y → Settled n T (below x y)
+  parents_settled x y u v =
+      let k = o.is_parents.from x u in
+      one_parent (settled (child x k.0) k.2) (settled (child y k.0) (of_all y k.0 v k.1))
 
   -- ---- nothing is earlier or later than the group
 
@@ -76,28 +76,28 @@ module _ (n : ℕ) (T : List Fact) (group parents earlier later : ℕ) (f : Fact
     not_earlier : {A : Type 0} (x : Var) → In earlier x → A
     not_earlier x u = none_in x (subst (λ (k : ℕ). In k x) none (or_l earlier later x u))
 
-    not-later : {A : Type 0} (x : Var) → In later x → A
-    not-later x u = none_in x (subst (λ (k : ℕ). In k x) none (or_r earlier later x u))
+    not_later : {A : Type 0} (x : Var) → In later x → A
+    not_later x u = none_in x (subst (λ (k : ℕ). In k x) none (or_r earlier later x u))
 
-    alone-siblings : Siblings n P
-    alone-siblings = record {
-      before-chain = λ x y z p q. ⊎_elim (λ h. h) (λ h. not_earlier x h.0) (through.before-chain x y z p q);
-      before-differ = through.before-differ;
-      before_child = λ x y u p q. ⊎_elim (λ h. h) (λ h. not-later y h.1) (through.before_child x y u p q);
-      after-child = λ x y u p q. ⊎_elim (λ h. h) (λ h. not_earlier x h.1) (through.after-child x y u p q);
-      same-before = through.same-before;
+    alone_siblings : Siblings n P
+    alone_siblings = record {
+      before_chain = λ x y z p q. ⊎_elim (λ h. h) (λ h. not_earlier x h.0) (through.before_chain x y z p q);
+      before_differ = through.before_differ;
+      before_child = λ x y u p q. ⊎_elim (λ h. h) (λ h. not_later y h.1) (through.before_child x y u p q);
+      after_child = λ x y u p q. ⊎_elim (λ h. h) (λ h. not_earlier x h.1) (through.after_child x y u p q);
+      same_before = through.same_before;
       same_after = through.same_after;
     }
 
-    pub alone-follows : Follows n T parents f
-    alone-follows = record {
+    pub alone_follows : Follows n T parents f
+    alone_follows = record {
       sound = settled;
       mirrored = o.standing.mirrored;
       pending = λ clear. record {
         standing = o.standing;
-        siblings = alone-siblings;
+        siblings = alone_siblings;
         clear = clear;
-        due = parents-settled;
+        due = parents_settled;
         complete = λ φ m. held (o.complete φ m);
         one_parent = o.one_parent;
       };
@@ -109,69 +109,69 @@ module _ (n : ℕ) (T : List Fact) (group parents earlier later : ℕ) (f : Fact
     abbrev K : Var → Type 0
     K = Kin f.before f.after group
 
-    kin-in : {x : Var} → K x → In q.kin x
-    kin-in (own u) = q.is-kin.owns _ u
-    kin-in (to-later k u) = q.is-kin.later _ _ (kin-in k) u
-    kin-in (to-earlier k u) = q.is-kin.earlier _ _ (kin-in k) u
+    kin_in : {x : Var} → K x → In q.kin x
+    kin_in (own u) = q.is_kin.owns _ u
+    kin_in (to_later k u) = q.is_kin.later _ _ (kin_in k) u
+    kin_in (to_earlier k u) = q.is_kin.earlier _ _ (kin_in k) u
 
-    kin-at : {x : Var} → In q.kin x → x < 16
-    kin-at u = in_row q.kin _ q.is-kin.small u
+    kin_at : {x : Var} → In q.kin x → x < 16
+    kin_at u = in_row q.kin _ q.is_kin.small u
 
     -- a row of after, read as before
     turned : (x y : Var) → x < 16 → y < 16 → In (row f.after x) y → P (before y x)
     unfolding has
     turned x y hx hy u = sym (o.standing.mirrored.siblings y x hy hx) ∙ u
 
-    turned-back : (x y : Var) → P (before y x) → In (row f.after x) y
+    turned_back : (x y : Var) → P (before y x) → In (row f.after x) y
     unfolding has
-    turned-back x y u = let h = inner (before y x) u in o.standing.mirrored.siblings y x (sixteen h.0) (sixteen h.1) ∙ u
+    turned_back x y u = let h = inner (before y x) u in o.standing.mirrored.siblings y x (sixteen h.0) (sixteen h.1) ∙ u
 
     step : (x y : Var) → K x → In (row f.after x) y → P (before y x)
-    step x y k u = turned x y (kin-at (kin-in k)) (kin-at (kin-in (to-earlier k u))) u
+    step x y k u = turned x y (kin_at (kin_in k)) (kin_at (kin_in (to_earlier k u))) u
 
-    kin-later : (x y : Var) → P (before x y) → In q.kin x → In q.kin y
+    kin_later : (x y : Var) → P (before x y) → In q.kin x → In q.kin y
     unfolding has
-    kin-later x y b u = q.is-kin.later x y u b
+    kin_later x y b u = q.is_kin.later x y u b
 
-    kin-earlier : (x y : Var) → P (before x y) → In q.kin y → In q.kin x
-    kin-earlier x y b u = q.is-kin.earlier y x u (turned-back y x b)
+    kin_earlier : (x y : Var) → P (before x y) → In q.kin y → In q.kin x
+    kin_earlier x y b u = q.is_kin.earlier y x u (turned_back y x b)
 
     -- what has a child in the family is a parent of the group
-    parents-of : {y : Var} → K y → (x : Var) → P (child x y) → In parents x
+    parents_of : {y : Var} → K y → (x : Var) → P (child x y) → In parents x
     unfolding has
-    parents-of {y} (own u) x c = o.is-parents.to x y u c
-    parents-of {y} (to-later {i} k u) x c = ⊎_elim (parents-of k x) (λ h. h.0) (through.after-child i y x u c)
-    parents-of {y} (to-earlier {i} k u) x c = ⊎_elim (parents-of k x) (λ h. h.0) (through.before_child y i x (step i y k u) c)
+    parents_of {y} (own u) x c = o.is_parents.to x y u c
+    parents_of {y} (to_later {i} k u) x c = ⊎_elim (parents_of k x) (λ h. h.0) (through.after_child i y x u c)
+    parents_of {y} (to_earlier {i} k u) x c = ⊎_elim (parents_of k x) (λ h. h.0) (through.before_child y i x (step i y k u) c)
 
-    kin-same : {x : Var} → K x → (y : Var) → P (below x y) → P (below y x) → In q.kin y
+    kin_same : {x : Var} → K x → (y : Var) → P (below x y) → P (below y x) → In q.kin y
     unfolding has
-    kin-same {x} (own u) y a b = q.is-kin.owns y (o.same-group x y a b u)
-    kin-same {x} (to-later {i} k u) y a b = kin-later i y (through.same_after i x y a b u) (kin-in k)
-    kin-same {x} (to-earlier {i} k u) y a b = kin-earlier y i (through.same-before x i y a b (step i x k u)) (kin-in k)
+    kin_same {x} (own u) y a b = q.is_kin.owns y (o.same_group x y a b u)
+    kin_same {x} (to_later {i} k u) y a b = kin_later i y (through.same_after i x y a b u) (kin_in k)
+    kin_same {x} (to_earlier {i} k u) y a b = kin_earlier y i (through.same_before x i y a b (step i x k u)) (kin_in k)
 
-    child-settled : {y : Var} → K y → (x : Var) → In parents x → Settled n T (child x y)
+    child_settled : {y : Var} → K y → (x : Var) → In parents x → Settled n T (child x y)
     unfolding has
-    child-settled {y} (own u) x v = settled (child x y) (of-all x y v u)
-    child-settled {y} (to-later {i} k u) x v = before_child (settled (before i y) u) (child-settled k x v)
-    child-settled {y} (to-earlier {i} k u) x v = after-child (settled (before y i) (step i y k u)) (child-settled k x v)
+    child_settled {y} (own u) x v = settled (child x y) (of_all x y v u)
+    child_settled {y} (to_later {i} k u) x v = before_child (settled (before i y) u) (child_settled k x v)
+    child_settled {y} (to_earlier {i} k u) x v = after_child (settled (before y i) (step i y k u)) (child_settled k x v)
 
     -- ---- over and under
 
-    over-is : (x : Var) → In q.over x → (k : Var) × In parents k × P (below x k)
+    over_is : (x : Var) → In q.over x → (k : Var) × In parents k × P (below x k)
     unfolding has
-    over-is x u = union-columns f.below f.above parents q.over q.parents-small o.standing.mirrored.ancestors q.is-over x u
+    over_is x u = union_columns f.below f.above parents q.over q.parents_small o.standing.mirrored.ancestors q.is_over x u
 
-    is-over : (x k : Var) → In parents k → P (below x k) → In q.over x
+    is_over : (x k : Var) → In parents k → P (below x k) → In q.over x
     unfolding has
-    is-over x k u b = columns-union f.below f.above parents q.over q.parents-small o.standing.mirrored.ancestors q.is-over x (sixteen (inner (below x k) b).0) (k, u, b)
+    is_over x k u b = columns_union f.below f.above parents q.over q.parents_small o.standing.mirrored.ancestors q.is_over x (sixteen (inner (below x k) b).0) (k, u, b)
 
-    under-is : (x : Var) → In q.under x → (k : Var) × In q.kin k × P (below k x)
+    under_is : (x : Var) → In q.under x → (k : Var) × In q.kin k × P (below k x)
     unfolding has
-    under-is x u = q.is-under.from x u
+    under_is x u = q.is_under.from x u
 
-    is-under : (x k : Var) → In q.kin k → P (below k x) → In q.under x
+    is_under : (x k : Var) → In q.kin k → P (below k x) → In q.under x
     unfolding has
-    is-under x k u b = q.is-under.to k x u b
+    is_under x k u b = q.is_under.to k x u b
 
     -- ---- what the new tables hold
 
@@ -183,60 +183,60 @@ module _ (n : ℕ) (T : List Fact) (group parents earlier later : ℕ) (f : Fact
 
     has_new : (φ : Fact) → Held g φ → Q φ
     unfolding has
-    has_new (child x y) u = raised-out f.child parents q.kin g.child (rises q.parents-small q.child) x y u
-    has_new (below x y) u = raised-out f.below q.over q.under g.below (rises q.is-over.small q.below) x y u
-    has_new (differ x y) u = ⊎_elim (λ v. ⊎_elim inl (λ w. inr (inl w)) (q.differ-first.out x y v)) (λ v. inr (inr v)) (q.differ.out x y u)
-    has_new (before x y) u = raised-out f.before earlier later g.before (rises q.earlier-small q.before) x y u
+    has_new (child x y) u = raised_out f.child parents q.kin g.child (rises q.parents_small q.child) x y u
+    has_new (below x y) u = raised_out f.below q.over q.under g.below (rises q.is_over.small q.below) x y u
+    has_new (differ x y) u = ⊎_elim (λ v. ⊎_elim inl (λ w. inr (inl w)) (q.differ_first.out x y v)) (λ v. inr (inr v)) (q.differ.out x y u)
+    has_new (before x y) u = raised_out f.before earlier later g.before (rises q.earlier_small q.before) x y u
     has_new (root x) u = subst (λ (k : ℕ). In k x) q.root u
     has_new (leaf x) u = subst (λ (k : ℕ). In k x) q.leaf u
     has_new (label x l) u = subst (λ (k : List ℕ). Yes (eqb (row k x) l and neg (eqb l 0))) q.label u
 
-    new-has : (φ : Fact) → Q φ → Held g φ
+    new_has : (φ : Fact) → Q φ → Held g φ
     unfolding has
-    new-has (child x y) u = raised-in f.child parents q.kin g.child (rises q.parents-small q.child) x y u
-    new-has (below x y) u = raised-in f.below q.over q.under g.below (rises q.is-over.small q.below) x y u
-    new-has (differ x y) u =
-        ⊎_elim (λ v. q.differ.keeps x y (q.differ-first.keeps x y v))
+    new_has (child x y) u = raised_in f.child parents q.kin g.child (rises q.parents_small q.child) x y u
+    new_has (below x y) u = raised_in f.below q.over q.under g.below (rises q.is_over.small q.below) x y u
+    new_has (differ x y) u =
+        ⊎_elim (λ v. q.differ.keeps x y (q.differ_first.keeps x y v))
         (λ v. ⊎_elim
-        (λ w. q.differ.keeps x y (⊎_elim (λ z. q.differ-first.rows x y z.0 z.1) (λ z. q.differ-first.columns x y z.0 z.1) w))
+        (λ w. q.differ.keeps x y (⊎_elim (λ z. q.differ_first.rows x y z.0 z.1) (λ z. q.differ_first.columns x y z.0 z.1) w))
         (λ w. ⊎_elim (λ z. q.differ.rows x y z.0 z.1) (λ z. q.differ.columns x y z.0 z.1) w) v) u
-    new-has (before x y) u = raised-in f.before earlier later g.before (rises q.earlier-small q.before) x y u
-    new-has (root x) u = subst (λ (k : ℕ). In k x) (sym q.root) u
-    new-has (leaf x) u = subst (λ (k : ℕ). In k x) (sym q.leaf) u
-    new-has (label x l) u = subst (λ (k : List ℕ). Yes (eqb (row k x) l and neg (eqb l 0))) (sym q.label) u
+    new_has (before x y) u = raised_in f.before earlier later g.before (rises q.earlier_small q.before) x y u
+    new_has (root x) u = subst (λ (k : ℕ). In k x) (sym q.root) u
+    new_has (leaf x) u = subst (λ (k : ℕ). In k x) (sym q.leaf) u
+    new_has (label x l) u = subst (λ (k : List ℕ). Yes (eqb (row k x) l and neg (eqb l 0))) (sym q.label) u
 
     -- ---- it is settled
 
-    below-settled : (x y : Var) → In q.over x → In q.under y → Settled n T (below x y)
-    below-settled x y u v =
-        let a = over-is x u in
-        let b = under-is y v in
-        chain (settled (below x a.0) a.2) (chain (child-below (child-settled (q.is-kin.from b.0 b.1) a.0 a.1)) (settled (below b.0 y) b.2))
+    below_settled : (x y : Var) → In q.over x → In q.under y → Settled n T (below x y)
+    below_settled x y u v =
+        let a = over_is x u in
+        let b = under_is y v in
+        chain (settled (below x a.0) a.2) (chain (child_below (child_settled (q.is_kin.from b.0 b.1) a.0 a.1)) (settled (below b.0 y) b.2))
 
-    before-settled : (x y : Var) → In earlier x → In later y → Settled n T (before x y)
-    before-settled x y u v =
-        let a = o.is-earlier.from x u in
+    before_settled : (x y : Var) → In earlier x → In later y → Settled n T (before x y)
+    before_settled x y u v =
+        let a = o.is_earlier.from x u in
         let b = o.is_later.from y v in
-        before-chain (settled (before x a.0) a.2)
-        (settled (before a.0 y) (through.same-before b.0 y a.0 (o.one-group b.0 a.0 b.1 a.1) (o.one-group a.0 b.0 a.1 b.1) b.2))
+        before_chain (settled (before x a.0) a.2)
+        (settled (before a.0 y) (through.same_before b.0 y a.0 (o.one_group b.0 a.0 b.1 a.1) (o.one_group a.0 b.0 a.1 b.1) b.2))
 
-    differ-settled : (x y : Var) → Across (In earlier) (In later) x y ⊎ Across (In parents) (In q.kin) x y → Settled n T (differ x y)
-    differ-settled x y (inl (inl h)) = before-differ (before-settled x y h.0 h.1)
-    differ-settled x y (inl (inr h)) = differ_back (before-differ (before-settled y x h.1 h.0))
-    differ-settled x y (inr (inl h)) = child-differ (child-settled (q.is-kin.from y h.1) x h.0)
-    differ-settled x y (inr (inr h)) = differ_back (child-differ (child-settled (q.is-kin.from x h.0) y h.1))
+    differ_settled : (x y : Var) → Across (In earlier) (In later) x y ⊎ Across (In parents) (In q.kin) x y → Settled n T (differ x y)
+    differ_settled x y (inl (inl h)) = before_differ (before_settled x y h.0 h.1)
+    differ_settled x y (inl (inr h)) = differ_back (before_differ (before_settled y x h.1 h.0))
+    differ_settled x y (inr (inl h)) = child_differ (child_settled (q.is_kin.from y h.1) x h.0)
+    differ_settled x y (inr (inr h)) = differ_back (child_differ (child_settled (q.is_kin.from x h.0) y h.1))
 
-    new-settled : (φ : Fact) → Q φ → Settled n T φ
-    new-settled (child x y) u = ⊎_elim (settled (child x y)) (λ h. child-settled (q.is-kin.from y h.1) x h.0) u
-    new-settled (below x y) u = ⊎_elim (settled (below x y)) (λ h. below-settled x y h.0 h.1) u
-    new-settled (differ x y) u = ⊎_elim (settled (differ x y)) (differ-settled x y) u
-    new-settled (before x y) u = ⊎_elim (settled (before x y)) (λ h. before-settled x y h.0 h.1) u
-    new-settled (root x) u = settled (root x) u
-    new-settled (leaf x) u = settled (leaf x) u
-    new-settled (label x l) u = settled (label x l) u
+    new_settled : (φ : Fact) → Q φ → Settled n T φ
+    new_settled (child x y) u = ⊎_elim (settled (child x y)) (λ h. child_settled (q.is_kin.from y h.1) x h.0) u
+    new_settled (below x y) u = ⊎_elim (settled (below x y)) (λ h. below_settled x y h.0 h.1) u
+    new_settled (differ x y) u = ⊎_elim (settled (differ x y)) (differ_settled x y) u
+    new_settled (before x y) u = ⊎_elim (settled (before x y)) (λ h. before_settled x y h.0 h.1) u
+    new_settled (root x) u = settled (root x) u
+    new_settled (leaf x) u = settled (leaf x) u
+    new_settled (label x l) u = settled (label x l) u
 
-    passed-sound : (φ : Fact) → Held g φ → Settled n T φ
-    passed-sound φ u = new-settled φ (has_new φ u)
+    passed_sound : (φ : Fact) → Held g φ → Settled n T φ
+    passed_sound φ u = new_settled φ (has_new φ u)
 
     keeps : (φ : Fact) → P φ → Q φ
     keeps (child x y) u = inl u
@@ -247,102 +247,102 @@ module _ (n : ℕ) (T : List Fact) (group parents earlier later : ℕ) (f : Fact
     keeps (leaf x) u = u
     keeps (label x l) u = u
 
-    passed-mirrored : Mirrored g
-    passed-mirrored = record {
-      parents = columns-raised f.child f.parent parents q.kin g.child g.parent o.standing.mirrored.parents
-          (rises q.parents-small q.child) (rises q.is-kin.small q.parent);
-      ancestors = columns-raised f.below f.above q.over q.under g.below g.above o.standing.mirrored.ancestors
-          (rises q.is-over.small q.below) (rises q.is-under.small q.above);
-      siblings = columns-raised f.before f.after earlier later g.before g.after o.standing.mirrored.siblings
-          (rises q.earlier-small q.before) (rises q.later-small q.after);
+    passed_mirrored : Mirrored g
+    passed_mirrored = record {
+      parents = columns_raised f.child f.parent parents q.kin g.child g.parent o.standing.mirrored.parents
+          (rises q.parents_small q.child) (rises q.is_kin.small q.parent);
+      ancestors = columns_raised f.below f.above q.over q.under g.below g.above o.standing.mirrored.ancestors
+          (rises q.is_over.small q.below) (rises q.is_under.small q.above);
+      siblings = columns_raised f.before f.after earlier later g.before g.after o.standing.mirrored.siblings
+          (rises q.earlier_small q.before) (rises q.later_small q.after);
     }
 
-    passed-below : (x y : Var) → P (below x y) → Held g (below x y)
-    passed-below x y u = new-has (below x y) (inl u)
+    passed_below : (x y : Var) → P (below x y) → Held g (below x y)
+    passed_below x y u = new_has (below x y) (inl u)
 
     -- ---- where before meets below neither way
 
     module _ (clear : Clear (Held g)) where
       -- no member of the family is at or above a parent: it would be over its siblings
-      kin-under : {x : Var} → K x → (y : Var) → In parents y → ¬ P (below x y)
+      kin_under : {x : Var} → K x → (y : Var) → In parents y → ¬ P (below x y)
       unfolding has
-      kin-under {x} (own u) y v b = not-over y x (of-all y x v u) b
-      kin-under {x} (to-later {i} k u) y v b =
-          clear.not-under i x (new-has (before i x) (inl u))
-          (new-has (below x i) (inr (is-over x y v b, is-under i i (kin-in k) (s.self-below i (inner (before i x) u).0))))
-      kin-under {x} (to-earlier {i} k u) y v b =
-          clear.not-above x i (new-has (before x i) (inl (step i x k u)))
-          (new-has (below x i) (inr (is-over x y v b, is-under i i (kin-in k) (s.self-below i (inner (before x i) (step i x k u)).1))))
+      kin_under {x} (own u) y v b = not_over y x (of_all y x v u) b
+      kin_under {x} (to_later {i} k u) y v b =
+          clear.not_under i x (new_has (before i x) (inl u))
+          (new_has (below x i) (inr (is_over x y v b, is_under i i (kin_in k) (s.self_below i (inner (before i x) u).0))))
+      kin_under {x} (to_earlier {i} k u) y v b =
+          clear.not_above x i (new_has (before x i) (inl (step i x k u)))
+          (new_has (below x i) (inr (is_over x y v b, is_under i i (kin_in k) (s.self_below i (inner (before x i) (step i x k u)).1))))
 
-      not-both : (x : Var) → In q.over x → ¬ In q.under x
-      not-both x u v =
-          let a = over-is x u in
-          let b = under-is x v in
-          kin-under (q.is-kin.from b.0 b.1) a.0 a.1 (s.chain b.0 x a.0 b.2 a.2)
+      not_both : (x : Var) → In q.over x → ¬ In q.under x
+      not_both x u v =
+          let a = over_is x u in
+          let b = under_is x v in
+          kin_under (q.is_kin.from b.0 b.1) a.0 a.1 (s.chain b.0 x a.0 b.2 a.2)
 
       opening : Opening P (In q.over) (In q.under)
       opening = record {
         ends = record {
-          up = λ x y b u. let a = over-is y u in is-over x a.0 a.1 (s.chain x y a.0 b a.2);
-          down = λ x y u b. let a = under-is x u in is-under y a.0 a.1 (s.chain a.0 x y a.2 b);
+          up = λ x y b u. let a = over_is y u in is_over x a.0 a.1 (s.chain x y a.0 b a.2);
+          down = λ x y u b. let a = under_is x u in is_under y a.0 a.1 (s.chain a.0 x y a.2 b);
         };
-        no-mid = not-both;
-        no-leaf = λ x l u.
-            let a = over-is x u in
-            let k = o.is-parents.from a.0 a.1 in
-            let b = s.chain x a.0 k.0 a.2 (s.child-below a.0 k.0 k.2) in
-            not-over a.0 k.0 k.2 (s.chain k.0 x a.0 (s.leaf-below x k.0 l b) a.2);
+        no_mid = not_both;
+        no_leaf = λ x l u.
+            let a = over_is x u in
+            let k = o.is_parents.from a.0 a.1 in
+            let b = s.chain x a.0 k.0 a.2 (s.child_below a.0 k.0 k.2) in
+            not_over a.0 k.0 k.2 (s.chain k.0 x a.0 (s.leaf_below x k.0 l b) a.2);
       }
 
       same : (x y : Var) → W (below x y) → W (below y x) → P (below x y) × P (below y x)
-      same x y a b = wide-same n P (In q.over) (In q.under) opening s {x = x} {y = y} a b
+      same x y a b = wide_same n P (In q.over) (In q.under) opening s {x = x} {y = y} a b
 
       adding : Adding W (In earlier) (In later) (In parents) (In q.kin)
       unfolding has
       adding = record {
         siblings = record {
-          before-chain = through.before-chain;
-          before-differ = through.before-differ;
+          before_chain = through.before_chain;
+          before_differ = through.before_differ;
           before_child = through.before_child;
-          after-child = through.after-child;
-          same-before = λ x y u p q. let h = same x u p q in through.same-before x y u h.0 h.1;
+          after_child = through.after_child;
+          same_before = λ x y u p q. let h = same x u p q in through.same_before x y u h.0 h.1;
           same_after = λ x y u p q. let h = same y u p q in through.same_after x y u h.0 h.1;
         };
-        first-same = λ x y a b u. let h = same x y a b in let k = o.is-earlier.from x u in o.is-earlier.to y k.0 k.1 (through.same-before x k.0 y h.0 h.1 k.2);
-        last-same = λ x y a b u. let h = same x y a b in let k = o.is_later.from x u in o.is_later.to y k.0 k.1 (through.same_after k.0 x y h.0 h.1 k.2);
-        over-same = λ x y a b u. let h = same x y a b in let k = o.is-parents.from x u in o.is-parents.to y k.0 k.1 (s.same-parent x k.0 y h.0 h.1 k.2);
-        kin-same = λ x y a b u. let h = same x y a b in kin-same (q.is-kin.from x u) y h.0 h.1;
-        first-earlier = λ x y b u. let k = o.is-earlier.from y u in ⊎_elim (o.is-earlier.to x k.0 k.1) (λ h. h.0) (through.before-chain x y k.0 b k.2);
-        last-later = λ x y b u. let k = o.is_later.from x u in ⊎_elim (o.is_later.to y k.0 k.1) (λ h. h.1) (through.before-chain k.0 x y k.2 b);
-        kin-earlier = kin-earlier;
-        kin-later = kin-later;
-        first-kin = λ x u. let k = o.is-earlier.from x u in kin-earlier x k.0 k.2 (q.is-kin.owns k.0 k.1);
-        last-kin = λ x u. let k = o.is_later.from x u in kin-later k.0 x k.2 (q.is-kin.owns k.0 k.1);
-        kin-parents = λ x y c u. parents-of (q.is-kin.from y u) x c;
-        over-kin = λ x y u v. inr (over-in x u, under-in y v);
+        first_same = λ x y a b u. let h = same x y a b in let k = o.is_earlier.from x u in o.is_earlier.to y k.0 k.1 (through.same_before x k.0 y h.0 h.1 k.2);
+        last_same = λ x y a b u. let h = same x y a b in let k = o.is_later.from x u in o.is_later.to y k.0 k.1 (through.same_after k.0 x y h.0 h.1 k.2);
+        over_same = λ x y a b u. let h = same x y a b in let k = o.is_parents.from x u in o.is_parents.to y k.0 k.1 (s.same_parent x k.0 y h.0 h.1 k.2);
+        kin_same = λ x y a b u. let h = same x y a b in kin_same (q.is_kin.from x u) y h.0 h.1;
+        first_earlier = λ x y b u. let k = o.is_earlier.from y u in ⊎_elim (o.is_earlier.to x k.0 k.1) (λ h. h.0) (through.before_chain x y k.0 b k.2);
+        last_later = λ x y b u. let k = o.is_later.from x u in ⊎_elim (o.is_later.to y k.0 k.1) (λ h. h.1) (through.before_chain k.0 x y k.2 b);
+        kin_earlier = kin_earlier;
+        kin_later = kin_later;
+        first_kin = λ x u. let k = o.is_earlier.from x u in kin_earlier x k.0 k.2 (q.is_kin.owns k.0 k.1);
+        last_kin = λ x u. let k = o.is_later.from x u in kin_later k.0 x k.2 (q.is_kin.owns k.0 k.1);
+        kin_parents = λ x y c u. parents_of (q.is_kin.from y u) x c;
+        over_kin = λ x y u v. inr (over_in x u, under_in y v);
       }
         where
-          over-in : (x : Var) → In parents x → In q.over x
-          over-in x u = let k = o.is-parents.from x u in is-over x x u (s.self-below x (inner (child x k.0) k.2).0)
+          over_in : (x : Var) → In parents x → In q.over x
+          over_in x u = let k = o.is_parents.from x u in is_over x x u (s.self_below x (inner (child x k.0) k.2).0)
 
-          under-in : (y : Var) → In q.kin y → In q.under y
-          under-in y v = is-under y y v (self (q.is-kin.from y v))
+          under_in : (y : Var) → In q.kin y → In q.under y
+          under_in y v = is_under y y v (self (q.is_kin.from y v))
             where
               self : {y : Var} → K y → P (below y y)
-              self {y} (own u) = o.one-group y y u u
-              self {y} (to-later {i} k u) = s.self-below y (inner (before i y) u).1
-              self {y} (to-earlier {i} k u) = s.self-below y (inner (before y i) (step i y k u)).0
+              self {y} (own u) = o.one_group y y u u
+              self {y} (to_later {i} k u) = s.self_below y (inner (before i y) u).1
+              self {y} (to_earlier {i} k u) = s.self_below y (inner (before y i) (step i y k u)).0
 
       W-sharing : Sharing n W
-      W-sharing = wide-sharing n P (In q.over) (In q.under) opening s
+      W-sharing = wide_sharing n P (In q.over) (In q.under) opening s
 
       not_itself : (x : Var) → In earlier x → ¬ In later x
       not_itself x u v =
-          let k = o.is-earlier.from x u in
-          clear.not-above x x (new-has (before x x) (inr (u, v))) (new-has (below x x) (inl (s.self-below x (inner (before x k.0) k.2).0)))
+          let k = o.is_earlier.from x u in
+          clear.not_above x x (new_has (before x x) (inr (u, v))) (new_has (below x x) (inl (s.self_below x (inner (before x k.0) k.2).0)))
 
       not_own : (x : Var) → In parents x → ¬ In q.kin x
-      not_own x u v = let k = o.is-parents.from x u in kin-under (q.is-kin.from x v) x u (s.self-below x (inner (child x k.0) k.2).0)
+      not_own x u v = let k = o.is_parents.from x u in kin_under (q.is_kin.from x v) x u (s.self_below x (inner (child x k.0) k.2).0)
 
       new_apart : (x : Var) → ¬ Q (differ x x)
       new_apart x (inl u) = o.standing.apart x u
@@ -352,30 +352,30 @@ module _ (n : ℕ) (T : List Fact) (group parents earlier later : ℕ) (f : Fact
       new_apart x (inr (inr (inr h))) = not_own x h.1 h.0
 
       waiting : (x y : Var) → Awaits (In parents) P (below x y) → Awaits (In parents) (Held g) (below x y)
-      waiting x y (held u) = held (passed-below x y u)
+      waiting x y (held u) = held (passed_below x y u)
       waiting x y (waits u v) = waits u v
 
-      passed-pending : Pending n T parents g
-      passed-pending = record {
+      passed_pending : Pending n T parents g
+      passed_pending = record {
         standing = record {
           few = o.standing.few;
           inside = o.standing.inside;
-          sound = passed-sound;
-          sharing = sharing-same n Q (Held g) new-has has_new (added-sharing n W (In earlier) (In later) (In parents) (In q.kin) W-sharing adding);
+          sound = passed_sound;
+          sharing = sharing_same n Q (Held g) new_has has_new (added_sharing n W (In earlier) (In later) (In parents) (In q.kin) W-sharing adding);
           apart = λ x u. new_apart x (has_new (differ x x) u);
           bare = record {
-            no-leaf = λ x u v. o.standing.bare.no-leaf x (has_new (root x) u) (has_new (leaf x) v);
+            no_leaf = λ x u v. o.standing.bare.no_leaf x (has_new (root x) u) (has_new (leaf x) v);
             no_label = λ x l u v. o.standing.bare.no_label x l (has_new (root x) u) (has_new (label x l) v);
           };
-          mirrored = passed-mirrored;
+          mirrored = passed_mirrored;
         };
-        siblings = siblings-same n Q (Held g) new-has has_new (added-siblings n W (In earlier) (In later) (In parents) (In q.kin) W-sharing adding);
+        siblings = siblings_same n Q (Held g) new_has has_new (added_siblings n W (In earlier) (In later) (In parents) (In q.kin) W-sharing adding);
         clear = clear;
-        due = parents-settled;
-        complete = λ φ m. held (new-has φ (keeps φ (o.complete φ m)));
+        due = parents_settled;
+        complete = λ φ m. held (new_has φ (keeps φ (o.complete φ m)));
         one_parent = λ x y z u v. ⊎_elim (λ h. waiting x y (o.one_parent x y z h.0 h.1)) (λ h. waits h.0 h.1)
-            (added-parents n W (In earlier) (In later) (In parents) (In q.kin) W-sharing adding x y z (has_new (child x z) u) (has_new (child y z) v));
+            (added_parents n W (In earlier) (In later) (In parents) (In q.kin) W-sharing adding x y z (has_new (child x z) u) (has_new (child y z) v));
       }
 
-    pub passed-follows : Follows n T parents g
-    passed-follows = record { sound = passed-sound; mirrored = passed-mirrored; pending = passed-pending }
+    pub passed_follows : Follows n T parents g
+    passed_follows = record { sound = passed_sound; mirrored = passed_mirrored; pending = passed_pending }

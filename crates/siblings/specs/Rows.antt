@@ -6,8 +6,8 @@ use Rattle.grouping.specs.Rows.{In}
 -- what a chain of rows of two tables leads to from a group
 pub data Kin (before after : List ℕ) (group : ℕ) : ℕ → Type 0 where
   own : {i : ℕ} → In group i → Kin before after group i
-  to-later : {i j : ℕ} → Kin before after group i → In (row before i) j → Kin before after group j
-  to-earlier : {i j : ℕ} → Kin before after group i → In (row after i) j → Kin before after group j
+  to_later : {i j : ℕ} → Kin before after group i → In (row before i) j → Kin before after group j
+  to_earlier : {i j : ℕ} → Kin before after group i → In (row after i) j → Kin before after group j
 
 pub record Family (before after : List ℕ) (group r : ℕ) : Type 0 where
   pub small : r < 65536

@@ -5,20 +5,20 @@ use Prim.Native.Nat.{ℕ, ◌≤◌}
 use native.Mathlib.Decide.{dec_le}
 use native.Mathlib.Omega.{arith}
 use lib.ListN.{length}
-use Rattle.meaning.specs.Demand.{a-tree, a-none, a-spent}
+use Rattle.meaning.specs.Demand.{a_tree, a_none, a-spent}
 use Rattle.meaning.specs.Files.{Judged, refused, accepted, judge}
-use Rattle.meaning.specs.Results.{Solved, solver-refuses, solver-answers}
+use Rattle.meaning.specs.Results.{Solved, solver_refuses, solver_answers}
 use Rattle.theory.specs.Programs.{solver}
-use Rattle.solver.specs.Solving.{verdictOf, SolverOf}
+use Rattle.solver.specs.Solving.{verdict_of, SolverOf}
 use Rattle.solver.specs.declared.Verdict.{Verdict}
 use Rattle.solver.specs.declared.Verdict.TheVariants.{Tree}
 
 module _ (A : ℕ) (file buffer : List ℕ) (r : Verdict) (after : List ℕ) (w : SolverOf A file buffer r after) where
-  pub bytes-few : {b c : ℕ} → r ≡ Tree b c → b ≤ 136
-  unfolding verdictOf
-  bytes-few {b} {c} e = by (solver A file buffer) refl
+  pub bytes_few : {b c : ℕ} → r ≡ Tree b c → b ≤ 136
+  unfolding verdict_of
+  bytes_few {b} {c} e = by (solver A file buffer) refl
     where
-      short : (bs : List ℕ) → solver A file buffer ≡ solver-answers (a-tree c bs) → length bs ≤ 136
+      short : (bs : List ℕ) → solver A file buffer ≡ solver_answers (a_tree c bs) → length bs ≤ 136
       short bs q = go (judge file) refl
         where
           go : (j : Judged) → judge file ≡ j → length bs ≤ 136
@@ -28,20 +28,20 @@ module _ (A : ℕ) (file buffer : List ℕ) (r : Verdict) (after : List ℕ) (w 
               room : Dec (136 ≤ length buffer) → length bs ≤ 136
               room (yes l) =
                   let x = w.promise.answers d l in
-                  let y : x.0 ≡ a-tree c bs = let u = x.1 in cc in
-                  (x.2.good-file y).short
-              room (no l) = let x = w.promise.short-buffer d (omega arith) in let z : ◌≡◌ {A = ℕ} 0 1 = cc in absurd (omega arith)
+                  let y : x.0 ≡ a_tree c bs = let u = x.1 in cc in
+                  (x.2.good_file y).short
+              room (no l) = let x = w.promise.short_buffer d (omega arith) in let z : ◌≡◌ {A = ℕ} 0 1 = cc in absurd (omega arith)
 
-      told-as : {s : Solved} → solver A file buffer ≡ s → Tree b c ≡ verdictOf s
-      told-as q = sym e ∙ w.verdict ∙ ap verdictOf q
+      told_as : {s : Solved} → solver A file buffer ≡ s → Tree b c ≡ verdict_of s
+      told_as q = sym e ∙ w.verdict ∙ ap verdict_of q
 
       by : (s : Solved) → solver A file buffer ≡ s → b ≤ 136
-      by (solver-answers (a-tree d bs)) q =
-          let x : Tree b c ≡ Tree (length bs) d = told-as q in
+      by (solver_answers (a_tree d bs)) q =
+          let x : Tree b c ≡ Tree (length bs) d = told_as q in
           let y : b ≡ length bs = cc in
           let z : d ≡ c = cc in
-          let s = short bs (q ∙ ap (λ (k : ℕ). solver-answers (a-tree k bs)) z) in
+          let s = short bs (q ∙ ap (λ (k : ℕ). solver_answers (a_tree k bs)) z) in
           omega arith
-      by (solver-answers (a-none d)) q = let x = told-as q in let z : ◌≡◌ {A = ℕ} 0 1 = cc in absurd (omega arith)
-      by (solver-answers (a-spent d)) q = let x = told-as q in let z : ◌≡◌ {A = ℕ} 0 1 = cc in absurd (omega arith)
-      by (solver-refuses p) q = let x = told-as q in let z : ◌≡◌ {A = ℕ} 0 1 = cc in absurd (omega arith)
+      by (solver_answers (a_none d)) q = let x = told_as q in let z : ◌≡◌ {A = ℕ} 0 1 = cc in absurd (omega arith)
+      by (solver_answers (a-spent d)) q = let x = told_as q in let z : ◌≡◌ {A = ℕ} 0 1 = cc in absurd (omega arith)
+      by (solver_refuses p) q = let x = told_as q in let z : ◌≡◌ {A = ℕ} 0 1 = cc in absurd (omega arith)

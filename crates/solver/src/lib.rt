@@ -2,9 +2,9 @@
 ghost use Rattle.std.specs.Prelude.{◌≡◌, ◌≤◌, length};
 ghost use Rattle.meaning.specs.Constraint.{facts_of};
 ghost use Rattle.theory.specs.Solve.{solve};
-ghost use Rattle.constraints.specs.Judgement.{constraintsIn};
+ghost use Rattle.constraints.specs.Judgement.{constraints_in};
 ghost use Rattle.search.specs.Searching.{Line, Report};
-ghost use Rattle.solver.specs.Solving.{Covers, decidedAs, SolverOf, AnswerOf};
+ghost use Rattle.solver.specs.Solving.{Covers, decided_as, SolverOf, AnswerOf};
 
 use constraints::Judgement;
 use search::{End, Searched};
@@ -30,7 +30,7 @@ pub struct Decided {
 // The line that the search starts from: the settled set of the given facts.
 fn first_line(constraints: &[u8], n: usize) -> Settled
     requires { Covers n constraints.now }
-    ensures { Line n (facts_of (constraintsIn constraints.now)) result }
+    ensures { Line n (facts_of (constraints_in constraints.now)) result }
 {
     let seeds = seed::seed(constraints);
     let facts = seeds.facts;
@@ -42,7 +42,7 @@ fn first_line(constraints: &[u8], n: usize) -> Settled
 
 fn search_over(constraints: &[u8], n: usize, allowance: u32) -> Searched
     requires { Covers n constraints.now }
-    ensures { Report allowance n 0 (facts_of (constraintsIn constraints.now)) result }
+    ensures { Report allowance n 0 (facts_of (constraints_in constraints.now)) result }
 {
     let first = first_line(constraints, n);
     search::search(first, n, allowance, 0)
@@ -51,7 +51,7 @@ fn search_over(constraints: &[u8], n: usize, allowance: u32) -> Searched
 // Decides the records of an accepted file over n variables, as many as they name or more.
 pub fn decide(constraints: &[u8], n: usize, allowance: u32) -> Decided
     requires { Covers n constraints.now }
-    ensures { result ≡ decidedAs (solve allowance n (constraintsIn constraints.now)) }
+    ensures { result ≡ decided_as (solve allowance n (constraints_in constraints.now)) }
 {
     let found = search_over(constraints, n, allowance);
     let end = found.end;
@@ -64,7 +64,7 @@ pub fn decide(constraints: &[u8], n: usize, allowance: u32) -> Decided
 // Decides them, and writes a tree into the buffer.
 pub fn solve_over(constraints: &[u8], n: usize, answer: &mut [u8], allowance: u32) -> Verdict
     requires { Covers n constraints.now × (136 ≤ length answer.old) }
-    ensures { AnswerOf (solve allowance n (constraintsIn constraints.now)) result answer.old answer.new }
+    ensures { AnswerOf (solve allowance n (constraints_in constraints.now)) result answer.old answer.new }
 {
     let found = search_over(constraints, n, allowance);
     let end = found.end;

@@ -3,7 +3,7 @@ use Rattle.std.specs.Prelude.{◌≡◌, List, ℕ}
 use Rattle.std.proofs.Math.Option.{Option, none, some}
 use Rattle.meaning.specs.Constraint.{Fact}
 use Rattle.meaning.specs.FixedSearch.{JoinKind, parent-join, chain-join, sibling-join, document-join, Join, join}
-use Rattle.theory.specs.Search.{isJoin, first_of}
+use Rattle.theory.specs.Search.{is_a_join, first_of}
 use Rattle.tables.specs.Tables.{has, Ready}
 use Rattle.tables.specs.declared.Facts.{Facts}
 use Rattle.stages.specs.declared.Found.{Found}
@@ -23,8 +23,8 @@ join_of (One k z x y) = some (join (kind_of k) z.0 x.0 y.0)
 
 -- the first join of a kind, or nothing where there is none; so its variables are below n
 abbrev pub StageOf : JoinKind → ℕ → Facts → Found → Type 0
-StageOf k n f r = (S : List Fact) → Ready n S f → join_of r ≡ first_of n (isJoin (has f) k) (join k)
+StageOf k n f r = (S : List Fact) → Ready n S f → join_of r ≡ first_of n (is_a_join (has f) k) (join k)
 
 -- tables with other rows of below, for what a stage says of the rows alone
-abbrev pub withBelow : List ℕ → List ℕ → Facts → Facts
-withBelow b a f = record { child = f.child; parent = f.parent; below = b; above = a; differ = f.differ; before = f.before; after = f.after; root = f.root; label = f.label; leaf = f.leaf }
+abbrev pub with_below : List ℕ → List ℕ → Facts → Facts
+with_below b a f = record { child = f.child; parent = f.parent; below = b; above = a; differ = f.differ; before = f.before; after = f.after; root = f.root; label = f.label; leaf = f.leaf }

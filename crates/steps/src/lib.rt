@@ -1,7 +1,7 @@
 // The steps of a path: of one in brackets, and of a line. `end_steps` is pub only because crates are split: the caller shows what it requires.
 ghost use Rattle.std.specs.Prelude.{◌≡◌, ◌<◌, ◌≤◌, length, drop};
-ghost use Rattle.theory.specs.PathReader.{goesOn};
-ghost use Rattle.steps.specs.Reading.{endNumber, endNumbered, Ahead, Level, PathRead, StepsRead, StepRead, BracketsRead, EndRead};
+ghost use Rattle.theory.specs.PathReader.{goes_on};
+ghost use Rattle.steps.specs.Reading.{end_number, end_numbered, Ahead, Level, PathRead, StepsRead, StepRead, BracketsRead, EndRead};
 
 use axes::{Moved, move_at};
 use lent::byte_at;
@@ -87,7 +87,7 @@ fn brackets(s: &[u8], at: usize, y: u8, sheet: &mut [u8; SHEET_BYTES]) -> usize
 // Whether `/` follows the brackets at a place, if any: whether the step before them is not its line's last.
 fn goes_on(s: &[u8], at: usize) -> bool
     requires { at ≤ length s.now }
-    ensures { result ≡ goesOn 0 (drop at s.now) }
+    ensures { result ≡ goes_on 0 (drop at s.now) }
 {
     let first = byte_at(s, at);
     if first != b'[' {
@@ -124,8 +124,8 @@ fn goes_on(s: &[u8], at: usize) -> bool
 // The number of a step of a line, at the place of its brackets: 0 if it is the line's last, and else the next.
 fn end_number(s: &[u8], at: usize, sheet: &mut [u8; SHEET_BYTES]) -> u8
     requires { at ≤ length s.now }
-    ensures value { result ≡ endNumber (goesOn 0 (drop at s.now)) sheet.old }
-    ensures wrote { sheet.new ≡ endNumbered (goesOn 0 (drop at s.now)) sheet.old }
+    ensures value { result ≡ end_number (goes_on 0 (drop at s.now)) sheet.old }
+    ensures wrote { sheet.new ≡ end_numbered (goes_on 0 (drop at s.now)) sheet.old }
 {
     if goes_on(s, at) {
         return number(sheet);

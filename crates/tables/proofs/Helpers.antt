@@ -26,28 +26,28 @@ unfolding ◌or◌
 or_is true b = refl
 or_is false b = refl
 
-pub gain-off : (t : Bool) (row more : ℕ) → t ≡ false → row ≡ gained t row more
+pub gain_off : (t : Bool) (row more : ℕ) → t ≡ false → row ≡ gained t row more
 unfolding gained pick
-gain-off t row more e = rw e (sym (or_zero_r row))
+gain_off t row more e = rw e (sym (or_zero_r row))
 
-pub pick-on : (t : Bool) (a b : ℕ) → t ≡ true → a ≡ pick t a b
+pub pick_on : (t : Bool) (a b : ℕ) → t ≡ true → a ≡ pick t a b
 unfolding pick
-pick-on t a b e = rw e
+pick_on t a b e = rw e
 
-pub pick-off : (t : Bool) (a b : ℕ) → t ≡ false → b ≡ pick t a b
+pub pick_off : (t : Bool) (a b : ℕ) → t ≡ false → b ≡ pick t a b
 unfolding pick
-pick-off t a b e = rw e
+pick_off t a b e = rw e
 
 pub power32 : (n : ℕ) → n ≤ 16 → (1 * 2 ^ n) % 4294967296 ≡ 2 ^ n
 power32 n h =
     let m : 2 ^ n ≤ 2 ^ 16 = pow_mono {i = n} {j = 16} h in
     rw (one-mul (2 ^ n)) (mod-eq_of_lt (omega arith))
 
-pub all-positive : (n : ℕ) → n ≤ 16 → 1 ≤ (1 * 2 ^ n) % 4294967296
-all-positive n h = rw (power32 n h) (pow_pos n)
+pub all_positive : (n : ℕ) → n ≤ 16 → 1 ≤ (1 * 2 ^ n) % 4294967296
+all_positive n h = rw (power32 n h) (pow_pos n)
 
-pub all-fits : (n : ℕ) → n ≤ 16 → Fits w16 ((1 * 2 ^ n) % 4294967296 - 1)
-all-fits n h =
+pub all_fits : (n : ℕ) → n ≤ 16 → Fits w16 ((1 * 2 ^ n) % 4294967296 - 1)
+all_fits n h =
     let m : 2 ^ n ≤ 2 ^ 16 = pow_mono {i = n} {j = 16} h in
     let p : 1 ≤ 2 ^ n = pow_pos n in
     rw (power32 n h) (record { fits = omega arith })

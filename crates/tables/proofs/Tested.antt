@@ -5,7 +5,7 @@ use mathlib.Core.Bool.{Bool, true, false, ◌||◌, ◌&&◌, not, false≢true}
 use Prim.Native.Nat.{ℕ}
 use lib.Dec.{eqb}
 use Rattle.meaning.specs.Finite.{Yes}
-use Rattle.meaning.proofs.Tests.{clash, no-neg, is_eq, eq_yes}
+use Rattle.meaning.proofs.Tests.{clash, no_neg, is_eq, eq_yes}
 use Rattle.tables.proofs.Helpers.{not_is}
 
 pub or_yes : (a b : Bool) → Yes (a || b) → Yes a ⊎ Yes b
@@ -24,8 +24,8 @@ pub yes_and : (a b : Bool) → Yes a → Yes b → Yes (a && b)
 yes_and true b s t = t
 yes_and false b s t = s
 
-pub not-eq : (a b : ℕ) → Yes (not (eqb a b)) → a ≢ b
-not-eq a b t e = clash (eq_yes e) (sym (not_is (eqb a b)) ∙ t)
+pub not_eq : (a b : ℕ) → Yes (not (eqb a b)) → a ≢ b
+not_eq a b t e = clash (eq_yes e) (sym (not_is (eqb a b)) ∙ t)
 
-pub eq-not : (a b : ℕ) → a ≢ b → Yes (not (eqb a b))
-eq-not a b n = not_is (eqb a b) ∙ no-neg (λ t. n (is_eq t))
+pub eq_not : (a b : ℕ) → a ≢ b → Yes (not (eqb a b))
+eq_not a b n = not_is (eqb a b) ∙ no_neg (λ t. n (is_eq t))

@@ -15,8 +15,8 @@ unfoldable pub gained : Bool → ℕ → ℕ → ℕ
 gained t row more = bit_or row (pick t more 0)
 
 -- a row, with y where the test holds
-unfoldable pub gainedOne : Bool → ℕ → ℕ → ℕ
-gainedOne t row y = gained t row (2 ^ y)
+unfoldable pub gained_one : Bool → ℕ → ℕ → ℕ
+gained_one t row y = gained t row (2 ^ y)
 
 -- two rows have a number in common
 unfoldable pub meets : ℕ → ℕ → Bool
@@ -27,8 +27,8 @@ unfoldable pub without : ℕ → ℕ → ℕ
 without a b = bit_and a (bit_xor b 65535)
 
 -- a group has a root, and a leaf or the label l
-unfoldable pub onDocument : (root leaf group l : ℕ) → Bool
-onDocument root leaf group l = meets root group and (meets leaf group or neg (eqb l 0))
+unfoldable pub on_document : (root leaf group l : ℕ) → Bool
+on_document root leaf group l = meets root group and (meets leaf group or neg (eqb l 0))
 
 -- the numbers below 16 that pass a test, as a row
 pub record Gathers (p : ℕ → Bool) (r : ℕ) : Type 0 where

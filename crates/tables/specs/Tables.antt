@@ -45,8 +45,8 @@ pub record Seeded (n : ℕ) (S : List Fact) (f : Facts) : Type 0 where
   pub inside : Inside n S
   pub held : (φ : Fact) → Memᴰ φ S → Yes (has f φ)
   pub sound : Sound n S f
-  pub child-differ : (x y : ℕ) → Yes (has f (child x y)) → Yes (has f (differ x y))
-  pub before-differ : (x y : ℕ) → Yes (has f (before x y)) → Yes (has f (differ x y))
+  pub child_differ : (x y : ℕ) → Yes (has f (child x y)) → Yes (has f (differ x y))
+  pub before_differ : (x y : ℕ) → Yes (has f (before x y)) → Yes (has f (differ x y))
   pub turned : (x y : ℕ) → Yes (has f (differ x y)) → Yes (has f (differ y x))
   pub parents : Columns f.child f.parent
   pub siblings : Columns f.before f.after

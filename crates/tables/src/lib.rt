@@ -2,7 +2,7 @@
 // below(x, y). They go into an alternative by value.
 ghost use Rattle.std.specs.Prelude.{◌≡◌, ◌≢◌, ◌<◌, ◌≤◌, ◌^◌, ◌-◌};
 ghost use Rattle.meaning.specs.Finite.{pick};
-ghost use Rattle.tables.specs.Rows.{gained, meets, gainedOne, without, onDocument, Gathers, Transposed, Raised, RaisedAlike, United, Common, Lowest, Rest, Union, LabelOf, Crossed, Blank};
+ghost use Rattle.tables.specs.Rows.{gained, meets, gained_one, without, on_document, Gathers, Transposed, Raised, RaisedAlike, United, Common, Lowest, Rest, Union, LabelOf, Crossed, Blank};
 ghost use Rattle.tables.specs.Tables.{row};
 
 // `parent`, `above` and `after` are the columns of `child`, `below` and `before`, kept as rows: bit x of row y. A label of 0 is no label fact.
@@ -61,7 +61,7 @@ pub fn gain(t: bool, row: u16, more: u16) -> u16
 
 pub fn gain_one(t: bool, row: u16, y: usize) -> u16
     requires { y < 16 }
-    ensures { result ≡ gainedOne t row y }
+    ensures { result ≡ gained_one t row y }
 {
     gain(t, row, one(y))
 }
@@ -221,7 +221,7 @@ pub fn crossed(t: [u16; 16], below: [u16; 16], above: [u16; 16]) -> bool
 
 // Whether a group is the document node's, and a leaf or labelled: l is its label, or 0 for none.
 pub fn on_document(root: u16, leaf: u16, group: u16, l: u8) -> bool
-    ensures { result ≡ onDocument root leaf group l }
+    ensures { result ≡ on_document root leaf group l }
 {
     meet(root, group) & (meet(leaf, group) | (l != 0))
 }

@@ -1,19 +1,19 @@
 -- The text of a verdict of the code.
 use Rattle.std.specs.Prelude.{List, ℕ}
-use Rattle.meaning.specs.Demand.{a-tree, a-none, a-spent}
-use Rattle.meaning.specs.Results.{solver-refuses, solver-answers}
-use Rattle.meaning.specs.Text.{solvedText, markedText}
-use Rattle.marker.specs.Verdict.{markedOf}
+use Rattle.meaning.specs.Demand.{a_tree, a_none, a-spent}
+use Rattle.meaning.specs.Results.{solver_refuses, solver_answers}
+use Rattle.meaning.specs.Text.{solved_text, marked_text}
+use Rattle.marker.specs.Verdict.{marked_of}
 use Rattle.marker.specs.declared.Verdict.{Verdict as MarkerVerdict}
 use Rattle.solver.specs.declared.Verdict.{Verdict}
 use Rattle.solver.specs.declared.Verdict.TheVariants.{Tree, None, Spent, Refused}
 
 -- a verdict with the bytes of its answer file, if it is a tree's
-unfoldable pub solverText : Verdict → List ℕ → List ℕ
-solverText (Tree bytes count) answer = solvedText (solver-answers (a-tree count answer))
-solverText (None count) answer = solvedText (solver-answers (a-none count))
-solverText (Spent count) answer = solvedText (solver-answers (a-spent count))
-solverText (Refused question) answer = solvedText (solver-refuses question)
+unfoldable pub solver_text : Verdict → List ℕ → List ℕ
+solver_text (Tree bytes count) answer = solved_text (solver_answers (a_tree count answer))
+solver_text (None count) answer = solved_text (solver_answers (a_none count))
+solver_text (Spent count) answer = solved_text (solver_answers (a-spent count))
+solver_text (Refused question) answer = solved_text (solver_refuses question)
 
 unfoldable pub bytes_of : Verdict → ℕ
 bytes_of (Tree bytes count) = bytes
@@ -21,5 +21,5 @@ bytes_of (None count) = 0
 bytes_of (Spent count) = 0
 bytes_of (Refused question) = 0
 
-abbrev pub markerText : MarkerVerdict → List ℕ
-markerText v = markedText (markedOf v)
+abbrev pub marker_text : MarkerVerdict → List ℕ
+marker_text v = marked_text (marked_of v)

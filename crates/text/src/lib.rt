@@ -1,9 +1,9 @@
 // What the programs print, at the front of a lent buffer: the text of a verdict, or the records of a text of paths.
 ghost use Rattle.std.specs.Prelude.{◌≡◌, ◌≤◌, length};
-ghost use Rattle.meaning.specs.Text.{solveAllowance};
+ghost use Rattle.meaning.specs.Text.{solve_allowance};
 ghost use Rattle.marker.specs.declared.Verdict.TheVariants.{Unmet};
 ghost use Rattle.lent.specs.Putting.{Put};
-ghost use Rattle.text.specs.Verdicts.{bytes_of, solverText, markerText};
+ghost use Rattle.text.specs.Verdicts.{bytes_of, solver_text, marker_text};
 ghost use Rattle.text.specs.Printing.{SolvedAs, MarkedAs, PathsAs};
 
 use constraints::Kind;
@@ -21,7 +21,7 @@ pub const RECORDS_BYTES: usize = 1024;
 
 fn put_unmet(out: &mut [u8], position: usize, kind: Kind) -> usize
     requires { 42 ≤ length out.old }
-    ensures { Put out.old 0 (markerText (Unmet position kind)) result out.new }
+    ensures { Put out.old 0 (marker_text (Unmet position kind)) result out.new }
 {
     let number = put(out, 0, b"unmet ");
     let space = put_number(out, number, position as u64);
@@ -32,7 +32,7 @@ fn put_unmet(out: &mut [u8], position: usize, kind: Kind) -> usize
 
 fn put_mark(out: &mut [u8], verdict: marker::Verdict) -> usize
     requires { 42 ≤ length out.old }
-    ensures { Put out.old 0 (markerText verdict) result out.new }
+    ensures { Put out.old 0 (marker_text verdict) result out.new }
 {
     match verdict {
         marker::Verdict::Met => put(out, 0, b"met\n"),
@@ -43,7 +43,7 @@ fn put_mark(out: &mut [u8], verdict: marker::Verdict) -> usize
 
 fn put_solved(out: &mut [u8], verdict: Verdict, answer: &[u8]) -> usize
     requires { (594 ≤ length out.old) × (length answer.now ≤ 136) }
-    ensures { Put out.old 0 (solverText verdict answer.now) result out.new }
+    ensures { Put out.old 0 (solver_text verdict answer.now) result out.new }
 {
     match verdict {
         Verdict::Tree { bytes: _, count } => {
@@ -70,7 +70,7 @@ fn bytes_of(verdict: Verdict) -> usize
 
 // Puts what `solve` prints of the bytes it read at the front of the buffer, and answers how many bytes that are.
 pub fn solve(constraints: &[u8], out: &mut [u8; TEXT_BYTES]) -> usize
-    ensures { SolvedAs solveAllowance constraints.now out.old result out.new }
+    ensures { SolvedAs solve_allowance constraints.now out.old result out.new }
 {
     let mut answer = [0u8; 136];
     let verdict = solver::solve(constraints, &mut answer, ALLOWANCE);

@@ -8,15 +8,15 @@ use Prim.Native.Nat.{ℕ, zero, suc}
 use lib.Dec.{eqb}
 use Rattle.meaning.specs.Tree.{Var}
 use Rattle.meaning.specs.Constraint.{Fact, child, below, differ, before, root, leaf, label}
-use Rattle.meaning.specs.Settled.{Settled, given, child-below, self-below, chain, root_below, leaf-below, one_parent, one-element, before-chain, before_child, after-child, same-parent, same-child, same-root, same-leaf, same-label, same-before, same_after}
+use Rattle.meaning.specs.Settled.{Settled, given, child_below, self_below, chain, root_below, leaf_below, one_parent, one_element, before_chain, before_child, after_child, same_parent, same_child, same_root, same_leaf, same_label, same_before, same_after}
 use Rattle.meaning.specs.FixedSearch.{Join, IsJoin, FirstJoin}
 use Rattle.meaning.specs.Closed.{Rules}
 use Rattle.meaning.specs.Finite.{pick, tab, position}
-use Rattle.meaning.specs.ReadOff.{FactSet, Decides, same, over, lowest, depth, layer, layers, order, element, front, nodeAt, place, nearest, parent_of, label_of, nodes, places, nodeBytes, placeBytes, answerFile}
-use Rattle.meaning.proofs.Tests.{yes-eq}
+use Rattle.meaning.specs.ReadOff.{FactSet, Decides, same, over, lowest, depth, layer, layers, order, element, front, node_at, place, nearest, parent_of, label_of, nodes, places, node_bytes, place_bytes, answer_file}
+use Rattle.meaning.proofs.Tests.{yes_eq}
 use Rattle.meaning.proofs.Facts.{◌⊆◌}
-use Rattle.meaning.proofs.Least.{settled-least, settled-mono}
-use Rattle.meaning.proofs.Congruence.{Asked, join-asked, first-asked}
+use Rattle.meaning.proofs.Least.{settled_least, settled_mono}
+use Rattle.meaning.proofs.Congruence.{Asked, join_asked, first_asked}
 
 -- ---- what they settle
 
@@ -40,52 +40,52 @@ Kept n S (leaf x) = Settled n S (leaf x)
 Kept n S (label x l) = Settled n S (label x l)
 
 -- no rule but those of differ itself has one among its premises
-kept-rules : (n : ℕ) (S : List Fact) → Rules n (Kept n S)
-kept-rules n S = record {
+kept_rules : (n : ℕ) (S : List Fact) → Rules n (Kept n S)
+kept_rules n S = record {
   sharing = record {
-    child-below = λ x y a. child-below a;
-    child-differ = λ x y a. tt;
-    self-below = λ x l. self-below l;
+    child_below = λ x y a. child_below a;
+    child_differ = λ x y a. tt;
+    self_below = λ x l. self_below l;
     chain = λ x y z a b. chain a b;
     root_below = λ x y a l. root_below a l;
-    leaf-below = λ x y a b. leaf-below a b;
+    leaf_below = λ x y a b. leaf_below a b;
     differ_back = λ x y a. tt;
-    same-parent = λ x y u a b c. same-parent a b c;
-    same-child = λ x y u a b c. same-child a b c;
-    same-differ = λ x y u a b c. tt;
-    same-root = λ x u a b c. same-root a b c;
-    same-leaf = λ x u a b c. same-leaf a b c;
-    same-label = λ x u l a b c. same-label a b c;
+    same_parent = λ x y u a b c. same_parent a b c;
+    same_child = λ x y u a b c. same_child a b c;
+    same_differ = λ x y u a b c. tt;
+    same_root = λ x u a b c. same_root a b c;
+    same_leaf = λ x u a b c. same_leaf a b c;
+    same_label = λ x u l a b c. same_label a b c;
   };
   siblings = record {
-    before-chain = λ x y z a b. before-chain a b;
-    before-differ = λ x y a. tt;
+    before_chain = λ x y z a b. before_chain a b;
+    before_differ = λ x y a. tt;
     before_child = λ x y u a b. before_child a b;
-    after-child = λ x y u a b. after-child a b;
-    same-before = λ x y u a b c. same-before a b c;
+    after_child = λ x y u a b. after_child a b;
+    same_before = λ x y u a b c. same_before a b c;
     same_after = λ x y u a b c. same_after a b c;
   };
   one_parent = λ x y z a b. one_parent a b;
-  one-element = λ x y z a b c. one-element a b c;
+  one_element = λ x y z a b c. one_element a b c;
 }
 
-settled-kept : (n : ℕ) (S : List Fact) (f : Fact) → Settled n S f → Kept n S f
-settled-kept n S (child x y) s = s
-settled-kept n S (below x y) s = s
-settled-kept n S (differ x y) s = tt
-settled-kept n S (before x y) s = s
-settled-kept n S (root x) s = s
-settled-kept n S (leaf x) s = s
-settled-kept n S (label x l) s = s
+settled_kept : (n : ℕ) (S : List Fact) (f : Fact) → Settled n S f → Kept n S f
+settled_kept n S (child x y) s = s
+settled_kept n S (below x y) s = s
+settled_kept n S (differ x y) s = tt
+settled_kept n S (before x y) s = s
+settled_kept n S (root x) s = s
+settled_kept n S (leaf x) s = s
+settled_kept n S (label x l) s = s
 
-differ-kept : (n : ℕ) (S : List Fact) (f : Fact) → IsDiffer f → Kept n S f
-differ-kept n S (child x y) d = absurd d
-differ-kept n S (below x y) d = absurd d
-differ-kept n S (differ x y) d = tt
-differ-kept n S (before x y) d = absurd d
-differ-kept n S (root x) d = absurd d
-differ-kept n S (leaf x) d = absurd d
-differ-kept n S (label x l) d = absurd d
+differ_kept : (n : ℕ) (S : List Fact) (f : Fact) → IsDiffer f → Kept n S f
+differ_kept n S (child x y) d = absurd d
+differ_kept n S (below x y) d = absurd d
+differ_kept n S (differ x y) d = tt
+differ_kept n S (before x y) d = absurd d
+differ_kept n S (root x) d = absurd d
+differ_kept n S (leaf x) d = absurd d
+differ_kept n S (label x l) d = absurd d
 
 -- T is S and differ facts besides
 pub record Beside (S T : List Fact) : Type 0 where
@@ -94,26 +94,26 @@ pub record Beside (S T : List Fact) : Type 0 where
 
 module _ (n : ℕ) (S T : List Fact) (b : Beside S T) where
   pub kept : {f : Fact} → Settled n T f → Kept n S f
-  kept = settled-least n T (Kept n S) (kept-rules n S) (λ f m. ⊎_elim (λ k. settled-kept n S f (given k)) (differ-kept n S f) (b.only f m))
+  kept = settled_least n T (Kept n S) (kept_rules n S) (λ f m. ⊎_elim (λ k. settled_kept n S f (given k)) (differ_kept n S f) (b.only f m))
 
   pub more : {f : Fact} → Settled n S f → Settled n T f
-  more = settled-mono n S T b.wider
+  more = settled_mono n S T b.wider
 
-  asks-more : Asked n S T
-  asks-more = record { of-child = more; of-below = more; of-before = more; of-root = more }
+  asks_more : Asked n S T
+  asks_more = record { of_child = more; of_below = more; of_before = more; of_root = more }
 
-  asks-kept : Asked n T S
-  asks-kept = record { of-child = kept; of-below = kept; of-before = kept; of-root = kept }
+  asks_kept : Asked n T S
+  asks_kept = record { of_child = kept; of_below = kept; of_before = kept; of_root = kept }
 
   -- the joins are the same
   pub join_more : (j : Join) → IsJoin n S j → IsJoin n T j
-  join_more = join-asked asks-more asks-kept
+  join_more = join_asked asks_more asks_kept
 
   pub join_kept : (j : Join) → IsJoin n T j → IsJoin n S j
-  join_kept = join-asked asks-kept asks-more
+  join_kept = join_asked asks_kept asks_more
 
   pub first_more : (j : Join) → FirstJoin n S j → FirstJoin n T j
-  first_more = first-asked asks-more asks-kept
+  first_more = first_asked asks_more asks_kept
 
 -- ---- what is read off is the same
 
@@ -128,17 +128,17 @@ bare h (leaf x) = h (leaf x)
 bare h (label x l) = h (label x l)
 
 module _ (n : ℕ) (h : FactSet) where
-  layers-bare : (d : ℕ) → layers n h d ≡ layers n (bare h) d
+  layers_bare : (d : ℕ) → layers n h d ≡ layers n (bare h) d
   unfolding layers layer lowest depth over same bare
-  layers-bare zero = refl
-  layers-bare (suc d) = ap (λ (gs : List Var). gs ++ layer n h d) (layers-bare d)
+  layers_bare zero = refl
+  layers_bare (suc d) = ap (λ (gs : List Var). gs ++ layer n h d) (layers_bare d)
 
   -- all else computes to the same
-  file-bare : answerFile n h ≡ answerFile n (bare h)
-  unfolding answerFile nodes places place parent_of nodeAt front element nearest label_of order layer lowest depth over same bare
-  file-bare = ap (λ (gs : List Var).
-      nodeBytes 0 (front n h ++ map (λ g. record { up = pick (eqb (depth n h g) 0) (element n h) (nodeAt n h (position (λ w. nearest n h w g) gs)); label = label_of n h g }) gs)
-      ++ placeBytes 0 (tab n (λ x. pick (h (root x)) 0 (nodeAt n h (position (λ g. same h g x) gs))))) (layers-bare n)
+  file_bare : answer_file n h ≡ answer_file n (bare h)
+  unfolding answer_file nodes places place parent_of node_at front element nearest label_of order layer lowest depth over same bare
+  file_bare = ap (λ (gs : List Var).
+      node_bytes 0 (front n h ++ map (λ g. record { up = pick (eqb (depth n h g) 0) (element n h) (node_at n h (position (λ w. nearest n h w g) gs)); label = label_of n h g }) gs)
+      ++ place_bytes 0 (tab n (λ x. pick (h (root x)) 0 (node_at n h (position (λ g. same h g x) gs))))) (layers_bare n)
 
 -- Q settles what R settles, and differ facts besides
 pub record SameBut (n : ℕ) (R Q : List Fact) : Type 0 where
@@ -147,7 +147,7 @@ pub record SameBut (n : ℕ) (R Q : List Fact) : Type 0 where
 
 module _ (n : ℕ) (R Q : List Fact) (h g : FactSet) (d : Decides n R h) (e : Decides n Q g) (s : SameBut n R Q) where
   alike : (f : Fact) → (Settled n Q f → Settled n R f) → h f ≡ g f
-  alike f back = yes-eq _ _ (λ t. e.complete (s.to (d.sound t))) (λ t. d.complete (back (e.sound t)))
+  alike f back = yes_eq _ _ (λ t. e.complete (s.to (d.sound t))) (λ t. d.complete (back (e.sound t)))
 
   bare_alike : (f : Fact) → bare h f ≡ bare g f
   unfolding bare
@@ -159,5 +159,5 @@ module _ (n : ℕ) (R Q : List Fact) (h g : FactSet) (d : Decides n R h) (e : De
   bare_alike (leaf x) = alike (leaf x) s.fro
   bare_alike (label x l) = alike (label x l) s.fro
 
-  pub same-file : answerFile n h ≡ answerFile n g
-  same-file = file-bare n h ∙ ap (answerFile n) (fun_ext bare_alike) ∙ sym (file-bare n g)
+  pub same_file : answer_file n h ≡ answer_file n g
+  same_file = file_bare n h ∙ ap (answer_file n) (fun_ext bare_alike) ∙ sym (file_bare n g)

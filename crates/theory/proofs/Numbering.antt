@@ -12,7 +12,7 @@ use native.Mathlib.Omega.{arith}
 use lib.ListN.{length, get_or}
 use Rattle.meaning.specs.Tree.{Node, Tree, IsTree}
 use Rattle.meaning.specs.AnyTree.{Reaches, here, down, AnyTree, PrecedesSibling, ByteLabelled, Numbering}
-use Rattle.theory.proofs.Rank.{rank, rank-smaller, rank-onto}
+use Rattle.theory.proofs.Rank.{rank, rank_smaller, rank_onto}
 
 -- ---- the place of a member of a list
 
@@ -31,8 +31,8 @@ module _ {A : Type 0} where
   place_at (Memᴰ.head e) d = sym e
   place_at (Memᴰ.tail m) d = place_at m d
 
-remainders-same : (n a b p q : ℕ) → p < n → q < n → a * n + p ≡ b * n + q → p ≡ q
-remainders-same n a b p q l k e = sym (rest a p l) ∙ ap (λ (i : ℕ). i % n) e ∙ rest b q k
+remainders_same : (n a b p q : ℕ) → p < n → q < n → a * n + p ≡ b * n + q → p ≡ q
+remainders_same n a b p q l k e = sym (rest a p l) ∙ ap (λ (i : ℕ). i % n) e ∙ rest b q k
   where
     rest : (c r : ℕ) → r < n → (c * n + r) % n ≡ r
     rest c r h = mul-add-mod_self_right c n r ∙ mod-eq_of_lt h
@@ -46,24 +46,24 @@ more : {A : Type 0} → Dec A → ℕ → ℕ
 more (yes h) k = suc k
 more (no h) k = k
 
-more-most : {A : Type 0} (d : Dec A) (k : ℕ) → more d k ≤ suc k
+more_most : {A : Type 0} (d : Dec A) (k : ℕ) → more d k ≤ suc k
 unfolding more
-more-most (yes h) k = le_refl _
-more-most (no h) k = le_step (le_refl _)
+more_most (yes h) k = le_refl _
+more_most (no h) k = le_step (le_refl _)
 
-more-le : {A B : Type 0} (d : Dec A) (e : Dec B) → (A → B) → {j k : ℕ} → j ≤ k → more d j ≤ more e k
+more_le : {A B : Type 0} (d : Dec A) (e : Dec B) → (A → B) → {j k : ℕ} → j ≤ k → more d j ≤ more e k
 unfolding more
-more-le (yes h) (yes g) f l = suc-le-suc l
-more-le (yes h) (no g) f l = absurd (g (f h))
-more-le (no h) (yes g) f l = le_step l
-more-le (no h) (no g) f l = l
+more_le (yes h) (yes g) f l = suc-le-suc l
+more_le (yes h) (no g) f l = absurd (g (f h))
+more_le (no h) (yes g) f l = le_step l
+more_le (no h) (no g) f l = l
 
-more-still : {A B : Type 0} (d : Dec A) (e : Dec B) → (A → B) → {j k : ℕ} → j < k → more d j < more e k
+more_still : {A B : Type 0} (d : Dec A) (e : Dec B) → (A → B) → {j k : ℕ} → j < k → more d j < more e k
 unfolding more
-more-still (yes h) (yes g) f l = suc-le-suc l
-more-still (yes h) (no g) f l = absurd (g (f h))
-more-still (no h) (yes g) f l = le_step l
-more-still (no h) (no g) f l = l
+more_still (yes h) (yes g) f l = suc-le-suc l
+more_still (yes h) (no g) f l = absurd (g (f h))
+more_still (no h) (yes g) f l = le_step l
+more_still (no h) (no g) f l = l
 
 more_lt : {A B : Type 0} (d : Dec A) (e : Dec B) → ¬ A → B → {j k : ℕ} → j ≤ k → more d j < more e k
 unfolding more
@@ -79,91 +79,91 @@ steps (down p h) = suc (steps h)
 
 module _ {N : Type 0} (T : AnyTree N) where
   -- one way leads from the root to a node
-  steps-same : {v w : N} (h : Reaches T.IsParent T.root v) (k : Reaches T.IsParent T.root w) → v ≡ w → steps h ≡ steps k
+  steps_same : {v w : N} (h : Reaches T.IsParent T.root v) (k : Reaches T.IsParent T.root w) → v ≡ w → steps h ≡ steps k
   unfolding steps
-  steps-same here here e = refl
-  steps-same here (down {w = x} q k) e = absurd (T.no-parent x (subst (T.IsParent x) (sym e) q))
-  steps-same (down {w = u} p h) here e = absurd (T.no-parent u (subst (T.IsParent u) e p))
-  steps-same (down {w = u} p h) (down q k) e = ap suc (steps-same h k (T.one_parent (subst (T.IsParent u) e p) q))
+  steps_same here here e = refl
+  steps_same here (down {w = x} q k) e = absurd (T.no_parent x (subst (T.IsParent x) (sym e) q))
+  steps_same (down {w = u} p h) here e = absurd (T.no_parent u (subst (T.IsParent u) e p))
+  steps_same (down {w = u} p h) (down q k) e = ap suc (steps_same h k (T.one_parent (subst (T.IsParent u) e p) q))
 
   depth : N → ℕ
   depth v = steps (T.reached v)
 
-  depth-parent : {u v : N} → T.IsParent u v → depth v ≡ suc (depth u)
+  depth_parent : {u v : N} → T.IsParent u v → depth v ≡ suc (depth u)
   unfolding depth steps
-  depth-parent {u} {v} p = steps-same (T.reached v) (down p (T.reached u)) refl
+  depth_parent {u} {v} p = steps_same (T.reached v) (down p (T.reached u)) refl
 
   -- ---- a node is the root or has a parent, and two nodes have two places
 
-  root-or-last : {v : N} → Reaches T.IsParent T.root v → (v ≡ T.root) ⊎ ((u : N) × T.IsParent u v)
-  root-or-last here = inl refl
-  root-or-last (down {w = u} p h) = inr (u, p)
+  root_or_last : {v : N} → Reaches T.IsParent T.root v → (v ≡ T.root) ⊎ ((u : N) × T.IsParent u v)
+  root_or_last here = inl refl
+  root_or_last (down {w = u} p h) = inr (u, p)
 
-  root-or-child : (v : N) → (v ≡ T.root) ⊎ ((u : N) × T.IsParent u v)
-  root-or-child v = root-or-last (T.reached v)
+  root_or_child : (v : N) → (v ≡ T.root) ⊎ ((u : N) × T.IsParent u v)
+  root_or_child v = root_or_last (T.reached v)
 
-  place-one-to-one : (u v : N) → place (T.listed u) ≡ place (T.listed v) → u ≡ v
-  place-one-to-one u v e = sym (place_at (T.listed u) T.root) ∙ ap (λ (i : ℕ). get_or T.nodes i T.root) e ∙ place_at (T.listed v) T.root
+  place_one_to_one : (u v : N) → place (T.listed u) ≡ place (T.listed v) → u ≡ v
+  place_one_to_one u v e = sym (place_at (T.listed u) T.root) ∙ ap (λ (i : ℕ). get_or T.nodes i T.root) e ∙ place_at (T.listed v) T.root
 
-  pub nodes-discrete : (u v : N) → Dec (u ≡ v)
-  nodes-discrete u v = map_dec (place-one-to-one u v) (ap (λ (w : N). place (T.listed w))) (ℕ_discrete _ _)
+  pub nodes_discrete : (u v : N) → Dec (u ≡ v)
+  nodes_discrete u v = map_dec (place_one_to_one u v) (ap (λ (w : N). place (T.listed w))) (ℕ_discrete _ _)
 
   -- ---- the siblings that precede a node
 
   -- two siblings can be compared
-  pub siblings-compared : {p u v : N} → T.IsParent p u → T.IsParent p v → Dec (T.Precedes u v)
-  siblings-compared {p} {u} {v} a b = same_or_not (nodes-discrete u v)
+  pub siblings_compared : {p u v : N} → T.IsParent p u → T.IsParent p v → Dec (T.Precedes u v)
+  siblings_compared {p} {u} {v} a b = same_or_not (nodes_discrete u v)
     where
       same_or_not : Dec (u ≡ v) → Dec (T.Precedes u v)
-      same_or_not (yes e) = no (λ q. T.precedes-not v (subst (λ (w : N). T.Precedes w v) e q))
-      same_or_not (no d) = ⊎_elim yes (λ r. no (λ q. T.precedes-not u (T.precedes-chain q r))) (T.precedes-total a b d)
+      same_or_not (yes e) = no (λ q. T.precedes_not v (subst (λ (w : N). T.Precedes w v) e q))
+      same_or_not (no d) = ⊎_elim yes (λ r. no (λ q. T.precedes_not u (T.precedes_chain q r))) (T.precedes_total a b d)
 
-  sibling-decided : (u v : N) → Dec (PrecedesSibling T u v)
-  sibling-decided u v = by (root-or-child u) (root-or-child v)
+  sibling_decided : (u v : N) → Dec (PrecedesSibling T u v)
+  sibling_decided u v = by (root_or_child u) (root_or_child v)
     where
       by : (u ≡ T.root) ⊎ ((p : N) × T.IsParent p u) → (v ≡ T.root) ⊎ ((q : N) × T.IsParent q v) → Dec (PrecedesSibling T u v)
-      by (inl e) r = no (λ s. T.no-parent s.above (subst (T.IsParent s.above) e s.parent-u))
-      by (inr a) (inl e) = no (λ s. T.no-parent s.above (subst (T.IsParent s.above) e s.parent-v))
-      by (inr a) (inr b) = parents (nodes-discrete a.0 b.0)
+      by (inl e) r = no (λ s. T.no_parent s.above (subst (T.IsParent s.above) e s.parent_u))
+      by (inr a) (inl e) = no (λ s. T.no_parent s.above (subst (T.IsParent s.above) e s.parent_v))
+      by (inr a) (inr b) = parents (nodes_discrete a.0 b.0)
         where
           parents : Dec (a.0 ≡ b.0) → Dec (PrecedesSibling T u v)
-          parents (no d) = no (λ s. d (T.one_parent a.1 s.parent-u ∙ T.one_parent s.parent-v b.1))
+          parents (no d) = no (λ s. d (T.one_parent a.1 s.parent_u ∙ T.one_parent s.parent_v b.1))
           parents (yes e) =
               let c : T.IsParent a.0 v = subst (λ (w : N). T.IsParent w v) (sym e) b.1 in
-              map_dec (λ f. record { above = a.0; parent-u = a.1; parent-v = c; first = f }) (λ s. s.first) (siblings-compared a.1 c)
+              map_dec (λ f. record { above = a.0; parent_u = a.1; parent_v = c; first = f }) (λ s. s.first) (siblings_compared a.1 c)
 
   -- how many members of a list do
   preceding : List N → N → ℕ
   preceding [] v = 0
-  preceding (x ∷ xs) v = more (sibling-decided x v) (preceding xs v)
+  preceding (x ∷ xs) v = more (sibling_decided x v) (preceding xs v)
 
-  preceding-most : (xs : List N) (v : N) → preceding xs v ≤ length xs
+  preceding_most : (xs : List N) (v : N) → preceding xs v ≤ length xs
   unfolding preceding
-  preceding-most [] v = zero-le
-  preceding-most (x ∷ xs) v = let a = more-most (sibling-decided x v) (preceding xs v) in let b = preceding-most xs v in omega arith
+  preceding_most [] v = zero-le
+  preceding_most (x ∷ xs) v = let a = more_most (sibling_decided x v) (preceding xs v) in let b = preceding_most xs v in omega arith
 
-  precedes-chain : {u v w : N} → PrecedesSibling T u v → PrecedesSibling T v w → PrecedesSibling T u w
-  precedes-chain {w = w} h k = record {
+  precedes_chain : {u v w : N} → PrecedesSibling T u v → PrecedesSibling T v w → PrecedesSibling T u w
+  precedes_chain {w = w} h k = record {
     above = h.above;
-    parent-u = h.parent-u;
-    parent-v = subst (λ (p : N). T.IsParent p w) (T.one_parent k.parent-u h.parent-v) k.parent-v;
-    first = T.precedes-chain h.first k.first;
+    parent_u = h.parent_u;
+    parent_v = subst (λ (p : N). T.IsParent p w) (T.one_parent k.parent_u h.parent_v) k.parent_v;
+    first = T.precedes_chain h.first k.first;
   }
 
-  preceding-le : (xs : List N) {u v : N} → PrecedesSibling T u v → preceding xs u ≤ preceding xs v
+  preceding_le : (xs : List N) {u v : N} → PrecedesSibling T u v → preceding xs u ≤ preceding xs v
   unfolding preceding
-  preceding-le [] s = zero-le
-  preceding-le (x ∷ xs) {u} {v} s = more-le (sibling-decided x u) (sibling-decided x v) (λ q. precedes-chain q s) (preceding-le xs s)
+  preceding_le [] s = zero-le
+  preceding_le (x ∷ xs) {u} {v} s = more_le (sibling_decided x u) (sibling_decided x v) (λ q. precedes_chain q s) (preceding_le xs s)
 
   -- u precedes v and not itself
-  preceding-lt : (xs : List N) {u v : N} → Memᴰ u xs → PrecedesSibling T u v → preceding xs u < preceding xs v
+  preceding_lt : (xs : List N) {u v : N} → Memᴰ u xs → PrecedesSibling T u v → preceding xs u < preceding xs v
   unfolding preceding
-  preceding-lt [] m s = absurd (Memᴰ.not-nil m)
-  preceding-lt (x ∷ xs) {u} {v} m s =
+  preceding_lt [] m s = absurd (Memᴰ.not-nil m)
+  preceding_lt (x ∷ xs) {u} {v} m s =
       ⊎_elim
-      (λ e. more_lt (sibling-decided x u) (sibling-decided x v)
-      (λ q. T.precedes-not u (subst (λ (w : N). T.Precedes w u) (sym e) q.first)) (subst (λ (w : N). PrecedesSibling T w v) e s) (preceding-le xs s))
-      (λ k. more-still (sibling-decided x u) (sibling-decided x v) (λ q. precedes-chain q s) (preceding-lt xs k s))
+      (λ e. more_lt (sibling_decided x u) (sibling_decided x v)
+      (λ q. T.precedes_not u (subst (λ (w : N). T.Precedes w u) (sym e) q.first)) (subst (λ (w : N). PrecedesSibling T w v) e s) (preceding_le xs s))
+      (λ k. more_still (sibling_decided x u) (sibling_decided x v) (λ q. precedes_chain q s) (preceding_lt xs k s))
       (Memᴰ.cases_cons m)
 
   -- ---- the key of a node: its depth, then the number of siblings that precede it, then its place in the list
@@ -174,45 +174,45 @@ module _ {N : Type 0} (T : AnyTree N) where
   key : N → ℕ
   key v = spread v * length T.nodes + place (T.listed v)
 
-  key-later : (u v : N) → spread u < spread v → key u < key v
+  key_later : (u v : N) → spread u < spread v → key u < key v
   unfolding key
-  key-later u v l = digits _ _ _ _ _ l (place_inside (T.listed u))
+  key_later u v l = digits _ _ _ _ _ l (place_inside (T.listed u))
 
-  key-parent : {u v : N} → T.IsParent u v → key u < key v
+  key_parent : {u v : N} → T.IsParent u v → key u < key v
   unfolding spread
-  key-parent {u} {v} p =
-      key-later u v (digits _ _ _ _ _ (subst (λ (d : ℕ). depth u < d) (sym (depth-parent p)) (le_refl _)) (suc-le-suc (preceding-most T.nodes u)))
+  key_parent {u} {v} p =
+      key_later u v (digits _ _ _ _ _ (subst (λ (d : ℕ). depth u < d) (sym (depth_parent p)) (le_refl _)) (suc-le-suc (preceding_most T.nodes u)))
 
-  depth-sibling : {p u v : N} → T.IsParent p u → T.IsParent p v → depth u ≡ depth v
-  depth-sibling a b = depth-parent a ∙ sym (depth-parent b)
+  depth_sibling : {p u v : N} → T.IsParent p u → T.IsParent p v → depth u ≡ depth v
+  depth_sibling a b = depth_parent a ∙ sym (depth_parent b)
 
-  key-sibling : {u v : N} → PrecedesSibling T u v → key u < key v
+  key_sibling : {u v : N} → PrecedesSibling T u v → key u < key v
   unfolding spread
-  key-sibling {u} {v} s =
-      let e : depth u * suc (length T.nodes) ≡ depth v * suc (length T.nodes) = ap (λ (d : ℕ). d * suc (length T.nodes)) (depth-sibling s.parent-u s.parent-v) in
-      let l = preceding-lt T.nodes (T.listed u) s in
-      key-later u v (omega arith)
+  key_sibling {u} {v} s =
+      let e : depth u * suc (length T.nodes) ≡ depth v * suc (length T.nodes) = ap (λ (d : ℕ). d * suc (length T.nodes)) (depth_sibling s.parent_u s.parent_v) in
+      let l = preceding_lt T.nodes (T.listed u) s in
+      key_later u v (omega arith)
 
-  key-one-to-one : (u v : N) → key u ≡ key v → u ≡ v
+  key_one_to_one : (u v : N) → key u ≡ key v → u ≡ v
   unfolding key
-  key-one-to-one u v e = place-one-to-one u v (remainders-same (length T.nodes) _ _ _ _ (place_inside (T.listed u)) (place_inside (T.listed v)) e)
+  key_one_to_one u v e = place_one_to_one u v (remainders_same (length T.nodes) _ _ _ _ (place_inside (T.listed u)) (place_inside (T.listed v)) e)
 
   IsKey : ℕ → Type 0
   IsKey k = (v : N) × (key v ≡ k)
 
-  key-look : (k : ℕ) (xs : List N) → IsKey k ⊎ ((v : N) → Memᴰ v xs → key v ≢ k)
+  key_look : (k : ℕ) (xs : List N) → IsKey k ⊎ ((v : N) → Memᴰ v xs → key v ≢ k)
   unfolding IsKey
-  key-look k [] = inr (λ v m. absurd (Memᴰ.not-nil m))
-  key-look k (x ∷ xs) = go (ℕ_discrete (key x) k) (key-look k xs)
+  key_look k [] = inr (λ v m. absurd (Memᴰ.not-nil m))
+  key_look k (x ∷ xs) = go (ℕ_discrete (key x) k) (key_look k xs)
     where
       go : Dec (key x ≡ k) → IsKey k ⊎ ((v : N) → Memᴰ v xs → key v ≢ k) → IsKey k ⊎ ((v : N) → Memᴰ v (x ∷ xs) → key v ≢ k)
       go (yes e) r = inl (x, e)
       go (no h) (inl w) = inl w
       go (no h) (inr r) = inr (λ v m. ⊎_elim (λ e q. h (ap key (sym e) ∙ q)) (r v) (Memᴰ.cases_cons m))
 
-  key-decided : (k : ℕ) → Dec (IsKey k)
+  key_decided : (k : ℕ) → Dec (IsKey k)
   unfolding IsKey
-  key-decided k = ⊎_elim yes (λ r. no (λ w. r w.0 (T.listed w.0) w.1)) (key-look k T.nodes)
+  key_decided k = ⊎_elim yes (λ r. no (λ w. r w.0 (T.listed w.0) w.1)) (key_look k T.nodes)
 
   -- larger than the key of every member
   top : List N → ℕ
@@ -228,142 +228,142 @@ module _ {N : Type 0} (T : AnyTree N) where
   -- ---- the number of a node: the rank of its key
 
   size_of : ℕ
-  size_of = rank IsKey key-decided (top T.nodes)
+  size_of = rank IsKey key_decided (top T.nodes)
 
   number_of : N → Node
-  number_of v = rank IsKey key-decided (key v)
+  number_of v = rank IsKey key_decided (key v)
 
-  number-inside : (v : N) → number_of v < size_of
+  number_inside : (v : N) → number_of v < size_of
   unfolding size_of number_of IsKey
-  number-inside v = rank-smaller IsKey key-decided (key v) (top T.nodes) (v, refl) (key_below v T.nodes (T.listed v))
+  number_inside v = rank_smaller IsKey key_decided (key v) (top T.nodes) (v, refl) (key_below v T.nodes (T.listed v))
 
-  number-smaller : (u v : N) → key u < key v → number_of u < number_of v
+  number_smaller : (u v : N) → key u < key v → number_of u < number_of v
   unfolding number_of IsKey
-  number-smaller u v l = rank-smaller IsKey key-decided (key u) (key v) (u, refl) l
+  number_smaller u v l = rank_smaller IsKey key_decided (key u) (key v) (u, refl) l
 
-  number-one-to-one : (u v : N) → number_of u ≡ number_of v → u ≡ v
-  number-one-to-one u v e = go (dec_lt (key u) (key v)) (dec_lt (key v) (key u))
+  number_one_to_one : (u v : N) → number_of u ≡ number_of v → u ≡ v
+  number_one_to_one u v e = go (dec_lt (key u) (key v)) (dec_lt (key v) (key u))
     where
       go : Dec (key u < key v) → Dec (key v < key u) → u ≡ v
-      go (yes l) _ = absurd (let z = number-smaller u v l in omega arith)
-      go (no l) (yes k) = absurd (let z = number-smaller v u k in omega arith)
-      go (no l) (no k) = key-one-to-one u v (omega arith)
+      go (yes l) _ = absurd (let z = number_smaller u v l in omega arith)
+      go (no l) (yes k) = absurd (let z = number_smaller v u k in omega arith)
+      go (no l) (no k) = key_one_to_one u v (omega arith)
 
-  number-onto : (i : Node) → i < size_of → (v : N) × (number_of v ≡ i)
+  number_onto : (i : Node) → i < size_of → (v : N) × (number_of v ≡ i)
   unfolding size_of number_of IsKey
-  number-onto i l = let w = rank-onto IsKey key-decided (top T.nodes) i l in (w.1.0, ap (rank IsKey key-decided) w.1.1 ∙ w.2)
+  number_onto i l = let w = rank_onto IsKey key_decided (top T.nodes) i l in (w.1.0, ap (rank IsKey key_decided) w.1.1 ∙ w.2)
 
   -- ---- the numbered tree
 
   parent_of : N → N
-  parent_of v = ⊎_elim (λ e. T.root) (λ w. w.0) (root-or-child v)
+  parent_of v = ⊎_elim (λ e. T.root) (λ w. w.0) (root_or_child v)
 
   parent_is : {u v : N} → T.IsParent u v → parent_of v ≡ u
   unfolding parent_of
-  parent_is {u} {v} p = go (root-or-child v)
+  parent_is {u} {v} p = go (root_or_child v)
     where
       go : (d : (v ≡ T.root) ⊎ ((u : N) × T.IsParent u v)) → ⊎_elim (λ e. T.root) (λ w. w.0) d ≡ u
-      go (inl e) = absurd (T.no-parent u (subst (T.IsParent u) e p))
+      go (inl e) = absurd (T.no_parent u (subst (T.IsParent u) e p))
       go (inr w) = T.one_parent w.1 p
 
-  parent-there : (v : N) → v ≢ T.root → T.IsParent (parent_of v) v
-  parent-there v d = ⊎_elim (λ e. absurd (d e)) (λ w. subst (λ (u : N). T.IsParent u v) (sym (parent_is w.1)) w.1) (root-or-child v)
+  parent_there : (v : N) → v ≢ T.root → T.IsParent (parent_of v) v
+  parent_there v d = ⊎_elim (λ e. absurd (d e)) (λ w. subst (λ (u : N). T.IsParent u v) (sym (parent_is w.1)) w.1) (root_or_child v)
 
   node_in : (i : Node) → Dec (i < size_of) → N
-  node_in i (yes l) = (number-onto i l).0
+  node_in i (yes l) = (number_onto i l).0
   node_in i (no l) = T.root
 
   node_of : Node → N
   node_of i = node_in i (dec_lt i size_of)
 
-  node-number : (i : Node) → i < size_of → number_of (node_of i) ≡ i
+  node_number : (i : Node) → i < size_of → number_of (node_of i) ≡ i
   unfolding node_of node_in
-  node-number i l = go (dec_lt i size_of)
+  node_number i l = go (dec_lt i size_of)
     where
       go : (d : Dec (i < size_of)) → number_of (node_in i d) ≡ i
-      go (yes k) = (number-onto i k).1
+      go (yes k) = (number_onto i k).1
       go (no k) = absurd (k l)
 
-  number-node : (v : N) → node_of (number_of v) ≡ v
-  number-node v = number-one-to-one _ v (node-number (number_of v) (number-inside v))
+  number_node : (v : N) → node_of (number_of v) ≡ v
+  number_node v = number_one_to_one _ v (node_number (number_of v) (number_inside v))
 
   -- the root has the number 0: a node with number 0 that is not the root has a parent with a smaller number
-  number-root : number_of T.root ≡ 0
-  number-root = go (dec_lt 0 (number_of T.root))
+  number_root : number_of T.root ≡ 0
+  number_root = go (dec_lt 0 (number_of T.root))
     where
       go : Dec (0 < number_of T.root) → number_of T.root ≡ 0
       go (no l) = omega arith
       go (yes l) =
-          let z : 0 < size_of = let k = number-inside T.root in omega arith in
-          let e : number_of (node_of 0) ≡ 0 = node-number 0 z in
-          let p : T.IsParent (parent_of (node_of 0)) (node_of 0) = parent-there (node_of 0) (λ q. let r : number_of (node_of 0) ≡ number_of T.root = ap number_of q in omega arith) in
-          let s : number_of (parent_of (node_of 0)) < number_of (node_of 0) = number-smaller _ _ (key-parent p) in
+          let z : 0 < size_of = let k = number_inside T.root in omega arith in
+          let e : number_of (node_of 0) ≡ 0 = node_number 0 z in
+          let p : T.IsParent (parent_of (node_of 0)) (node_of 0) = parent_there (node_of 0) (λ q. let r : number_of (node_of 0) ≡ number_of T.root = ap number_of q in omega arith) in
+          let s : number_of (parent_of (node_of 0)) < number_of (node_of 0) = number_smaller _ _ (key_parent p) in
           absurd (omega arith)
 
   not_root : (v : N) → 0 < number_of v → v ≢ T.root
-  not_root v l e = let z : number_of v ≡ number_of T.root = ap number_of e in let r = number-root in omega arith
+  not_root v l e = let z : number_of v ≡ number_of T.root = ap number_of e in let r = number_root in omega arith
 
-  abbrev numbered-tree : Tree
-  numbered-tree = record { size = size_of; parent = λ i. number_of (parent_of (node_of i)); label = λ i. T.label (node_of i) }
+  abbrev numbered_tree : Tree
+  numbered_tree = record { size = size_of; parent = λ i. number_of (parent_of (node_of i)); label = λ i. T.label (node_of i) }
 
-  numbered-is-tree : ByteLabelled T → IsTree numbered-tree
-  numbered-is-tree b = record {
-    two-nodes = two;
-    blank-first = ap T.label (root-at) ∙ T.root-blank;
-    one-child = λ v p. only v p.not_first p.inside p.is;
+  numbered_is_tree : ByteLabelled T → IsTree numbered_tree
+  numbered_is_tree b = record {
+    two_nodes = two;
+    blank_first = ap T.label (root_at_lem) ∙ T.root_blank;
+    one_child = λ v p. only v p.not_first p.inside p.is;
     smaller = λ i z l.
-        let e : number_of (node_of i) ≡ i = node-number i l in
-        let s : number_of (parent_of (node_of i)) < number_of (node_of i) = number-smaller _ _ (key-parent (parent-there (node_of i) (not_root (node_of i) (omega arith)))) in
+        let e : number_of (node_of i) ≡ i = node_number i l in
+        let s : number_of (parent_of (node_of i)) < number_of (node_of i) = number_smaller _ _ (key_parent (parent_there (node_of i) (not_root (node_of i) (omega arith)))) in
         omega arith;
-    byte-label = λ i l. b (node_of i);
+    byte_label = λ i l. b (node_of i);
   }
     where
       two : 1 < size_of
-      two = let a = number-smaller T.root T.element (key-parent T.has-element) in let c = number-inside T.element in omega arith
+      two = let a = number_smaller T.root T.element (key_parent T.has_element) in let c = number_inside T.element in omega arith
 
-      root-at : node_of 0 ≡ T.root
-      root-at = ap node_of (sym number-root) ∙ number-node T.root
+      root_at_lem : node_of 0 ≡ T.root
+      root_at_lem = ap node_of (sym number_root) ∙ number_node T.root
 
       -- a child of the root is its element
-      child-is : (v : Node) → 0 < v → v < size_of → number_of (parent_of (node_of v)) ≡ 0 → node_of v ≡ T.element
-      child-is v z l e =
-          let p = parent-there (node_of v) (not_root (node_of v) (let q = node-number v l in omega arith)) in
-          T.one-element (subst (λ (w : N). T.IsParent w (node_of v)) (number-one-to-one _ T.root (e ∙ sym number-root)) p)
+      child_is : (v : Node) → 0 < v → v < size_of → number_of (parent_of (node_of v)) ≡ 0 → node_of v ≡ T.element
+      child_is v z l e =
+          let p = parent_there (node_of v) (not_root (node_of v) (let q = node_number v l in omega arith)) in
+          T.one_element (subst (λ (w : N). T.IsParent w (node_of v)) (number_one_to_one _ T.root (e ∙ sym number_root)) p)
 
       -- and so is the node with the number 1, since only 0 is smaller
-      first-child : node_of 1 ≡ T.element
-      first-child =
-          child-is 1 (le_refl _) two
-          (let e = node-number 1 two in
-          let s = number-smaller _ _ (key-parent (parent-there (node_of 1) (not_root (node_of 1) (let q = node-number 1 two in omega arith)))) in
+      first_child : node_of 1 ≡ T.element
+      first_child =
+          child_is 1 (le_refl _) two
+          (let e = node_number 1 two in
+          let s = number_smaller _ _ (key_parent (parent_there (node_of 1) (not_root (node_of 1) (let q = node_number 1 two in omega arith)))) in
           omega arith)
 
       only : (v : Node) → 0 < v → v < size_of → number_of (parent_of (node_of v)) ≡ 0 → v ≡ 1
-      only v z l e = sym (node-number v l) ∙ ap number_of (child-is v z l e ∙ sym first-child) ∙ node-number 1 two
+      only v z l e = sym (node_number v l) ∙ ap number_of (child_is v z l e ∙ sym first_child) ∙ node_number 1 two
 
-  numbered-same : Numbering T numbered-tree
-  numbered-same = record {
+  numbered_same : Numbering T numbered_tree
+  numbered_same = record {
     number = number_of;
-    inside = number-inside;
-    one-to-one = number-one-to-one;
-    onto = number-onto;
-    same-parents = λ u v. (
-      λ p. record { not_first = let s = number-smaller u v (key-parent p) in omega arith; inside = number-inside v; is = ap number_of (ap parent_of (number-node v) ∙ parent_is p) },
-      λ p. subst (λ (w : N). T.IsParent w v) (number-one-to-one _ u (ap number_of (ap parent_of (sym (number-node v))) ∙ p.is)) (parent-there v (not_root v p.not_first)),
+    inside = number_inside;
+    one_to_one = number_one_to_one;
+    onto = number_onto;
+    same_parents = λ u v. (
+      λ p. record { not_first = let s = number_smaller u v (key_parent p) in omega arith; inside = number_inside v; is = ap number_of (ap parent_of (number_node v) ∙ parent_is p) },
+      λ p. subst (λ (w : N). T.IsParent w v) (number_one_to_one _ u (ap number_of (ap parent_of (sym (number_node v))) ∙ p.is)) (parent_there v (not_root v p.not_first)),
     );
-    same-labels = λ v. ap T.label (number-node v);
-    same-order = λ {p} {u} {v} a b. (
-      λ q. number-smaller u v (key-sibling (record { above = p; parent-u = a; parent-v = b; first = q })),
-      λ l. order-back a b l (siblings-compared a b),
+    same_labels = λ v. ap T.label (number_node v);
+    same_order = λ {p} {u} {v} a b. (
+      λ q. number_smaller u v (key_sibling (record { above = p; parent_u = a; parent_v = b; first = q })),
+      λ l. order_back a b l (siblings_compared a b),
     );
   }
     where
-      order-back : {p u v : N} → T.IsParent p u → T.IsParent p v → number_of u < number_of v → Dec (T.Precedes u v) → T.Precedes u v
-      order-back a b l (yes q) = q
-      order-back {p} {u} {v} a b l (no q) =
-          ⊎_elim (λ r. r) (λ r. absurd (let z = number-smaller v u (key-sibling (record { above = p; parent-u = b; parent-v = a; first = r })) in omega arith))
-          (T.precedes-total a b (λ e. let z : number_of u ≡ number_of v = ap number_of e in omega arith))
+      order_back : {p u v : N} → T.IsParent p u → T.IsParent p v → number_of u < number_of v → Dec (T.Precedes u v) → T.Precedes u v
+      order_back a b l (yes q) = q
+      order_back {p} {u} {v} a b l (no q) =
+          ⊎_elim (λ r. r) (λ r. absurd (let z = number_smaller v u (key_sibling (record { above = p; parent_u = b; parent_v = a; first = r })) in omega arith))
+          (T.precedes_total a b (λ e. let z : number_of u ≡ number_of v = ap number_of e in omega arith))
 
   -- every finite tree whose labels are bytes has a numbering
   pub numbered : ByteLabelled T → (t : Tree) × IsTree t × Numbering T t
-  numbered b = (numbered-tree, numbered-is-tree b, numbered-same)
+  numbered b = (numbered_tree, numbered_is_tree b, numbered_same)

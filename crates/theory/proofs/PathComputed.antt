@@ -1,22 +1,22 @@
 -- The computed reader gives each row's answer: one statement, by computing.
 use mathlib.Core.Path.{◌≡◌, refl}
 use mathlib.Core.List.{map}
-use Rattle.meaning.specs.Tree.{isCapital}
+use Rattle.meaning.specs.Tree.{is_capital}
 use Rattle.meaning.specs.Finite.{pick, ◌and◌, ◌or◌}
 use Rattle.meaning.specs.Ascii.{ascii}
-use Rattle.meaning.specs.Paths.{isSmall, isLetter, axisText}
-use Rattle.meaning.specs.PathRecords.{variablesOf, recordsOf, fileBytes}
+use Rattle.meaning.specs.Paths.{is_small, is_letter, axis_text}
+use Rattle.meaning.specs.PathRecords.{variables_of, records_of, file_bytes}
 use Rattle.meaning.specs.Results.{Fill}
-use Rattle.theory.specs.PathReader.{afterName, axisAt, test_by, testAt, moveAt, pathAt, linesAt, textPaths, pathsAnswer, answer_of, fuel}
+use Rattle.theory.specs.PathReader.{after_name, axis_at, test_by, test_at, move_at, path_at, lines_at, text_paths, paths_answer, answer_of, fuel}
 use Rattle.theory.specs.Reader.{front}
 use Rattle.theory.specs.PathTable.{Row, table}
 
 abbrev pub computed : Row → Fill
-computed row = answer_of (textPaths row.text)
+computed row = answer_of (text_paths row.text)
 
 abbrev pub stated : Row → Fill
 stated row = row.answer
 
-pub table-computed : map computed table ≡ map stated table
-unfolding table ascii answer_of textPaths linesAt fuel pathAt moveAt testAt test_by axisAt afterName front axisText isLetter isSmall isCapital pick ◌and◌ ◌or◌ pathsAnswer variablesOf recordsOf fileBytes
-table-computed = refl
+pub table_computed : map computed table ≡ map stated table
+unfolding table ascii answer_of text_paths lines_at fuel path_at move_at test_at test_by axis_at after_name front axis_text is_letter is_small is_capital pick ◌and◌ ◌or◌ paths_answer variables_of records_of file_bytes
+table_computed = refl

@@ -4,27 +4,27 @@ use mathlib.Core.Path.{◌≡◌, ap, subst, ◌∙◌}
 use mathlib.Core.List.{List, Memᴰ}
 use Prim.Native.Nat.{ℕ, ◌≤◌}
 use lib.ListN.{length}
-use Rattle.meaning.specs.Results.{Fill, fillWrote}
+use Rattle.meaning.specs.Results.{Fill, fill_wrote}
 use Rattle.meaning.specs.Promises.{PathsPromise}
 use Rattle.meaning.proofs.Tests.{pick_yes, le_yes}
-use Rattle.theory.specs.PathReader.{textPaths, answer_of, readPaths}
+use Rattle.theory.specs.PathReader.{text_paths, answer_of, read_paths}
 use Rattle.theory.specs.PathTable.{Row, OnlyRead, Holds, table}
-use Rattle.theory.proofs.Rows.{rows-hold}
-use Rattle.theory.proofs.PathComputed.{computed, stated, table-computed}
-use Rattle.theory.proofs.PathPromise.{read_keeps, answer-unique, buffer-unique}
+use Rattle.theory.proofs.Rows.{rows_hold}
+use Rattle.theory.proofs.PathComputed.{computed, stated, table_computed}
+use Rattle.theory.proofs.PathPromise.{read_keeps, answer_unique, buffer_unique}
 
-read-in-room : (text buffer : List ℕ) → 1024 ≤ length buffer → readPaths text buffer ≡ answer_of (textPaths text)
-unfolding readPaths
-read-in-room text buffer l = pick_yes _ _ (le_yes l)
+read_in_room : (text buffer : List ℕ) → 1024 ≤ length buffer → read_paths text buffer ≡ answer_of (text_paths text)
+unfolding read_paths
+read_in_room text buffer l = pick_yes _ _ (le_yes l)
 
-only-read : (text buffer : List ℕ) (r : Fill) → readPaths text buffer ≡ r → OnlyRead text buffer r
-only-read text buffer r e = record {
-  promised = subst (λ (s : Fill). PathsPromise text buffer s (fillWrote s buffer)) e (read_keeps text buffer);
-  only = λ {s} {after} p. (answer-unique text buffer s after p ∙ e, buffer-unique text buffer s after p ∙ ap (λ (k : Fill). fillWrote k buffer) e);
+only_read : (text buffer : List ℕ) (r : Fill) → read_paths text buffer ≡ r → OnlyRead text buffer r
+only_read text buffer r e = record {
+  promised = subst (λ (s : Fill). PathsPromise text buffer s (fill_wrote s buffer)) e (read_keeps text buffer);
+  only = λ {s} {after} p. (answer_unique text buffer s after p ∙ e, buffer_unique text buffer s after p ∙ ap (λ (k : Fill). fill_wrote k buffer) e);
 }
 
-row-holds : (row : Row) → computed row ≡ stated row → Holds row
-row-holds row e = λ buffer l. only-read row.text buffer row.answer (read-in-room row.text buffer l ∙ e)
+row_holds : (row : Row) → computed row ≡ stated row → Holds row
+row_holds row e = λ buffer l. only_read row.text buffer row.answer (read_in_room row.text buffer l ∙ e)
 
-pub table-holds : (row : Row) → Memᴰ row table → Holds row
-table-holds = rows-hold computed stated Holds row-holds table table-computed
+pub table_holds : (row : Row) → Memᴰ row table → Holds row
+table_holds = rows_hold computed stated Holds row_holds table table_computed

@@ -10,13 +10,13 @@ use Rattle.meaning.specs.Finite.{Yes}
 use Rattle.meaning.proofs.Tests.{is_eq, self_eq, and_left, and_right, and_both}
 use Rattle.theory.specs.Reader.{front}
 
-pub front-is : (bs w : List ℕ) → Yes (front bs w) → bs ≡ w ++ drop (length w) bs
+pub front_is : (bs w : List ℕ) → Yes (front bs w) → bs ≡ w ++ drop (length w) bs
 unfolding front
-front-is bs [] h = refl
-front-is [] (b ∷ w) h = absurd (false≢true h)
-front-is (a ∷ bs) (b ∷ w) h =
+front_is bs [] h = refl
+front_is [] (b ∷ w) h = absurd (false≢true h)
+front_is (a ∷ bs) (b ∷ w) h =
     let e : a ≡ b = is_eq (and_left _ h) in
-    let d = front-is bs w (and_right _ h) in
+    let d = front_is bs w (and_right _ h) in
     ap (λ (k : ℕ). k ∷ bs) e ∙ ap (λ (r : List ℕ). b ∷ r) d
 
 pub front_self : (w q : List ℕ) → Yes (front (w ++ q) w)

@@ -9,15 +9,15 @@ use lib.Dec.{eqb, ltb}
 use Rattle.meaning.specs.Finite.{Yes, ◌and◌, neg, sum}
 use Rattle.meaning.specs.Tree.{Node, Tree, Parent}
 use Rattle.meaning.specs.Xml.{Forest, Element, alone, count, NextChild, Children, IsOrdered}
-use Rattle.meaning.proofs.Tests.{clash, yes-case, pick_yes, pick_no, is_eq, eq_yes, self_eq, is_lt, lt_yes, and_left, and_right, and_both}
-use Rattle.meaning.proofs.Finite.{split-lt}
-use Rattle.meaning.proofs.XmlTrees.{forest-unique, ordered-unique, lower}
-use Rattle.theory.specs.Xml.{forestFrom, elementOf}
+use Rattle.meaning.proofs.Tests.{clash, yes_case, pick_yes, pick_no, is_eq, eq_yes, self_eq, is_lt, lt_yes, and_left, and_right, and_both}
+use Rattle.meaning.proofs.Finite.{split_lt}
+use Rattle.meaning.proofs.XmlTrees.{forest_unique, ordered_unique, lower}
+use Rattle.theory.specs.Xml.{forest_from, element_of}
 
 -- what is used of a tree
 pub record Shape (t : Tree) : Type 0 where
-  pub two-nodes : 1 < t.size
-  pub one-child : (v : Node) → Parent t 0 v → v ≡ 1
+  pub two_nodes : 1 < t.size
+  pub one_child : (v : Node) → Parent t 0 v → v ≡ 1
   pub smaller : (v : Node) → 0 < v → v < t.size → t.parent v < v
 
 module _ (t : Tree) (h : Shape t) where
@@ -30,54 +30,54 @@ module _ (t : Tree) (h : Shape t) where
   next_one : (i : ℕ) (u : Node) → i < t.size → Yes (ltb 0 i and eqb (t.parent i) u) → NextChild t u i i
   next_one i u l y = record {
     from = le_refl _;
-    is-child = record { not_first = is_lt (and_left _ y); inside = l; is = is_eq (and_right _ y) };
+    is_child = record { not_first = is_lt (and_left _ y); inside = l; is = is_eq (and_right _ y) };
     none_between = λ w a b p. omega arith;
   }
 
-  pub forest-is : (k i : ℕ) (u : Node) → i + k ≡ t.size → Children t u i (forestFrom t k i u)
-  unfolding forestFrom
-  forest-is zero i u e = λ v l p. let a = p.inside in omega arith
-  forest-is (suc k) i u e =
-      let c = forest-is k (suc i) i (omega arith) in
-      let r = forest-is k (suc i) u (omega arith) in
+  pub forest_is : (k i : ℕ) (u : Node) → i + k ≡ t.size → Children t u i (forest_from t k i u)
+  unfolding forest_from
+  forest_is zero i u e = λ v l p. let a = p.inside in omega arith
+  forest_is (suc k) i u e =
+      let c = forest_is k (suc i) i (omega arith) in
+      let r = forest_is k (suc i) u (omega arith) in
       ⊎_elim
-      (λ y. subst (Children t u i) (sym (pick_yes _ _ y)) (i, next_one i u (omega arith) y, refl, from_all (forestFrom t k (suc i) i) i c, r))
+      (λ y. subst (Children t u i) (sym (pick_yes _ _ y)) (i, next_one i u (omega arith) y, refl, from_all (forest_from t k (suc i) i) i c, r))
       (λ z. subst (Children t u i) (sym (pick_no _ _ (λ y. clash y z)))
-      (lower t (forestFrom t k (suc i) u) u i (suc i) (omega arith) (λ v a b p. not-here z v a b p) r))
-      (yes-case (ltb 0 i and eqb (t.parent i) u))
+      (lower t (forest_from t k (suc i) u) u i (suc i) (omega arith) (λ v a b p. not_here z v a b p) r))
+      (yes_case (ltb 0 i and eqb (t.parent i) u))
     where
-      not-here : Yes (neg (ltb 0 i and eqb (t.parent i) u)) → (v : Node) → i ≤ v → v < suc i → ¬ Parent t u v
-      not-here z v a b p =
+      not_here : Yes (neg (ltb 0 i and eqb (t.parent i) u)) → (v : Node) → i ≤ v → v < suc i → ¬ Parent t u v
+      not_here z v a b p =
           let d : v ≡ i = omega arith in
           let q : Parent t u i = subst (Parent t u) d p in
           clash (and_both (lt_yes q.not_first) (eq_yes q.is)) z
 
-  pub ordered-is : IsOrdered t (elementOf t)
-  unfolding elementOf
-  ordered-is =
-      let two = h.two-nodes in
+  pub ordered_is : IsOrdered t (element_of t)
+  unfolding element_of
+  ordered_is =
+      let two = h.two_nodes in
       let p : t.parent 1 < 1 = h.smaller 1 (omega arith) two in (
         1,
         record {
           from = zero-le;
-          is-child = record { not_first = omega arith; inside = two; is = omega arith };
+          is_child = record { not_first = omega arith; inside = two; is = omega arith };
           none_between = λ w a b q. let z = q.not_first in omega arith;
         },
         refl,
-        from_all (forestFrom t (t.size - 2) 2 1) 1 (forest-is (t.size - 2) 2 1 (omega arith)),
-        λ v l q. let e = h.one-child v q in omega arith,
+        from_all (forest_from t (t.size - 2) 2 1) 1 (forest_is (t.size - 2) 2 1 (omega arith)),
+        λ v l q. let e = h.one_child v q in omega arith,
       )
 
   -- every tree is exactly one ordered tree
-  pub ordered-only : (e : Element) → IsOrdered t e → e ≡ elementOf t
-  ordered-only e a = ordered-unique t e (elementOf t) a ordered-is
+  pub ordered_only : (e : Element) → IsOrdered t e → e ≡ element_of t
+  ordered_only e a = ordered_unique t e (element_of t) a ordered_is
 
 -- ---- one element for each node but the document node
 
-sum-zero : (i : ℕ) (f : ℕ → ℕ) → ((u : ℕ) → f u ≡ 0) → sum i f ≡ 0
+sum_zero : (i : ℕ) (f : ℕ → ℕ) → ((u : ℕ) → f u ≡ 0) → sum i f ≡ 0
 unfolding sum
-sum-zero zero f z = refl
-sum-zero (suc i) f z = let a = sum-zero i f z in let b = z i in omega arith
+sum_zero zero f z = refl
+sum_zero (suc i) f z = let a = sum_zero i f z in let b = z i in omega arith
 
 sum_same : (i : ℕ) (f g : ℕ → ℕ) → ((u : ℕ) → u < i → g u ≡ f u) → sum i g ≡ sum i f
 unfolding sum
@@ -88,7 +88,7 @@ sum_same (suc i) f g e = let a = sum_same i f g (λ u l. e u (omega arith)) in l
 sum_more : (i p x : ℕ) (f g : ℕ → ℕ) → p < i → ((u : ℕ) → u < i → u ≢ p → g u ≡ f u) → g p ≡ f p + x → sum i g ≡ sum i f + x
 unfolding sum
 sum_more zero p x f g l e d = absurd (not-suc-le-zero l)
-sum_more (suc i) p x f g l e d = ⊎_elim last (λ q. earlier q (sum_more i p x f g q (λ u m n. e u (omega arith) n) d)) (split-lt l)
+sum_more (suc i) p x f g l e d = ⊎_elim last (λ q. earlier q (sum_more i p x f g q (λ u m n. e u (omega arith) n) d)) (split_lt l)
   where
     last : p ≡ i → sum i g + g i ≡ sum i f + f i + x
     last q =
@@ -103,36 +103,36 @@ sum_more (suc i) p x f g l e d = ⊎_elim last (λ q. earlier q (sum_more i p x 
 
 module _ (t : Tree) (h : Shape t) where
   -- the k numbers from i on stand below those before i, each below one
-  counted : (k i : ℕ) → i + k ≡ t.size → 0 < i → sum i (λ u. count (forestFrom t k i u)) ≡ k
-  unfolding forestFrom
-  counted zero i e l = sum-zero i _ (λ u. unfold count in refl)
+  counted : (k i : ℕ) → i + k ≡ t.size → 0 < i → sum i (λ u. count (forest_from t k i u)) ≡ k
+  unfolding forest_from
+  counted zero i e l = sum_zero i _ (λ u. unfold count in refl)
   counted (suc k) i e l =
       let p = t.parent i in
       let b : p < i = h.smaller i l (omega arith) in
-      let f : ℕ → ℕ = λ u. count (forestFrom t k (suc i) u) in
+      let f : ℕ → ℕ = λ u. count (forest_from t k (suc i) u) in
       let a = counted k (suc i) (omega arith) (omega arith) in
       let s : sum (suc i) f ≡ sum i f + f i = unfold sum in refl in
       let m =
-      sum_more i p (suc (f i)) f (λ u. count (forestFrom t (suc k) i u)) b
+      sum_more i p (suc (f i)) f (λ u. count (forest_from t (suc k) i u)) b
       (λ u d n. ap count (pick_no _ _ (λ y. n (sym (is_eq (and_right _ y))))))
       (ap count (pick_yes _ _ (and_both (lt_yes l) (self_eq p))) ∙ (unfold count in omega arith)) in
       omega arith
 
   -- what stands next under the document node is the outermost element alone
-  pub outermost-forest : (e : Element) → IsOrdered t e → alone e ≡ forestFrom t (t.size - 1) 1 0
-  outermost-forest e a =
+  pub outermost_forest : (e : Element) → IsOrdered t e → alone e ≡ forest_from t (t.size - 1) 1 0
+  outermost_forest e a =
       let k = t.size - 1 in
-      let two = h.two-nodes in
-      let w = forestFrom t k 1 0 in
-      forest-unique t (alone e) w 0 0 a (from_all t h w 0 (forest-is t h k 1 0 (omega arith)))
+      let two = h.two_nodes in
+      let w = forest_from t k 1 0 in
+      forest_unique t (alone e) w 0 0 a (from_all t h w 0 (forest_is t h k 1 0 (omega arith)))
 
-  pub ordered-count : (e : Element) → IsOrdered t e → suc (count (alone e)) ≡ t.size
-  ordered-count e a =
+  pub ordered_count : (e : Element) → IsOrdered t e → suc (count (alone e)) ≡ t.size
+  ordered_count e a =
       let k = t.size - 1 in
-      let two = h.two-nodes in
-      let w = forestFrom t k 1 0 in
-      let d : alone e ≡ w = outermost-forest e a in
+      let two = h.two_nodes in
+      let w = forest_from t k 1 0 in
+      let d : alone e ≡ w = outermost_forest e a in
       let c = counted k 1 (omega arith) (omega arith) in
-      let s : sum 1 (λ u. count (forestFrom t k 1 u)) ≡ 0 + count w = unfold sum in refl in
+      let s : sum 1 (λ u. count (forest_from t k 1 u)) ≡ 0 + count w = unfold sum in refl in
       let b = ap count d in
       omega arith

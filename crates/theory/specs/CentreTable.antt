@@ -2,7 +2,7 @@
 -- said of the promise of the meaning alone: its answer is promised, with the list that it leaves, and no other is.
 use Rattle.std.specs.Prelude.{◌≡◌, List, [], ◌∷◌, ℕ, replicate}
 use Rattle.meaning.specs.declared.Centre.{Centre}
-use Rattle.meaning.specs.Centres.{Drawn, draw-granted, draw-refused, DrawPromise}
+use Rattle.meaning.specs.Centres.{Drawn, draw_granted, draw_refused, DrawPromise}
 
 -- a draw by a centre from a list of centres under a total, what it is answered, and the list afterwards
 pub record Row : Type 0 where
@@ -22,10 +22,10 @@ abbrev pub c : ℕ → ℕ → ℕ → Centre
 c guarantee cap drawn = record { guarantee = guarantee; cap = cap; drawn = drawn }
 
 abbrev pub grants : ℕ → List Centre → ℕ → ℕ → List Centre → Row
-grants total list by amount after = record { total = total; list = list; by = by; amount = amount; answer = draw-granted; after = after }
+grants total list by amount after = record { total = total; list = list; by = by; amount = amount; answer = draw_granted; after = after }
 
 abbrev pub refuses : ℕ → List Centre → ℕ → ℕ → ℕ → Row
-refuses total list by amount q = record { total = total; list = list; by = by; amount = amount; answer = draw-refused q; after = list }
+refuses total list by amount q = record { total = total; list = list; by = by; amount = amount; answer = draw_refused q; after = list }
 
 -- two centres, before and after the second has drawn all that remains
 abbrev pub two : List Centre

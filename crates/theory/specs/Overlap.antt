@@ -2,46 +2,46 @@
 -- as the first does, and what is owed beside them (proofs/Overlap.antt). Nothing that runs cites them.
 use Rattle.std.specs.Prelude.{◌≡◌, List, [], ◌∷◌, ℕ, ◌≤◌}
 use Rattle.meaning.specs.Constraint.{Constraint, Fact, below, facts_of}
-use Rattle.meaning.specs.FixedSearch.{parent-join, chain-join, sibling-join, document-join, Join, join, second-alternative, Outcome}
-use Rattle.meaning.specs.Demand.{Answer, a-tree, a-none, a-spent, count_of, Answers, Demand3}
-use Rattle.theory.specs.Search.{EndsBy, searchBy}
+use Rattle.meaning.specs.FixedSearch.{parent-join, chain-join, sibling-join, document-join, Join, join, second_alternative, Outcome}
+use Rattle.meaning.specs.Demand.{Answer, a_tree, a_none, a-spent, count_of, Answers, Demand3}
+use Rattle.theory.specs.Search.{EndsBy, search_by}
 use Rattle.theory.specs.Solve.{answer}
 
 -- "below(x,y), then below(y,x)"
-abbrev pub second-before : Join → List Fact
-second-before (join parent-join z x y) = second-alternative (join parent-join z x y)
-second-before (join chain-join z x y) = below y x ∷ []
-second-before (join sibling-join y a x) = second-alternative (join sibling-join y a x)
-second-before (join document-join r y w) = second-alternative (join document-join r y w)
+abbrev pub second_before : Join → List Fact
+second_before (join parent-join z x y) = second_alternative (join parent-join z x y)
+second_before (join chain-join z x y) = below y x ∷ []
+second_before (join sibling-join y a x) = second_alternative (join sibling-join y a x)
+second_before (join document-join r y w) = second_alternative (join document-join r y w)
 
 -- what was answered under the allowance A by the rules of before
 pub record AnsweredBefore (A n : ℕ) (cs : List Constraint) (was : Answer) : Type 0 where
   pub outcome : Outcome
   pub count : ℕ
-  pub ends : EndsBy second-before n (facts_of cs) outcome count
+  pub ends : EndsBy second_before n (facts_of cs) outcome count
   pub answers : Answers A n outcome count was
 
 -- the same, computed
-unfoldable pub solveBefore : ℕ → ℕ → List Constraint → Answer
-solveBefore A n cs = answer A n (searchBy second-before n (facts_of cs))
+unfoldable pub solve_before : ℕ → ℕ → List Constraint → Answer
+solve_before A n cs = answer A n (search_by second_before n (facts_of cs))
 
 -- "under one allowance a tree stays that tree, a none stays none and no count rises": of what it was and what it is
 pub record Stays (was is : Answer) : Type 0 where
-  pub tree : {c : ℕ} {bs : List ℕ} → was ≡ a-tree c bs → (d : ℕ) × (is ≡ a-tree d bs)
-  pub none : {c : ℕ} → was ≡ a-none c → (d : ℕ) × (is ≡ a-none d)
+  pub tree : {c : ℕ} {bs : List ℕ} → was ≡ a_tree c bs → (d : ℕ) × (is ≡ a_tree d bs)
+  pub none : {c : ℕ} → was ≡ a_none c → (d : ℕ) × (is ≡ a_none d)
   pub no_more : count_of is ≤ count_of was
 
 -- the same verdict, with the same bytes
 abbrev pub SameVerdict : Answer → Answer → Type 0
-SameVerdict (a-tree c bs) (a-tree d ds) = bs ≡ ds
-SameVerdict (a-none c) (a-none d) = Unit {0}
+SameVerdict (a_tree c bs) (a_tree d ds) = bs ≡ ds
+SameVerdict (a_none c) (a_none d) = Unit {0}
 SameVerdict (a-spent c) (a-spent d) = Unit {0}
-SameVerdict (a-tree c bs) (a-none d) = ⊥
-SameVerdict (a-tree c bs) (a-spent d) = ⊥
-SameVerdict (a-none c) (a-tree d ds) = ⊥
-SameVerdict (a-none c) (a-spent d) = ⊥
-SameVerdict (a-spent c) (a-tree d ds) = ⊥
-SameVerdict (a-spent c) (a-none d) = ⊥
+SameVerdict (a_tree c bs) (a_none d) = ⊥
+SameVerdict (a_tree c bs) (a-spent d) = ⊥
+SameVerdict (a_none c) (a_tree d ds) = ⊥
+SameVerdict (a_none c) (a-spent d) = ⊥
+SameVerdict (a-spent c) (a_tree d ds) = ⊥
+SameVerdict (a-spent c) (a_none d) = ⊥
 
 -- What is owed, of any answers that the rules of before gave and that demand 3 promises.
 pub record Overlap (n : ℕ) (cs : List Constraint) : Type 0 where

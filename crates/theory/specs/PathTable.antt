@@ -3,7 +3,7 @@
 use Rattle.std.specs.Prelude.{◌≡◌, List, [], ◌∷◌, ◌++◌, ℕ, ◌≤◌, length}
 use Prim.Native.String.{String}
 use Rattle.meaning.specs.Ascii.{ascii}
-use Rattle.meaning.specs.Results.{Fill, fill-refused, fill-written, fillWrote}
+use Rattle.meaning.specs.Results.{Fill, fill_refused, fill_written, fill_wrote}
 use Rattle.meaning.specs.Promises.{PathsPromise}
 
 pub record Row : Type 0 where
@@ -12,8 +12,8 @@ pub record Row : Type 0 where
 
 -- the path reader's promise holds of r and the buffer as r leaves it, and of nothing else
 pub record OnlyRead (text buffer : List ℕ) (r : Fill) : Type 0 where
-  pub promised : PathsPromise text buffer r (fillWrote r buffer)
-  pub only : {s : Fill} {after : List ℕ} → PathsPromise text buffer s after → (s ≡ r) × (after ≡ fillWrote r buffer)
+  pub promised : PathsPromise text buffer r (fill_wrote r buffer)
+  pub only : {s : Fill} {after : List ℕ} → PathsPromise text buffer s after → (s ≡ r) × (after ≡ fill_wrote r buffer)
 
 abbrev pub Holds : Row → Type 0
 Holds row = (buffer : List ℕ) → 1024 ≤ length buffer → OnlyRead row.text buffer row.answer
@@ -25,10 +25,10 @@ abbrev pub four : ℕ → ℕ → ℕ → ℕ → List ℕ
 four a b c d = a ∷ b ∷ c ∷ d ∷ []
 
 abbrev pub reads : String → List ℕ → Row
-reads text bytes = record { text = ascii text; answer = fill-written bytes }
+reads text bytes = record { text = ascii text; answer = fill_written bytes }
 
 abbrev pub refuses : String → ℕ → Row
-refuses text question = record { text = ascii text; answer = fill-refused question }
+refuses text question = record { text = ascii text; answer = fill_refused question }
 
 -- same(1,0) label(0,a): the start has the first number left
 abbrev pub P1 : Row

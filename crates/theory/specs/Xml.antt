@@ -3,36 +3,36 @@
 use Rattle.std.specs.Prelude.{Bool, true, false, List, [], ◌∷◌, ℕ, zero, suc, ◌-◌, length, get_or, drop, eqb, leb, ltb}
 use Rattle.meaning.specs.Tree.{Node, Label, Tree}
 use Rattle.meaning.specs.Finite.{pick, ◌and◌, ◌or◌}
-use Rattle.meaning.specs.ReadOff.{tree_of, nodeBytes}
-use Rattle.meaning.specs.Files.{JudgedNodes, refused-nodes, accepted-nodes, judgeNodes}
-use Rattle.meaning.specs.Paths.{isLetter}
-use Rattle.meaning.specs.Results.{Fill, fill-refused, fill-written}
-use Rattle.meaning.specs.Xml.{Forest, no-element, element, Element, alone, count, elementText, documentRecords, recordsNameable}
+use Rattle.meaning.specs.ReadOff.{tree_of, node_bytes}
+use Rattle.meaning.specs.Files.{JudgedNodes, refused_nodes, accepted_nodes, judge_nodes}
+use Rattle.meaning.specs.Paths.{is_letter}
+use Rattle.meaning.specs.Results.{Fill, fill_refused, fill_written}
+use Rattle.meaning.specs.Xml.{Forest, no_element, element, Element, alone, count, element_text, document_records, records_nameable}
 use Rattle.theory.specs.Reader.{Got, nothing, got, and_then, front}
 
 -- ---- the ordered tree
 
 -- the children of u among the k numbers from i on: a child's own children have larger numbers than it has
-unfoldable pub forestFrom : Tree → ℕ → ℕ → Node → Forest
-forestFrom t zero i u = no-element
-forestFrom t (suc k) i u =
-    let c = forestFrom t k (suc i) i in
-    let r = forestFrom t k (suc i) u in
+unfoldable pub forest_from : Tree → ℕ → ℕ → Node → Forest
+forest_from t zero i u = no_element
+forest_from t (suc k) i u =
+    let c = forest_from t k (suc i) i in
+    let r = forest_from t k (suc i) u in
     pick (ltb 0 i and eqb (t.parent i) u) (element (t.label i) c r) r
 
 -- the outermost element is node 1
-unfoldable pub elementOf : Tree → Element
-elementOf t = record { label = t.label 1; children = forestFrom t (t.size - 2) 2 1 }
+unfoldable pub element_of : Tree → Element
+element_of t = record { label = t.label 1; children = forest_from t (t.size - 2) 2 1 }
 
 -- 17, then 15
 unfoldable pub written_of : JudgedNodes → List ℕ → Fill
-written_of (refused-nodes q) buffer = fill-refused q
-written_of (accepted-nodes vs) buffer =
-    pick (leb 512 (length buffer)) (pick (recordsNameable vs) (fill-written (elementText (elementOf (tree_of vs)))) (fill-refused 15)) (fill-refused 17)
+written_of (refused_nodes q) buffer = fill_refused q
+written_of (accepted_nodes vs) buffer =
+    pick (leb 512 (length buffer)) (pick (records_nameable vs) (fill_written (element_text (element_of (tree_of vs)))) (fill_refused 15)) (fill_refused 17)
 
 -- 8 to 11 first
-unfoldable pub writeXml : List ℕ → List ℕ → Fill
-writeXml nodes buffer = written_of (judgeNodes nodes) buffer
+unfoldable pub write_xml : List ℕ → List ℕ → Fill
+write_xml nodes buffer = written_of (judge_nodes nodes) buffer
 
 -- ---- the reader
 
@@ -40,48 +40,48 @@ writeXml nodes buffer = written_of (judgeNodes nodes) buffer
 abbrev pub name_at : List ℕ → ℕ
 name_at bs = get_or bs 1 0
 
-unfoldable pub isName : ℕ → Bool
-isName b = eqb b 95 or isLetter b
+unfoldable pub is_name : ℕ → Bool
+is_name b = eqb b 95 or is_letter b
 
-unfoldable pub labelNamed : ℕ → Label
-labelNamed b = pick (eqb b 95) 0 b
+unfoldable pub label_named : ℕ → Label
+label_named b = pick (eqb b 95) 0 b
 
 -- < and a name
 unfoldable pub opens : List ℕ → Bool
-opens bs = front bs (60 ∷ name_at bs ∷ []) and isName (name_at bs)
+opens bs = front bs (60 ∷ name_at bs ∷ []) and is_name (name_at bs)
 
 -- at least one element
 unfoldable pub some : Forest → Bool
-some no-element = false
+some no_element = false
 some (element l c r) = true
 
 -- as many elements as follow
-unfoldable pub forestAt : ℕ → List ℕ → Got Forest
-forestAt zero bs = nothing
-forestAt (suc k) bs =
+unfoldable pub forest_at : ℕ → List ℕ → Got Forest
+forest_at zero bs = nothing
+forest_at (suc k) bs =
     let n = name_at bs in
     let p = drop 2 bs in
-    let leaf = and_then (forestAt k (drop 2 p)) λ r q. got (element (labelNamed n) no-element r) q in
-    let whole = and_then (forestAt k (drop 1 p)) λ c q.
-    pick (some c and front q (60 ∷ 47 ∷ n ∷ 62 ∷ [])) (and_then (forestAt k (drop 4 q)) λ r s. got (element (labelNamed n) c r) s) nothing in
-    pick (opens bs) (pick (front p (47 ∷ 62 ∷ [])) leaf (pick (front p (62 ∷ [])) whole nothing)) (got no-element bs)
+    let leaf = and_then (forest_at k (drop 2 p)) λ r q. got (element (label_named n) no_element r) q in
+    let whole = and_then (forest_at k (drop 1 p)) λ c q.
+    pick (some c and front q (60 ∷ 47 ∷ n ∷ 62 ∷ [])) (and_then (forest_at k (drop 4 q)) λ r s. got (element (label_named n) c r) s) nothing in
+    pick (opens bs) (pick (front p (47 ∷ 62 ∷ [])) leaf (pick (front p (62 ∷ [])) whole nothing)) (got no_element bs)
 
 -- one element and no byte after it, of at most 63
 unfoldable pub outermost : Got Forest → Got Element
 outermost nothing = nothing
-outermost (got no-element q) = nothing
-outermost (got (element l c no-element) q) =
+outermost (got no_element q) = nothing
+outermost (got (element l c no_element) q) =
     let e : Element = record { label = l; children = c } in pick (eqb (length q) 0 and leb (suc (count (alone e))) 64) (got e q) nothing
 outermost (got (element l c (element m d s)) q) = nothing
 
-unfoldable pub textElement : List ℕ → Got Element
-textElement text = outermost (forestAt 64 text)
+unfoldable pub text_element : List ℕ → Got Element
+text_element text = outermost (forest_at 64 text)
 
 -- 16
 unfoldable pub read_of : Got Element → Fill
-read_of nothing = fill-refused 16
-read_of (got e q) = fill-written (nodeBytes 0 (documentRecords e))
+read_of nothing = fill_refused 16
+read_of (got e q) = fill_written (node_bytes 0 (document_records e))
 
 -- 17 first
-unfoldable pub readXml : List ℕ → List ℕ → Fill
-readXml text buffer = pick (leb 256 (length buffer)) (read_of (textElement text)) (fill-refused 17)
+unfoldable pub read_xml : List ℕ → List ℕ → Fill
+read_xml text buffer = pick (leb 256 (length buffer)) (read_of (text_element text)) (fill_refused 17)

@@ -1,9 +1,9 @@
 // Reads a tree that was written as XML: the outermost element to the end of the text, the elements inside it, and theirs. Parents and labels are
 // gathered in document order; all of the text is read before a byte is written.
 ghost use Rattle.std.specs.Prelude.{◌≡◌, ◌*◌, ◌≤◌, length};
-ghost use Rattle.meaning.specs.Results.{fillWrote};
+ghost use Rattle.meaning.specs.Results.{fill_wrote};
 ghost use Rattle.lent.specs.Filling.{AnswerOf};
-ghost use Rattle.theory.specs.Xml.{isName, labelNamed, readXml};
+ghost use Rattle.theory.specs.Xml.{is_name, label_named, read_xml};
 ghost use Rattle.xmlreader.specs.Reading.{opens_at, empty_at, closes_at, Single, Ended, Readable, ForestRead, Began, NodesWritten};
 
 use lent::{Answer, byte_at};
@@ -21,7 +21,7 @@ enum Step {
 
 // _ or a letter.
 fn is_name(byte: u8) -> bool
-    ensures { result ≡ isName byte }
+    ensures { result ≡ is_name byte }
 {
     if byte == b'_' {
         return true;
@@ -31,7 +31,7 @@ fn is_name(byte: u8) -> bool
 
 // _ names a blank.
 fn label_named(name: u8) -> u8
-    ensures { result ≡ labelNamed name }
+    ensures { result ≡ label_named name }
 {
     if name == b'_' { 0 } else { name }
 }
@@ -168,8 +168,8 @@ fn put_nodes(ups: &[u8; 64], labels: &[u8; 64], count: usize, nodes: &mut [u8])
 
 // Reads a text and writes the node records of its tree, numbered in document order, to the front of the buffer.
 pub fn read(text: &[u8], nodes: &mut [u8]) -> Answer
-    ensures answer_of { AnswerOf (readXml text.now nodes.old) result }
-    ensures wrote { nodes.new ≡ fillWrote (readXml text.now nodes.old) nodes.old }
+    ensures answer_of { AnswerOf (read_xml text.now nodes.old) result }
+    ensures wrote { nodes.new ≡ fill_wrote (read_xml text.now nodes.old) nodes.old }
 {
     if nodes.len() < 256 {
         return Answer::Refused(17);

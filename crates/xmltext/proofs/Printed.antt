@@ -10,60 +10,60 @@ use lib.Seq.{length-take-le, take_all}
 use lib.Dec.{leb}
 use Rattle.meaning.specs.Ascii.{ascii}
 use Rattle.meaning.specs.Finite.{pick, ◌and◌}
-use Rattle.meaning.specs.Files.{JudgedNodes, refused-nodes, judgeNodes}
-use Rattle.meaning.specs.Results.{Fill, fill-refused}
-use Rattle.meaning.specs.Text.{beforeLast, digitsOf, decimal, numbered, fillText}
+use Rattle.meaning.specs.Files.{JudgedNodes, refused_nodes, judge_nodes}
+use Rattle.meaning.specs.Results.{Fill, fill_refused}
+use Rattle.meaning.specs.Text.{before_last, digits_of, decimal, numbered, fill_text}
 use Rattle.meaning.specs.Xml.{Element}
 use Rattle.theory.specs.Reader.{Got, nothing, front}
-use Rattle.theory.specs.Xml.{written_of, writeXml, opens, forestAt, outermost, textElement, read_of, readXml}
-use Rattle.theory.proofs.XmlReader.{no-form, form-short}
-use Rattle.theory.proofs.XmlPromise.{write-alike, write_keeps, read_alike, read_keeps}
+use Rattle.theory.specs.Xml.{written_of, write_xml, opens, forest_at, outermost, text_element, read_of, read_xml}
+use Rattle.theory.proofs.XmlReader.{no_form, form_short}
+use Rattle.theory.proofs.XmlPromise.{write_alike, write_keeps, read_alike, read_keeps}
 use Rattle.answers.specs.Pieces.{kept, joined}
-use Rattle.answers.proofs.ShorterNodes.{nodes-as-joined}
+use Rattle.answers.proofs.ShorterNodes.{nodes_as_joined}
 use Rattle.putting.specs.Fronts.{Fronted}
-use Rattle.xmltext.specs.Printing.{textRoom, nodesRoom, WrittenAs, ReadAs}
+use Rattle.xmltext.specs.Printing.{text_room, nodes_room, WrittenAs, ReadAs}
 
 -- ---- the buffer
 
-pub written_as : (nodes before : List ℕ) (k : ℕ) (last : List ℕ) → 512 ≤ length before → Fronted (fillText (writeXml nodes before)) before k last → WrittenAs nodes before k last
-unfolding writeXml
+pub written_as : (nodes before : List ℕ) (k : ℕ) (last : List ℕ) → 512 ≤ length before → Fronted (fill_text (write_xml nodes before)) before k last → WrittenAs nodes before k last
+unfolding write_xml
 written_as nodes before k last l f =
-    let e : length textRoom ≡ 512 = length-replicate {A = ℕ} 512 0 in
+    let e : length text_room ≡ 512 = length-replicate {A = ℕ} 512 0 in
     record {
-      output = subst (λ (q : Fill). Fronted (fillText q) before k last) (write-alike (judgeNodes nodes) before textRoom l (omega arith)) f;
-      promise = write_keeps nodes textRoom;
+      output = subst (λ (q : Fill). Fronted (fill_text q) before k last) (write_alike (judge_nodes nodes) before text_room l (omega arith)) f;
+      promise = write_keeps nodes text_room;
     }
 
-pub read_as : (text before : List ℕ) (k : ℕ) (last : List ℕ) → 256 ≤ length before → Fronted (fillText (readXml text before)) before k last → ReadAs text before k last
+pub read_as : (text before : List ℕ) (k : ℕ) (last : List ℕ) → 256 ≤ length before → Fronted (fill_text (read_xml text before)) before k last → ReadAs text before k last
 read_as text before k last l f =
-    let e : length nodesRoom ≡ 256 = length-replicate {A = ℕ} 256 0 in
+    let e : length nodes_room ≡ 256 = length-replicate {A = ℕ} 256 0 in
     record {
-      output = subst (λ (q : Fill). Fronted (fillText q) before k last) (read_alike text before nodesRoom l (omega arith)) f;
-      promise = read_keeps text nodesRoom;
+      output = subst (λ (q : Fill). Fronted (fill_text q) before k last) (read_alike text before nodes_room l (omega arith)) f;
+      promise = read_keeps text nodes_room;
     }
 
 -- ---- what is read
 
-pub nodes-read : (pieces : List (List ℕ)) (buffer : List ℕ) → writeXml (kept pieces) buffer ≡ writeXml (joined pieces) buffer
-unfolding writeXml
-nodes-read pieces buffer = ap (λ (j : JudgedNodes). written_of j buffer) (nodes-as-joined pieces)
+pub nodes_read : (pieces : List (List ℕ)) (buffer : List ℕ) → write_xml (kept pieces) buffer ≡ write_xml (joined pieces) buffer
+unfolding write_xml
+nodes_read pieces buffer = ap (λ (j : JudgedNodes). written_of j buffer) (nodes_as_joined pieces)
 
-long-text : (text : List ℕ) → 438 < length text → textElement text ≡ nothing
-long-text text l = no-form text (λ e f. let s = form-short f in omega arith)
+long_text : (text : List ℕ) → 438 < length text → text_element text ≡ nothing
+long_text text l = no_form text (λ e f. let s = form_short f in omega arith)
 
-pub text-read : (text buffer : List ℕ) → readXml (take 439 text) buffer ≡ readXml text buffer
-unfolding readXml
-text-read text buffer = ap (λ (g : Got Element). pick (leb 256 (length buffer)) (read_of g) (fill-refused 17)) (by (dec_le (length text) 439))
+pub text_read : (text buffer : List ℕ) → read_xml (take 439 text) buffer ≡ read_xml text buffer
+unfolding read_xml
+text_read text buffer = ap (λ (g : Got Element). pick (leb 256 (length buffer)) (read_of g) (fill_refused 17)) (by (dec_le (length text) 439))
   where
-    by : Dec (length text ≤ 439) → textElement (take 439 text) ≡ textElement text
-    by (yes l) = ap textElement (take_all 439 text l)
-    by (no l) = let n = length-take-le 439 text (omega arith) in long-text (take 439 text) (omega arith) ∙ sym (long-text text (omega arith))
+    by : Dec (length text ≤ 439) → text_element (take 439 text) ≡ text_element text
+    by (yes l) = ap text_element (take_all 439 text l)
+    by (no l) = let n = length-take-le 439 text (omega arith) in long_text (take 439 text) (omega arith) ∙ sym (long_text text (omega arith))
 
 -- ---- what is refused
 
 -- neither program takes the line of the other's refusal for a tree
-pub refusal-no-tree : (judgeNodes (fillText (fill-refused 16)) ≡ refused-nodes 8)
-    × (textElement (fillText (fill-refused 8)) ≡ nothing) × (textElement (fillText (fill-refused 9)) ≡ nothing) × (textElement (fillText (fill-refused 10)) ≡ nothing)
-    × (textElement (fillText (fill-refused 11)) ≡ nothing) × (textElement (fillText (fill-refused 15)) ≡ nothing)
-unfolding judgeNodes textElement outermost forestAt opens front fillText numbered ascii decimal digitsOf beforeLast pick ◌and◌
-refusal-no-tree = (refl, refl, refl, refl, refl, refl)
+pub refusal_no_tree : (judge_nodes (fill_text (fill_refused 16)) ≡ refused_nodes 8)
+    × (text_element (fill_text (fill_refused 8)) ≡ nothing) × (text_element (fill_text (fill_refused 9)) ≡ nothing) × (text_element (fill_text (fill_refused 10)) ≡ nothing)
+    × (text_element (fill_text (fill_refused 11)) ≡ nothing) × (text_element (fill_text (fill_refused 15)) ≡ nothing)
+unfolding judge_nodes text_element outermost forest_at opens front fill_text numbered ascii decimal digits_of before_last pick ◌and◌
+refusal_no_tree = (refl, refl, refl, refl, refl, refl)

@@ -2,19 +2,19 @@
 // and the elements are written from the outermost one on: everything is read before a byte is written.
 ghost use Rattle.std.specs.Prelude.{◌≡◌, [], ◌∷◌, map, ◌+◌, ◌≤◌, length, get_or, replicate};
 ghost use Rattle.meaning.specs.Files.{quads, node_of};
-ghost use Rattle.meaning.specs.Results.{fillWrote};
-ghost use Rattle.meaning.specs.Xml.{isNameable, name_of, forestText, recordsNameable};
+ghost use Rattle.meaning.specs.Results.{fill_wrote};
+ghost use Rattle.meaning.specs.Xml.{is_nameable, name_of, forest_text, records_nameable};
 ghost use Rattle.lent.specs.Filling.{AnswerOf};
 ghost use Rattle.lent.specs.Putting.{Put};
-ghost use Rattle.theory.specs.Xml.{writeXml};
-ghost use Rattle.xmlwriter.specs.Links.{forestIn, Linkable, Linked, Fits, ForestWritten};
+ghost use Rattle.theory.specs.Xml.{write_xml};
+ghost use Rattle.xmlwriter.specs.Links.{forest_in, Linkable, Linked, Fits, ForestWritten};
 
 use answers::Judgement;
 use lent::Answer;
 
 // Question 15 of a label: 0 or a letter.
 fn is_nameable(label: u8) -> bool
-    ensures { result ≡ isNameable label }
+    ensures { result ≡ is_nameable label }
 {
     if label == 0 {
         return true;
@@ -24,7 +24,7 @@ fn is_nameable(label: u8) -> bool
 
 // Question 15 of every node.
 fn all_nameable(nodes: &[u8]) -> bool
-    ensures { result ≡ recordsNameable (map node_of (quads nodes.now)) }
+    ensures { result ≡ records_nameable (map node_of (quads nodes.now)) }
 {
     let mut i: usize = 0;
     while i < nodes.len() / 4 {
@@ -47,7 +47,7 @@ fn name_of(label: u8) -> u8
 // Each node's first child and next sibling, 0 for none, and its name: from the last node to the first, so that each is put before its later siblings.
 fn link(nodes: &[u8], first: &mut [u8; 64], next: &mut [u8; 64], names: &mut [u8; 64])
     requires { Linkable nodes.now × (first.old ≡ replicate 64 0) × (length next.old ≡ 64) × (length names.old ≡ 64) }
-    ensures { Linked first.new next.new names.new 1 (get_or first.new 0 0) (forestIn nodes.now) }
+    ensures { Linked first.new next.new names.new 1 (get_or first.new 0 0) (forest_in nodes.now) }
 {
     let mut k = nodes.len() / 4;
     while 1 < k {
@@ -114,8 +114,8 @@ fn put_elements(
 
 // Puts the outermost element of accepted records.
 fn put_tree(nodes: &[u8], text: &mut [u8]) -> usize
-    requires { Linkable nodes.now × (length (forestText (forestIn nodes.now)) ≤ length text.old) }
-    ensures { Put text.old 0 (forestText (forestIn nodes.now)) result text.new }
+    requires { Linkable nodes.now × (length (forest_text (forest_in nodes.now)) ≤ length text.old) }
+    ensures { Put text.old 0 (forest_text (forest_in nodes.now)) result text.new }
 {
     let mut first = [0u8; 64];
     let mut next = [0u8; 64];
@@ -127,8 +127,8 @@ fn put_tree(nodes: &[u8], text: &mut [u8]) -> usize
 
 // Writes the text of a tree, given by its node records, to the front of the buffer.
 pub fn write(nodes: &[u8], text: &mut [u8]) -> Answer
-    ensures answer_of { AnswerOf (writeXml nodes.now text.old) result }
-    ensures wrote { text.new ≡ fillWrote (writeXml nodes.now text.old) text.old }
+    ensures answer_of { AnswerOf (write_xml nodes.now text.old) result }
+    ensures wrote { text.new ≡ fill_wrote (write_xml nodes.now text.old) text.old }
 {
     let judgement = answers::judge_nodes(nodes);
     match judgement {

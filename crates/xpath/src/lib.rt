@@ -1,7 +1,7 @@
 // Questions set as paths: a text of 1 to 8 lines is read, its nodes are numbered and its records are gathered on a sheet; then they are written.
 ghost use Rattle.std.specs.Prelude.{◌≡◌, ◌++◌, ◌≤◌, length, take, drop};
-ghost use Rattle.meaning.specs.Results.{fillWrote};
-ghost use Rattle.theory.specs.PathReader.{readPaths};
+ghost use Rattle.meaning.specs.Results.{fill_wrote};
+ghost use Rattle.theory.specs.PathReader.{read_paths};
 ghost use Rattle.steps.specs.Reading.{Ahead};
 ghost use Rattle.xpath.specs.Reading.{LineRead, LinesRead};
 ghost use Rattle.lent.specs.Filling.{AnswerOf};
@@ -68,8 +68,8 @@ fn copy(sheet: &[u8; SHEET_BYTES], bytes: usize, records: &mut [u8])
 
 // Reads a text of 1 to 8 lines and writes its records to the front of the buffer.
 pub fn read(text: &[u8], records: &mut [u8]) -> Answer
-    ensures answer_of { AnswerOf (readPaths text.now records.old) result }
-    ensures wrote { records.new ≡ fillWrote (readPaths text.now records.old) records.old }
+    ensures answer_of { AnswerOf (read_paths text.now records.old) result }
+    ensures wrote { records.new ≡ fill_wrote (read_paths text.now records.old) records.old }
 {
     if records.len() < 1024 {
         return Answer::Refused(7);

@@ -8,10 +8,10 @@ use Rattle.meaning.specs.FixedSearch.{document-join}
 use Rattle.tables.specs.Tables.{row}
 use Rattle.tables.specs.Rows.{Lowest, without}
 use Rattle.tables.specs.declared.Facts.{Facts}
-use Rattle.stages.specs.Found.{join_of, withBelow}
-use Rattle.ancestors.specs.Rows.{withDocument}
+use Rattle.stages.specs.Found.{join_of, with_below}
+use Rattle.ancestors.specs.Rows.{with_document}
 use Rattle.stages.proofs.Stage.{none_first}
-use Rattle.ancestors.proofs.Document.{none-without-root, none-without-child, none_left, document-first}
+use Rattle.ancestors.proofs.Document.{none_without_root, none_without_child, none_left, document_first}
 use Rattle.ancestors.proofs.document_join.Statement.{statement}
 use Rattle.ancestors.proofs.document_join.Tie as tie
 
@@ -66,7 +66,7 @@ left w = subst (λ (k : ℕ). Lowest k w.lowest3.result) w.before.except.ensures
 
 -- whatever else the tables hold
 abbrev tables : tie.Start → Facts → Facts
-tables s f = withDocument s.args.t1 s.args.root (withBelow s.args.t2 f.above f)
+tables s f = with_document s.args.t1 s.args.root (with_below s.args.t2 f.above f)
 
 returns : tie.Need-returns
 unfolding join_of
@@ -77,7 +77,7 @@ returns c =
     let p = y.before in
     let a = p.before.before in
     let s = a.before in
-    λ f. document-first _ s.requires (tables s f) _ a.all.ensures _ (root p.before) p.if1.true _ (element y) t.if2.true _ (left w) c.if3.true
+    λ f. document_first _ s.requires (tables s f) _ a.all.ensures _ (root p.before) p.if1.true _ (element y) t.if2.true _ (left w) c.if3.true
 
 returns-2 : tie.Need-returns-2
 returns-2 c =
@@ -99,16 +99,16 @@ returns-3 c =
     let s = a.before in
     λ f.
     none_first document-join _ (tables s f) _ (le_refl _)
-    (none-without-child _ s.requires (tables s f) _ a.all.ensures _ (root p.before) p.if1.true _ (element y) c.if2.false)
+    (none_without_child _ s.requires (tables s f) _ a.all.ensures _ (root p.before) p.if1.true _ (element y) c.if2.false)
 
 returns-4 : tie.Need-returns-4
 returns-4 c =
     let a = c.before.before in
     let s = a.before in
-    λ f. none_first document-join _ (tables s f) _ (le_refl _) (none-without-root _ s.requires (tables s f) _ a.all.ensures _ (root c.before) c.if1.false)
+    λ f. none_first document-join _ (tables s f) _ (le_refl _) (none_without_root _ s.requires (tables s f) _ a.all.ensures _ (root c.before) c.if1.false)
 
-pub document-join-spec : {M : Type 1} → statement M
-document-join-spec =
+pub document_join_spec : {M : Type 1} → statement M
+document_join_spec =
     tie.close
     (tie.spec
     all-requires

@@ -7,16 +7,16 @@ use borrow.Author.Rules.{rules}
 use Rattle.meaning.specs.FixedSearch.{sibling-join}
 use Rattle.tables.specs.Rows.{Lowest}
 use Rattle.tables.specs.declared.Facts.{Facts}
-use Rattle.stages.specs.Found.{join_of, withBelow}
+use Rattle.stages.specs.Found.{join_of, with_below}
 use Rattle.ancestors.specs.Rows.{with_before}
 use Rattle.stages.proofs.Stage.{NoneBefore, none_more, none_first}
-use Rattle.ancestors.proofs.Siblings.{none-alone, none-missing, sibling-first, none-ordered}
+use Rattle.ancestors.proofs.Siblings.{none_alone, none_missing, sibling_first, none_ordered}
 use Rattle.ancestors.proofs.sibling_join.Statement.{statement}
 use Rattle.ancestors.proofs.sibling_join.Tie as tie
 
 abbrev invariant-loop : tie.invariant-loop
 invariant-loop n before after below above vars y₀ y =
-    (y ≤ n) × ((f : Facts) → NoneBefore sibling-join n (with_before before after (withBelow below above f)) y)
+    (y ≤ n) × ((f : Facts) → NoneBefore sibling-join n (with_before before after (with_below below above f)) y)
 
 abbrev decreases-loop : tie.decreases-loop
 decreases-loop n before after below above vars y₀ y = n - y
@@ -28,7 +28,7 @@ returns : tie.Need-returns invariant-loop decreases-loop
 returns c = λ f.
     let b = c.before in
     let s = b.before in
-    none-ordered _ s.requires (with_before s.args.t1 s.args.t2 (withBelow s.args.t3 s.args.t4 f)) _ b.blank.ensures c.if1.true
+    none_ordered _ s.requires (with_before s.args.t1 s.args.t2 (with_below s.args.t3 s.args.t4 f)) _ b.blank.ensures c.if1.true
 
 all-requires : tie.Need-all-requires invariant-loop decreases-loop
 all-requires c κs = search rules
@@ -100,7 +100,7 @@ returns-2 c =
     let s = m.before.before.before in
     let x-is = subst (λ (k : ℕ). Lowest k c.lowest2.result) c.before.except2.ensures c.lowest2.ensures in
     λ f.
-    sibling-first _ s.requires (with_before s.args.t1 s.args.t2 (withBelow s.args.t3 s.args.t4 f)) _ m.all.ensures _ i.loop-test.true
+    sibling_first _ s.requires (with_before s.args.t1 s.args.t2 (with_below s.args.t3 s.args.t4 f)) _ m.all.ensures _ i.loop-test.true
     _ l.before.before.except.ensures _ l.before.missing.ensures _ l.lowest.ensures t.if3.true _ x-is (i.before.loop.invariant.1 f)
 
 add-y : tie.Need-overflow-add-y invariant-loop decreases-loop
@@ -116,21 +116,21 @@ loop-again c =
     let s = m.before.before.before in (
       search rules,
       λ f.
-          let g = with_before s.args.t1 s.args.t2 (withBelow s.args.t3 s.args.t4 f) in
+          let g = with_before s.args.t1 s.args.t2 (with_below s.args.t3 s.args.t4 f) in
           none_more sibling-join _ g _ (i.before.loop.invariant.1 f)
           (⊎_elim
-          (λ w. none-missing _ s.requires g _ m.all.ensures _ i.loop-test.true _ w.1.ensures _ w.2.ensures _ w.3.ensures w.4.left)
-          (λ w. none-alone _ s.requires g _ m.all.ensures _ i.loop-test.true w.left)
+          (λ w. none_missing _ s.requires g _ m.all.ensures _ i.loop-test.true _ w.1.ensures _ w.2.ensures _ w.3.ensures w.4.left)
+          (λ w. none_alone _ s.requires g _ m.all.ensures _ i.loop-test.true w.left)
           c.if2.branch),
     )
 
 returns-3 : tie.Need-returns-3 invariant-loop decreases-loop
 returns-3 c = λ f.
     let s = c.before.before.before.before.before in
-    none_first sibling-join _ (with_before s.args.t1 s.args.t2 (withBelow s.args.t3 s.args.t4 f)) _ c.loop-test.false (c.before.loop.invariant.1 f)
+    none_first sibling-join _ (with_before s.args.t1 s.args.t2 (with_below s.args.t3 s.args.t4 f)) _ c.loop-test.false (c.before.loop.invariant.1 f)
 
-pub sibling-join-spec : {M : Type 1} → statement M
-sibling-join-spec =
+pub sibling_join_spec : {M : Type 1} → statement M
+sibling_join_spec =
     tie.close
     (tie.spec
     invariant-loop

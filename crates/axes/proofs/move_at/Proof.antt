@@ -3,8 +3,8 @@ use Prim.Native.Nat.{◌+◌}
 use native.Mathlib.Omega.{arith}
 use lib.ListN.{drop}
 use borrow.Author.Tests.{not-true, not-false}
-use Rattle.theory.specs.PathReader.{axisAt}
-use Rattle.axes.proofs.Moves.{axis-none, axis-some, move-none, no-colons, a-letter, a-star, no_test, letter-inside, byte_inside}
+use Rattle.theory.specs.PathReader.{axis_at}
+use Rattle.axes.proofs.Moves.{axis_none, axis_some, move_none, no_colons, a_letter, a_star, no_test, letter_inside, byte_inside}
 use borrow.Author.Rules.{rules}
 use Rattle.axes.proofs.move_at.Statement.{statement}
 use Rattle.axes.proofs.move_at.Tie as tie
@@ -32,9 +32,9 @@ returns c =
     let g = c.before.before.before.before.named.given in
     let b = g.0.0 in
     let e = g.0.1.0 in
-    let h = axis-some t a.at (axisAt (drop a.at t)) o.axis-at.result b e o.axis-at.ensures g.1 in
+    let h = axis_some t a.at (axis_at (drop a.at t)) o.axis-at.result b e o.axis-at.ensures g.1 in
     let f = c.before.starts.ensures in
-    no-colons t a.at h.0 b h.1 e h.2 (sym f.0 ∙ not-true _ c.if1.true)
+    no_colons t a.at h.0 b h.1 e h.2 (sym f.0 ∙ not-true _ c.if1.true)
 
 add-byte-at : tie.Need-overflow-add-byte-at
 add-byte-at c =
@@ -44,7 +44,7 @@ add-byte-at c =
     let g = c.before.before.before.before.named.given in
     let b = g.0.0 in
     let e = g.0.1.0 in
-    let h = axis-some t a.at (axisAt (drop a.at t)) o.axis-at.result b e o.axis-at.ensures g.1 in
+    let h = axis_some t a.at (axis_at (drop a.at t)) o.axis-at.result b e o.axis-at.ensures g.1 in
     let f = c.before.starts.ensures in
     omega (arith, f.1 (not-false _ c.if1.false))
 
@@ -62,9 +62,9 @@ add-t15 c =
     let g = c.before.before.before.before.before.before.before.named.given in
     let b = g.0.0 in
     let e = g.0.1.0 in
-    let h = axis-some t a.at (axisAt (drop a.at t)) o.axis-at.result b e o.axis-at.ensures g.1 in
+    let h = axis_some t a.at (axis_at (drop a.at t)) o.axis-at.result b e o.axis-at.ensures g.1 in
     let f = c.before.before.before.before.starts.ensures in
-    omega (arith, letter-inside t (e + 2) c.before.before.byte_at.result c.before.before.byte_at.ensures (sym c.before.is-letter.ensures ∙ c.if2.true))
+    omega (arith, letter_inside t (e + 2) c.before.before.byte_at.result c.before.before.byte_at.ensures (sym c.before.is-letter.ensures ∙ c.if2.true))
 
 returns-2 : tie.Need-returns-2
 returns-2 c =
@@ -74,10 +74,10 @@ returns-2 c =
     let g = c.before.before.before.before.before.before.before.named.given in
     let b = g.0.0 in
     let e = g.0.1.0 in
-    let h = axis-some t a.at (axisAt (drop a.at t)) o.axis-at.result b e o.axis-at.ensures g.1 in
+    let h = axis_some t a.at (axis_at (drop a.at t)) o.axis-at.result b e o.axis-at.ensures g.1 in
     let f = c.before.before.before.before.starts.ensures in
     let r = c.before.before.byte_at in let y = not-false _ c.before.before.before.if1.false in let l = sym c.before.is-letter.ensures ∙ c.if2.true in
-    a-letter t a.at h.0 b h.1 e h.2 (sym f.0 ∙ y) h.3 (f.1 y) r.result r.ensures l (let i = letter-inside t (e + 2) r.result r.ensures l in omega arith)
+    a_letter t a.at h.0 b h.1 e h.2 (sym f.0 ∙ y) h.3 (f.1 y) r.result r.ensures l (let i = letter_inside t (e + 2) r.result r.ensures l in omega arith)
 
 add-t16 : tie.Need-overflow-add-t16
 add-t16 c =
@@ -87,7 +87,7 @@ add-t16 c =
     let g = c.before.before.before.before.before.before.before.before.named.given in
     let b = g.0.0 in
     let e = g.0.1.0 in
-    let h = axis-some t a.at (axisAt (drop a.at t)) o.axis-at.result b e o.axis-at.ensures g.1 in
+    let h = axis_some t a.at (axis_at (drop a.at t)) o.axis-at.result b e o.axis-at.ensures g.1 in
     let f = c.before.before.before.before.before.starts.ensures in
     omega (arith, byte_inside t (e + 2) c.before.before.before.byte_at.result c.before.before.before.byte_at.ensures (let q = c.if3.true in omega arith))
 
@@ -99,17 +99,17 @@ returns-3 c =
     let g = c.before.before.before.before.before.before.before.before.named.given in
     let b = g.0.0 in
     let e = g.0.1.0 in
-    let h = axis-some t a.at (axisAt (drop a.at t)) o.axis-at.result b e o.axis-at.ensures g.1 in
+    let h = axis_some t a.at (axis_at (drop a.at t)) o.axis-at.result b e o.axis-at.ensures g.1 in
     let f = c.before.before.before.before.before.starts.ensures in
     let r = c.before.before.before.byte_at in let y = not-false _ c.before.before.before.before.if1.false in let l = sym c.before.before.is-letter.ensures ∙ c.before.if2.false in
-    a-star t a.at h.0 b h.1 e h.2 (sym f.0 ∙ y) h.3 (f.1 y) r.result r.ensures l c.if3.true (let q = c.if3.true in let i = byte_inside t (e + 2) r.result r.ensures (omega arith) in omega arith)
+    a_star t a.at h.0 b h.1 e h.2 (sym f.0 ∙ y) h.3 (f.1 y) r.result r.ensures l c.if3.true (let q = c.if3.true in let i = byte_inside t (e + 2) r.result r.ensures (omega arith) in omega arith)
 
 returns-4 : tie.Need-returns-4
 returns-4 c =
     let o = c.before.before in
     let a = o.before.before.args in
     let t = a.s.now in
-    move-none t a.at (axis-none t a.at (axisAt (drop a.at t)) o.axis-at.result o.axis-at.ensures c.enum_told.given.1)
+    move_none t a.at (axis_none t a.at (axis_at (drop a.at t)) o.axis-at.result o.axis-at.ensures c.enum_told.given.1)
 
 returns-5 : tie.Need-returns-5
 returns-5 c =
@@ -119,13 +119,13 @@ returns-5 c =
     let g = c.before.before.before.before.before.before.before.before.named.given in
     let b = g.0.0 in
     let e = g.0.1.0 in
-    let h = axis-some t a.at (axisAt (drop a.at t)) o.axis-at.result b e o.axis-at.ensures g.1 in
+    let h = axis_some t a.at (axis_at (drop a.at t)) o.axis-at.result b e o.axis-at.ensures g.1 in
     let f = c.before.before.before.before.before.starts.ensures in
     let r = c.before.before.before.byte_at in let y = not-false _ c.before.before.before.before.if1.false in let l = sym c.before.before.is-letter.ensures ∙ c.before.if2.false in
     no_test t a.at h.0 b h.1 e h.2 (sym f.0 ∙ y) h.3 (f.1 y) r.result r.ensures l c.if3.false
 
-pub move-at-spec : {M : Type 1} → statement M
-move-at-spec =
+pub move_at_spec : {M : Type 1} → statement M
+move_at_spec =
     tie.close
     (tie.spec
     axis-at-requires

@@ -5,7 +5,7 @@ use native.Mathlib.Nat.{add-zero, add_assoc}
 use native.Mathlib.Omega.{arith}
 use lib.ListN.{length, drop, length-drop}
 use Rattle.theory.specs.Reader.{front}
-use Rattle.axes.proofs.Front.{front-short, front-more, front-miss, front-end}
+use Rattle.axes.proofs.Front.{front_short, front_more, front_miss, front_end}
 use borrow.Author.Rules.{rules}
 use Rattle.axes.proofs.starts.Statement.{statement}
 use Rattle.axes.proofs.starts.Tie as tie
@@ -18,7 +18,7 @@ decreases-loop s at word i₀ i = length word - i
 
 -- src/lib.rt:29:9
 returns : tie.Need-returns invariant-loop decreases-loop
-returns c = (sym (front-short _ _ (simp length-drop (omega arith))), λ e. absurd (false≢true e))
+returns c = (sym (front_short _ _ (simp length-drop (omega arith))), λ e. absurd (false≢true e))
 
 -- src/lib.rt:31:8
 sub-if2 : tie.Need-overflow-sub-if2 invariant-loop decreases-loop
@@ -26,7 +26,7 @@ sub-if2 c = search rules
 
 -- src/lib.rt:32:9
 returns-2 : tie.Need-returns-2 invariant-loop decreases-loop
-returns-2 c = (sym (front-short _ _ (simp length-drop (omega arith))), λ e. absurd (false≢true e))
+returns-2 c = (sym (front_short _ _ (simp length-drop (omega arith))), λ e. absurd (false≢true e))
 
 -- src/lib.rt:35:5
 loop-holds : tie.Need-loop-init invariant-loop decreases-loop
@@ -49,7 +49,7 @@ returns-3 : tie.Need-returns-3 invariant-loop decreases-loop
 returns-3 c =
     let l = c.before.before.before.before in
     let a = l.before.before.before.args in
-    (sym (sym l.loop.invariant.1 ∙ front-miss a.s.now a.word.now (a.at + l.loop.i) l.loop.i (omega arith) (omega arith) c.if3.true), λ e. absurd (false≢true e))
+    (sym (sym l.loop.invariant.1 ∙ front_miss a.s.now a.word.now (a.at + l.loop.i) l.loop.i (omega arith) (omega arith) c.if3.true), λ e. absurd (false≢true e))
 
 -- src/lib.rt:39:9
 add-i : tie.Need-overflow-add-i invariant-loop decreases-loop
@@ -65,15 +65,15 @@ loop-again c =
     let l = c.before.before.before.before in
     let a = l.before.before.before.args in (
       search rules,
-      rw (← add_assoc) (front-more a.s.now a.word.now (a.at + l.loop.i) l.loop.i (omega arith) (omega arith) c.if3.false ∙ l.loop.invariant.1),
+      rw (← add_assoc) (front_more a.s.now a.word.now (a.at + l.loop.i) l.loop.i (omega arith) (omega arith) c.if3.false ∙ l.loop.invariant.1),
     )
 
 -- src/lib.rt:24:1
 returns-4 : tie.Need-returns-4 invariant-loop decreases-loop
-returns-4 c = (sym (sym c.before.loop.invariant.1 ∙ front-end _ _ _ c.loop-test.false), λ e. omega arith)
+returns-4 c = (sym (sym c.before.loop.invariant.1 ∙ front_end _ _ _ c.loop-test.false), λ e. omega arith)
 
-pub starts-spec : {M : Type 1} → statement M
-starts-spec =
+pub starts_spec : {M : Type 1} → statement M
+starts_spec =
     tie.close
     (tie.spec
     invariant-loop

@@ -38,11 +38,11 @@ use denote.Triple.Clauses.{ensured, lasts}
 use denote.Triple.Walked.{says, Stays, gave_slice, stay_none, walk_of, Walks, ends_at, walked, Goes-gave_slice, Goes-none, walk_Meets}
 use Rattle.meaning.specs.declared.Centre.{Centre}
 use Rattle.centres.specs.declared.Drawn.{Drawn}
-use Rattle.meaning.specs.Centres.{listAfter}
+use Rattle.meaning.specs.Centres.{list_after}
 use Rattle.theory.specs.Centres.{drawing}
 use Rattle.centres.specs.Answers.{answer_of}
-use Rattle.capi.specs.Draws.{drawnAs}
-use Rattle.capi.proofs.Drawn.{draws-from}
+use Rattle.capi.specs.Draws.{drawn_as}
+use Rattle.capi.proofs.Drawn.{draws_from}
 use Rattle.meaning.specs.contracts.Centre as T
 use Rattle.centres.specs.contracts.Drawn as S
 use Rattle.centres.proofs.Drawn.TheLaws as S'
@@ -73,8 +73,8 @@ module _ {M : Type 1} {𝓤 : Ura M} (𝓛 : Logic 𝓤) (at_mem : Memory → SP
   abbrev Number : Contract 𝓤
   Number = triple_of 𝓛 number.signature (number.spec 𝓛 at_mem run)
 
-  number-said : (d : Drawn) (r : ℕ) → ent 𝓤 (ensured 𝓛 number.ended (number.clauses 𝓛 at_mem run) tt (d, tt) tt r) (fact 𝓤 (r ≡ drawnAs d))
-  number-said d r = ex_e 𝓤 _ (λ ws. snd∗ 𝓤 (sem 𝓛 (lasts number.ended tt (d, tt) ws)) (fact 𝓤 (r ≡ drawnAs d)))
+  number_said : (d : Drawn) (r : ℕ) → ent 𝓤 (ensured 𝓛 number.ended (number.clauses 𝓛 at_mem run) tt (d, tt) tt r) (fact 𝓤 (r ≡ drawn_as d))
+  number_said d r = ex_e 𝓤 _ (λ ws. snd∗ 𝓤 (sem 𝓛 (lasts number.ended tt (d, tt) ws)) (fact 𝓤 (r ≡ drawn_as d)))
 
 module _ {M : Type 1} {𝓤 : Ura M} (𝓛 : Logic 𝓤) (at_mem : Memory → SProp 𝓤) (run : Routine → Fun 𝓤) (κ : Lft) (q : Share)
     (b o : ℕ) (γ : GName) (ys : List Centre) (total centre amount : ℕ)
@@ -98,14 +98,14 @@ module _ {M : Type 1} {𝓤 : Ura M} (𝓛 : Logic 𝓤) (at_mem : Memory → SP
 
   -- what `draw` says of its answer and of the list afterwards
   abbrev Told : Drawn → List Centre → Type 0
-  Told d zs = (d ≡ answer_of (drawing total ys centre amount)) × (zs ≡ listAfter (drawing total ys centre amount) ys centre amount)
+  Told d zs = (d ≡ answer_of (drawing total ys centre amount)) × (zs ≡ list_after (drawing total ys centre amount) ys centre amount)
 
-  abbrev to-draw : (Draw 𝓛 at_mem run).Ghost
-  to-draw = (((κ, tt), (q, tt), tt, a, vals), tt)
+  abbrev to_draw : (Draw 𝓛 at_mem run).Ghost
+  to_draw = (((κ, tt), (q, tt), tt, a, vals), tt)
 
-  goes-draw : ent 𝓤 (sep 𝓤 (sep 𝓤 (A.lft κ q) (sem 𝓛 ftrue)) (sem 𝓛 ((MutSlice (named 0) κ T.the_row).own_val x (s ∷ []))))
-      ((Draw 𝓛 at_mem run).pre to-draw)
-  goes-draw =
+  goes_draw : ent 𝓤 (sep 𝓤 (sep 𝓤 (A.lft κ q) (sem 𝓛 ftrue)) (sem 𝓛 ((MutSlice (named 0) κ T.the_row).own_val x (s ∷ []))))
+      ((Draw 𝓛 at_mem run).pre to_draw)
+  goes_draw =
       qed 𝓛 ((‵ (flft κ q) ⊛ ‵ ftrue) ∷ ‵ ((MutSlice (named 0) κ T.the_row).own_val x (s ∷ [])) ∷ []) ∵
       nothing ! $ owned ! u32 (Is u32) (uint_Makes 𝓛 w32) amount _ (refl, ga) $ fjoin ! $
       owned ! usize (Is usize) (uint_Makes 𝓛 w64) centre _ (refl, gc) $ fjoin ! $ owned ! u32 (Is u32) (uint_Makes 𝓛 w32) total _ (refl, gt) $
@@ -118,12 +118,12 @@ module _ {M : Type 1} {𝓤 : Ura M} (𝓛 : Logic 𝓤) (at_mem : Memory → SP
   goes_number : (d : Drawn) (v : Val) → ent 𝓤 (sem 𝓛 ((S.the_row).own_val d (v ∷ []))) ((Number 𝓛 at_mem run).pre (to_number d v))
   goes_number d v = qed 𝓛 (‵ ((S.the_row).own_val d (v ∷ [])) ∷ []) ∵ nothing ! $ move ! (1 ∷ 0 ∷ []) $ fjoin ! $ nothing ! $ join ! $ frame ! $ done !
 
-  exits : (r : ℕ) (w : Val) (d : Drawn) (zs : List Centre) → r ≡ drawnAs d → Told d zs → length zs ≡ length ys
+  exits : (r : ℕ) (w : Val) (d : Drawn) (zs : List Centre) → r ≡ drawn_as d → Told d zs → length zs ≡ length ys
       → ent 𝓤 (sep 𝓤 (sep 𝓤 (A.lft κ q) (sem 𝓛 ftrue)) (sep 𝓤 (sem 𝓛 (finally T.the_row γ zs)) (sem 𝓛 (u64.own_val r (w ∷ []))))) (Post w)
   exits r w d zs e told l =
       qed 𝓛 ((‵ (flft κ q) ⊛ ‵ ftrue) ∷ ‵ (finally T.the_row γ zs) ∷ ‵ (u64.own_val r (w ∷ [])) ∷ []) ∵
       suffices ! _ (ends_at 𝓛 cudreth-draw.ended stayed (cudreth-draw.clauses 𝓛 at_mem run) (((κ, tt), (q, tt), tt, a, vals), tt) w r
-      (zs, (tt, (tt, (tt, tt)))) (l, (tt, (tt, (tt, tt))))) $ says ! (draws-from total ys centre amount told e) $ frame ! $
+      (zs, (tt, (tt, (tt, tt)))) (l, (tt, (tt, (tt, tt))))) $ says ! (draws_from total ys centre amount told e) $ frame ! $
       nothing ! $ owned ! u32 (Is u32) (uint_Makes 𝓛 w32) amount _ (refl, ga) $ fjoin ! $
       owned ! usize (Is usize) (uint_Makes 𝓛 w64) centre _ (refl, gc) $ fjoin ! $ owned ! u32 (Is u32) (uint_Makes 𝓛 w32) total _ (refl, gt) $
       fjoin ! $
@@ -146,8 +146,8 @@ module _ {M : Type 1} {𝓤 : Ura M} (𝓛 : Logic 𝓤) (at_mem : Memory → SP
         (and_then ! (load ! (from ! (fld ! refl (stop !))) (look_in ! 12 (sub ! 1 refl (whole !)))) (no_more !)))) (from ! (stop !))
         (init ! 0 refl (tt, (tt, (record { fits = room.0 }, tt)))) $
         -- `draw`
-        move ! (17 ∷ []) $ fsplit ! $ move ! (1 ∷ []) $ drop ! $ move ! (17 ∷ 0 ∷ []) $ use2 𝓛 (raw ((Draw 𝓛 at_mem run).pre to-draw)) goes-draw $
-        calls_at ! (fm_of 𝓤 H 𝓛.laws 𝓣) (Draw 𝓛 at_mem run) known-draw to-draw
+        move ! (17 ∷ []) $ fsplit ! $ move ! (1 ∷ []) $ drop ! $ move ! (17 ∷ 0 ∷ []) $ use2 𝓛 (raw ((Draw 𝓛 at_mem run).pre to_draw)) goes_draw $
+        calls_at ! (fm_of 𝓤 H 𝓛.laws 𝓣) (Draw 𝓛 at_mem run) known-draw to_draw
         (and_then ! (load ! (from ! (stop !)) (look ! 1 refl))
         (and_then ! (load ! (from ! (stop !)) (look ! 11 refl))
         (and_then ! (load ! (from ! (stop !)) (look ! 9 refl)) (and_then ! (load ! (from ! (stop !)) (look ! 7 refl)) (no_more !))))) (λ v.
@@ -166,8 +166,8 @@ module _ {M : Type 1} {𝓤 : Ura M} (𝓛 : Logic 𝓤) (at_mem : Memory → SP
         (and_then ! (load ! (from ! (stop !)) (look ! 8 refl)) (no_more !)) (λ w.
         use1 𝓛 (later (some (λ (r : ℕ). (‵ ftrue ⊛ ‵ (u64.own_val r (w ∷ []))) ⊛ raw
         (ensured 𝓛 number.ended (number.clauses 𝓛 at_mem run) tt (d, tt) tt r)))) (id⊢ 𝓤 _) $ await ! tt $ pick ! (λ r.
-        split ! $ move ! (1 ∷ []) $ use1 𝓛 (raw (fact 𝓤 (r ≡ drawnAs d))) (number-said 𝓛 at_mem run d r) $
-        heard ! (r ≡ drawnAs d) (λ e. split ! $ drop ! $
+        split ! $ move ! (1 ∷ []) $ use1 𝓛 (raw (fact 𝓤 (r ≡ drawn_as d))) (number_said 𝓛 at_mem run d r) $
+        heard ! (r ≡ drawn_as d) (λ e. split ! $ drop ! $
         peeks ! u64 (Is u64) (shows 𝓛 u64) r (w ∷ []) (λ are.
         land ! (from ! (stop !)) (init ! 18 refl ((uint_Lawful 𝓛 w64).typed r _ are).0) $
         returns ! (look ! 18 refl) $ forget ! 18 refl $ forget ! 16 refl $ forget ! 14 refl $ forget ! 12 refl $ forget ! 10 refl $ forget ! 8 refl $
@@ -180,16 +180,16 @@ module _ {M : Type 1} {𝓤 : Ura M} (𝓛 : Logic 𝓤) (at_mem : Memory → SP
     (known-draw : Triple 𝓤 (𝓣.C #centres·draw) (Draw 𝓛 at_mem run)) (known-number : Triple 𝓤 (𝓣.C #capi·draw-number) (Number 𝓛 at_mem run)) where
   open 𝓛 use {H}
 
-  cudreth-draw-walks : Walks 𝓛 cudreth-draw.ended stayed (WpFn 𝓤 H 𝓣.C 𝓣.Λ code.function) (cudreth-draw.clauses 𝓛 at_mem run)
-  cudreth-draw-walks = walked 𝓛 cudreth-draw.ended stayed (cudreth-draw.clauses 𝓛 at_mem run) (WpFn 𝓤 H 𝓣.C 𝓣.Λ code.function)
+  cudreth_draw_walks : Walks 𝓛 cudreth-draw.ended stayed (WpFn 𝓤 H 𝓣.C 𝓣.Λ code.function) (cudreth-draw.clauses 𝓛 at_mem run)
+  cudreth_draw_walks = walked 𝓛 cudreth-draw.ended stayed (cudreth-draw.clauses 𝓛 at_mem run) (WpFn 𝓤 H 𝓣.C 𝓣.Λ code.function)
       (λ κs. (mut_slice_vals, (uint_vals w32, (uint_vals w64, (uint_vals w32, tt)))))
       (λ κs. (mut_slice_Tells (named 0) κs.0 T.the_row, (uint_Tells w32, (uint_Tells w64, (uint_Tells w32, tt)))))
       (λ κs qs bounds a g are. via 𝓤 _ (fst∗ 𝓤 _ (emp 𝓤))
       (walk 𝓛 at_mem run κs.0 qs.0 a.0.ref_ptr.0 a.0.ref_ptr.1 a.0.ghost_name a.0.now a.1.0 a.1.1.0 a.1.1.1.0 are.1.0.1
       are.1.1.0.1 are.1.1.1.0.1 𝓣 known-draw known-number are.0.0.1))
 
-  cudreth-draw-meets : Meets 𝓛 cudreth-draw.signature (WpFn 𝓤 H 𝓣.C 𝓣.Λ code.function) (cudreth-draw.spec 𝓛 at_mem run)
-  cudreth-draw-meets = walk_Meets 𝓛 cudreth-draw.ended stayed (
+  cudreth_draw_meets : Meets 𝓛 cudreth-draw.signature (WpFn 𝓤 H 𝓣.C 𝓣.Λ code.function) (cudreth-draw.spec 𝓛 at_mem run)
+  cudreth_draw_meets = walk_Meets 𝓛 cudreth-draw.ended stayed (
     Goes-gave_slice 𝓛 1 0 tt (plain (λ _. T.the_row)),
     (
       Goes-none 𝓛 1 (λ _. u32) yes (λ κs x f. refl),
@@ -199,14 +199,14 @@ module _ {M : Type 1} {𝓤 : Ura M} (𝓛 : Logic 𝓤) (at_mem : Memory → SP
       ),
     ),
   ) (cudreth-draw.clauses 𝓛 at_mem run)
-      (WpFn 𝓤 H 𝓣.C 𝓣.Λ code.function) (WpFn-mono 𝓤 H 𝓛.laws 𝓣 code.function) cudreth-draw-walks
+      (WpFn 𝓤 H 𝓣.C 𝓣.Λ code.function) (WpFn-mono 𝓤 H 𝓛.laws 𝓣 code.function) cudreth_draw_walks
 
-pub cudreth-draw-spec : {M : Type 1} → stated.statement M
+pub cudreth_draw_spec : {M : Type 1} → stated.statement M
 unfolding code.routine tables_of
-cudreth-draw-spec 𝓤 𝓛 𝓜 𝓡 =
+cudreth_draw_spec 𝓤 𝓛 𝓜 𝓡 =
     entered 𝓤 𝓛.H (triple_of 𝓛 cudreth-draw.signature (cudreth-draw.spec 𝓛 𝓜.mem 𝓡.run))
     (tables 𝓤 𝓛.H 𝓜 𝓡 code.env).C (tables 𝓤 𝓛.H 𝓜 𝓡 code.env).Λ #capi·cudreth-draw code.function (code.unfolded 𝓤 𝓛.H 𝓜 𝓡)
-    (cudreth-draw-meets 𝓛 𝓜.mem 𝓡.run (tables_of 𝓤 𝓛.H 𝓜 (tables 𝓤 𝓛.H 𝓜 𝓡 code.env))
+    (cudreth_draw_meets 𝓛 𝓜.mem 𝓡.run (tables_of 𝓤 𝓛.H 𝓜 (tables 𝓤 𝓛.H 𝓜 𝓡 code.env))
     (cited 𝓤 𝓛.H (Draw 𝓛 𝓜.mem 𝓡.run) 𝓜 𝓡 code.env #centres·draw draw-def.routine code.calls-centres::draw (draw-thm.met 𝓤 𝓛 𝓜 𝓡))
     (cited 𝓤 𝓛.H (Number 𝓛 𝓜.mem 𝓡.run) 𝓜 𝓡 code.env #capi·draw-number number-def.routine code.calls-capi::draw-number
     (number-thm.met 𝓤 𝓛 𝓜 𝓡)))

@@ -1,7 +1,7 @@
 -- `cudreth_solve` tells the number of the solver's verdict.
 use mathlib.Core.Path.{refl}
 use native.Mathlib.Omega.{arith}
-use Rattle.solver.proofs.Short.{bytes-few}
+use Rattle.solver.proofs.Short.{bytes_few}
 use Rattle.capi.proofs.Solved.{number, solves}
 use borrow.Author.Rules.{rules}
 use Rattle.capi.proofs.cudreth_solve.Statement.{statement}
@@ -14,13 +14,13 @@ enum-known-verdict : tie.Need-enum-known-verdict
 enum-known-verdict c = search rules
 
 mul-result : tie.Need-overflow-mul-result
-mul-result c = omega (arith, bytes-few _ _ _ _ _ c.before.before.before.before.before.solve.ensures c.before.verdict.given.1)
+mul-result c = omega (arith, bytes_few _ _ _ _ _ c.before.before.before.before.before.solve.ensures c.before.verdict.given.1)
 
 cast-result : tie.Need-overflow-cast-result
 cast-result c = search rules
 
 add-result : tie.Need-overflow-add-result
-add-result c = omega (arith, bytes-few _ _ _ _ _ c.before.before.before.before.before.solve.ensures c.before.verdict.given.1)
+add-result c = omega (arith, bytes_few _ _ _ _ _ c.before.before.before.before.before.solve.ensures c.before.verdict.given.1)
 
 enum-known-verdict-2 : tie.Need-enum-known-verdict-2
 enum-known-verdict-2 c = search rules
@@ -77,8 +77,8 @@ returns-4 : tie.Need-returns-4
 unfolding number
 returns-4 c = solves _ _ _ _ _ c.before.before.before.before.before.solve.ensures c.before.verdict4.given.1 _ refl
 
-pub cudreth-solve-spec : {M : Type 1} → statement M
-cudreth-solve-spec =
+pub cudreth_solve_spec : {M : Type 1} → statement M
+cudreth_solve_spec =
     tie.close
     (tie.spec
     solve-requires

@@ -6,7 +6,7 @@ use borrow.Author.Rules.{rules}
 use Rattle.meaning.specs.Results.{told}
 use Rattle.lent.specs.declared.Answer.{Answer}
 use Rattle.lent.specs.declared.Answer.TheVariants.{Written, Refused}
-use Rattle.capi.specs.Numbers.{FewBytes, answerNumber}
+use Rattle.capi.specs.Numbers.{FewBytes, answer_number}
 use Rattle.capi.proofs.number.Statement.{statement}
 use Rattle.capi.proofs.number.Tie as tie
 
@@ -14,14 +14,14 @@ few : (r : Answer) (n : ℕ) → FewBytes r → r ≡ Written n → n < 65536
 few r n f e = subst FewBytes e f
 
 -- the bytes in the middle
-written-number : (n : ℕ) → n * 4294967296 ≡ answerNumber (Written n)
-unfolding answerNumber told
-written-number n = omega arith
+written_number : (n : ℕ) → n * 4294967296 ≡ answer_number (Written n)
+unfolding answer_number told
+written_number n = omega arith
 
 -- the question low
-refused-number : (q : ℕ) → 844424930131968 + q ≡ answerNumber (Refused q)
-unfolding answerNumber told
-refused-number q = omega arith
+refused_number : (q : ℕ) → 844424930131968 + q ≡ answer_number (Refused q)
+unfolding answer_number told
+refused_number q = omega arith
 
 enum-known-answer : tie.Need-enum-known-answer
 enum-known-answer c = search rules
@@ -39,10 +39,10 @@ add-result : tie.Need-overflow-add-result
 add-result c = search rules
 
 returns : tie.Need-returns
-returns c = written-number _ ∙ ap answerNumber (sym c.before.answer.given.1)
+returns c = written_number _ ∙ ap answer_number (sym c.before.answer.given.1)
 
 returns-2 : tie.Need-returns-2
-returns-2 c = refused-number _ ∙ ap answerNumber (sym c.before.answer2.given.1)
+returns-2 c = refused_number _ ∙ ap answer_number (sym c.before.answer2.given.1)
 
-pub number-spec : {M : Type 1} → statement M
-number-spec = tie.close (tie.spec enum-known-answer mul-result enum-known-answer-2 cast-result add-result returns returns-2)
+pub number_spec : {M : Type 1} → statement M
+number_spec = tie.close (tie.spec enum-known-answer mul-result enum-known-answer-2 cast-result add-result returns returns-2)

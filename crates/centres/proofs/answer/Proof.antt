@@ -13,5 +13,5 @@ returns-2 : tie.Need-returns-2
 unfolding answered pick
 returns-2 c = rw (ne_eqb _ _ c.if1.false)
 
-pub answer-spec : {M : Type 1} → statement M
-answer-spec = tie.close (tie.spec returns returns-2)
+pub answer_spec : {M : Type 1} → statement M
+answer_spec = tie.close (tie.spec returns returns-2)

@@ -54,13 +54,13 @@ use denote.Triple.Clauses.{ensured}
 use denote.Triple.Walked.{says, Stays, stay_slice, stay_none, walk_of, Walks, ends_at, walked, Goes-slice, Goes-none, walk_Meets}
 use Rattle.meaning.specs.declared.Centre.{Centre}
 use Rattle.centres.specs.declared.Drawn.{Drawn}
-use Rattle.meaning.specs.Centres.{noCentre, Drawn as Drawn', withDraw, added, listAfter}
+use Rattle.meaning.specs.Centres.{no_centre, Drawn as Drawn', with_draw, added, list_after}
 use Rattle.theory.specs.Centres.{drawing}
-use Rattle.centres.specs.Plain.{lookedAt}
+use Rattle.centres.specs.Plain.{looked_at}
 use Rattle.centres.specs.Answers.{answered, answer_of}
-use Rattle.centres.proofs.Claims.{claim_of, looked-few, Progress, started, one_on, inside, sum_fits}
-use Rattle.centres.proofs.Asked.{number_of, questionFrom, question-found, question-missed, answer-is, granted-list, granted-cap, refused-list}
-use Rattle.centres.proofs.Callees.{claimArgs, questionArgs, Counted, WithClaim, Question, Answer, counted-said, with-claim-said, question-said, answer-said, to-counted, to-with-claim, to-question, to-answer, goes-counted, goes-with-claim, goes-question, goes-answer}
+use Rattle.centres.proofs.Claims.{claim_of, looked_few, Progress, started, one_on, inside, sum_fits}
+use Rattle.centres.proofs.Asked.{number_of, question_from, question_found, question_missed, answer_is, granted_list, granted_cap, refused_list}
+use Rattle.centres.proofs.Callees.{claim_args, question_args, Counted, WithClaim, Question, Answer, counted_said, with_claim_said, question_said, answer_said, to_counted, to_with_claim, to_question, to_answer, goes_counted, goes_with_claim, goes_question, goes_answer}
 use Rattle.meaning.specs.contracts.Centre as T
 use Rattle.meaning.proofs.Centre.TheLaws as T'
 use Rattle.centres.specs.contracts.Drawn as S
@@ -124,14 +124,14 @@ module _ {M : Type 1} {𝓤 : Ura M} (𝓛 : Logic 𝓤) (at_mem : Memory → SP
   vals = (slice_val (b, o) (length ys) ∷ [], (vint w32 total ∷ [], (vint w64 centre ∷ [], (vint w32 amount ∷ [], tt))))
 
   abbrev n : ℕ
-  n = lookedAt (length ys)
+  n = looked_at (length ys)
 
   abbrev meant : Drawn'
   meant = drawing total ys centre amount
 
   -- the record at i, its machine value, and that of the record with the machine value u at its last field
   abbrev rec : ℕ → Centre
-  rec i = get_or ys i noCentre
+  rec i = get_or ys i no_centre
 
   abbrev own : Centre
   own = rec centre
@@ -150,13 +150,13 @@ module _ {M : Type 1} {𝓤 : Ura M} (𝓛 : Logic 𝓤) (at_mem : Memory → SP
 
   -- what the changed record owes: two fields as they were, and the third with the amount
   made : Is T.the_row own (recs centre) → own.drawn + amount < 2 ^ 32
-      → Is T.the_row (withDraw own amount) (mach centre (vint w32 (own.drawn + amount)) ∷ [])
-  unfolding withDraw
+      → Is T.the_row (with_draw own amount) (mach centre (vint w32 (own.drawn + amount)) ∷ [])
+  unfolding with_draw
   made was fits = let fields = LL.owed T.the_type T'.the_laws own _ was in
-      LL.owes T.the_type T'.the_laws (withDraw own amount) (fields.0, (fields.1.0, ((refl, fits), tt)))
+      LL.owes T.the_type T'.the_laws (with_draw own amount) (fields.0, (fields.1.0, ((refl, fits), tt)))
 
   exits : Room T.the_row (length ys) → total < 2 ^ 32 → centre < 2 ^ 64 → amount < 2 ^ 32 → (r : Drawn) (u : Val) (zs : List Centre) → length zs ≡ length ys
-      → (r ≡ answer_of meant) × (zs ≡ listAfter meant ys centre amount)
+      → (r ≡ answer_of meant) × (zs ≡ list_after meant ys centre amount)
       → ent 𝓤 (⋆ 𝓛 (‵ ((S.the_row).own_val r (u ∷ [])) ∷ ‵ (fobs γ ((coded_holeys T.the_row).code (heres T.the_row zs))) ∷ ‵
       (fbor κ (Held T.the_row (length zs) b o γ)) ∷ ‵ (flft κ q) ∷ [])) (Post u)
   exits gn gt gc ga r u zs len e =
@@ -228,17 +228,17 @@ module _ {M : Type 1} {𝓤 : Ura M} (𝓛 : Logic 𝓤) (at_mem : Memory → SP
         (‵ (fat full_share byte l₉ 0 (vint w8 k))) (‵ (froom T'.mir l₁₀ 0))
 
     -- the end, once for all ways: the borrow is closed, and the question becomes the answer
-    ends : (p : Progress ys) (zs : List Centre) (k : ℕ) → length zs ≡ length ys → k < 2 ^ 8 → k ≡ number_of meant → zs ≡ listAfter meant ys centre amount
+    ends : (p : Progress ys) (zs : List Centre) (k : ℕ) → length zs ≡ length ys → k < 2 ^ 8 → k ≡ number_of meant → zs ≡ list_after meant ys centre amount
         → Sq 𝓛 (Judged p zs k) (runs C Λ En mirs.t-9 (at_ret En Post))
     ends p zs k len gk ek ez =
         closes_slice ! tt T.the_row ys zs len b o $
         -- [obs; the borrow; the token; the locals, one place nearer]
-        use0 𝓛 (raw ((Answer 𝓛 at_mem run).pre (to-answer 𝓛 at_mem run k))) (goes-answer 𝓛 at_mem run k gk) $
-        calls_at ! (fm_of 𝓤 H 𝓛.laws 𝓣) (Answer 𝓛 at_mem run) known-answer (to-answer 𝓛 at_mem run k)
+        use0 𝓛 (raw ((Answer 𝓛 at_mem run).pre (to_answer 𝓛 at_mem run k))) (goes_answer 𝓛 at_mem run k gk) $
+        calls_at ! (fm_of 𝓤 H 𝓛.laws 𝓣) (Answer 𝓛 at_mem run) known-answer (to_answer 𝓛 at_mem run k)
         (and_then ! (load ! (from ! (stop !)) (look ! (at 9) refl)) (no_more !)) (λ u.
         use1 𝓛 (later (some (λ (r : Drawn). (‵ ftrue ⊛ ‵ ((S.the_row).own_val r (u ∷ []))) ⊛ raw
         (ensured 𝓛 answer.ended (answer.clauses 𝓛 at_mem run) tt (k, tt) tt r)))) (id⊢ 𝓤 _) $ await ! tt $ pick ! (λ r.
-        split ! $ move ! (1 ∷ []) $ use1 𝓛 (raw (fact 𝓤 (r ≡ answered k))) (answer-said 𝓛 at_mem run k r) $
+        split ! $ move ! (1 ∷ []) $ use1 𝓛 (raw (fact 𝓤 (r ≡ answered k))) (answer_said 𝓛 at_mem run k r) $
         heard ! (r ≡ answered k) (λ e. split ! $ drop ! $
         peeks ! S.the_row (Is S.the_row) (shows 𝓛 S.the_row) r (u ∷ []) (λ is.
         -- [the result; obs; the borrow; the token; the locals]
@@ -254,13 +254,13 @@ module _ {M : Type 1} {𝓤 : Ura M} (𝓛 : Logic 𝓤) (at_mem : Memory → SP
         move ! (at 18 ∷ suc (at 18) ∷ []) $ free1 ! $ move ! (at 19 ∷ suc (at 19) ∷ []) $ free1 ! $ move ! (at 20 ∷ suc (at 20) ∷ []) $ free1 ! $
         move ! (at 21 ∷ suc (at 21) ∷ []) $ free1 ! $ move ! (at 22 ∷ suc (at 22) ∷ []) $ free1 ! $ move ! (at 23 ∷ suc (at 23) ∷ []) $ free1 ! $
         free0 ! $
-        by ! (exits gn gt gc ga r u zs len (e ∙ (ap answered ek ∙ answer-is total ys centre amount), ez))))))
+        by ! (exits gn gt gc ga r u zs len (e ∙ (ap answered ek ∙ answer_is total ys centre amount), ez))))))
 
     -- the centre is there: its record is read and judged, and, where no question says no, changed
     found : (p : Progress ys) → n ≤ p.reached → centre < n → Sq 𝓛 (At p) (runs C Λ En mirs.t-6 (at_ret En Post))
     unfolding added
     found p over less =
-        let l = inside ys centre less in let asked = question-found total ys centre amount p gt over less in
+        let l = inside ys centre less in let asked = question_found total ys centre amount p gt over less in
         assigns ! (of_opd ! (lit ! tt)) (from ! (stop !)) (init ! (at 9) refl (tt, record { fits = lit< tt })) $
         assigns ! (bin ! (load ! (from ! (stop !)) (look ! (at 3) refl)) (load ! (from ! (stop !)) (look ! (at 5) refl)) tt) (from ! (stop !))
         (init ! (at 16) refl (tt, tt)) $
@@ -271,17 +271,17 @@ module _ {M : Type 1} {𝓤 : Ura M} (𝓛 : Logic 𝓤) (at_mem : Memory → SP
         (load ! (from ! (stop !)) (look ! (at 17) refl)) tt) (from ! (stop !)) (init ! (at 18) refl (tt, tt)) $
         rewrite ! (at 18) (λ (a : ℕ). ‵ (fat full_share ty_ptr l₁₈ 0 (vptr b a))) (sym (place_is 12 o centre)) refl $
         elem_out ! T.the_row (Is T.the_row) (shows 𝓛 T.the_row) (LL.vals T.the_type T'.the_laws)
-        (LL.tells T.the_type T'.the_laws) full_share ys centre noCentre b o l (λ was.
+        (LL.tells T.the_type T'.the_laws) full_share ys centre no_centre b o l (λ was.
         let fs = LL.owed T.the_type T'.the_laws own _ was in let typed = ((LL.lawful T.the_type T'.the_laws 𝓛).typed own _ was).0 in
         -- [the record; what it owns; the others; the rest, two places further]
         assigns ! (of_opd ! (load ! (from ! (hop ! (look ! (2 + at 18) refl) (stop !))) (look_raw ! 0 refl))) (from ! (stop !))
         (init ! (2 + at 19) refl typed) $
         assigns ! (of_opd ! (load ! (from ! (stop !)) (look ! (2 + at 19) refl))) (from ! (stop !)) (init ! (2 + at 10) refl typed) $
-        elem_back ! T.the_row full_share ys centre noCentre (recs centre) b o l $
-        use0 𝓛 (raw ((Question 𝓛 at_mem run).pre (to-question 𝓛 at_mem run p.sum total own amount)))
-        (goes-question 𝓛 at_mem run p.sum total own amount (let s = sum_fits ys p in omega (arith, s)) gt fs.0.1 fs.1.0.1
+        elem_back ! T.the_row full_share ys centre no_centre (recs centre) b o l $
+        use0 𝓛 (raw ((Question 𝓛 at_mem run).pre (to_question 𝓛 at_mem run p.sum total own amount)))
+        (goes_question 𝓛 at_mem run p.sum total own amount (let s = sum_fits ys p in omega (arith, s)) gt fs.0.1 fs.1.0.1
         fs.1.1.0.1 ga) $
-        calls_at ! (fm_of 𝓤 H 𝓛.laws 𝓣) (Question 𝓛 at_mem run) known-question (to-question 𝓛 at_mem run p.sum total own amount)
+        calls_at ! (fm_of 𝓤 H 𝓛.laws 𝓣) (Question 𝓛 at_mem run) known-question (to_question 𝓛 at_mem run p.sum total own amount)
         (and_then ! (load ! (from ! (stop !)) (look ! (1 + at 6) refl))
         (and_then ! (load ! (from ! (stop !)) (look ! (1 + at 2) refl))
         (and_then ! (load ! (from ! (fld ! refl (stop !))) (look_in ! (1 + at 10) (sub ! 0 refl (whole !))))
@@ -289,10 +289,10 @@ module _ {M : Type 1} {𝓤 : Ura M} (𝓛 : Logic 𝓤) (at_mem : Memory → SP
         (and_then ! (load ! (from ! (fld ! refl (stop !))) (look_in ! (1 + at 10) (sub ! 2 refl (whole !))))
         (and_then ! (load ! (from ! (stop !)) (look ! (1 + at 4) refl)) (no_more !))))))) (λ u9.
         use1 𝓛 (later (some (λ (r : ℕ). (‵ ftrue ⊛ ‵ (u8.own_val r (u9 ∷ []))) ⊛ raw
-        (ensured 𝓛 question.ended (question.clauses 𝓛 at_mem run) tt (questionArgs p.sum total own amount) tt r)))) (id⊢ 𝓤 _) $ await ! tt $
+        (ensured 𝓛 question.ended (question.clauses 𝓛 at_mem run) tt (question_args p.sum total own amount) tt r)))) (id⊢ 𝓤 _) $ await ! tt $
         pick ! (λ r9.
-        split ! $ move ! (1 ∷ []) $ use1 𝓛 (raw (fact 𝓤 (r9 ≡ questionFrom p.sum total own amount)))
-        (question-said 𝓛 at_mem run p.sum total own amount r9) $ heard ! (r9 ≡ questionFrom p.sum total own amount) (λ e9. split ! $ drop ! $
+        split ! $ move ! (1 ∷ []) $ use1 𝓛 (raw (fact 𝓤 (r9 ≡ question_from p.sum total own amount)))
+        (question_said 𝓛 at_mem run p.sum total own amount r9) $ heard ! (r9 ≡ question_from p.sum total own amount) (λ e9. split ! $ drop ! $
         peeks ! u8 (Is u8) (shows 𝓛 u8) r9 (u9 ∷ []) (λ is9.
         land ! (from ! (stop !)) (store ! (1 + at 9) refl ((uint_Lawful 𝓛 w8).typed r9 _ is9).0) $ drop ! $
         rewrite ! (at 9) (λ (us : List Val). ‵ (fat full_share (ty_int w8) l₉ 0 (only us))) (is9.0 ∙ ap (λ (k : ℕ). vint w8 k ∷ []) (e9 ∙ asked)) refl $
@@ -301,7 +301,7 @@ module _ {M : Type 1} {𝓤 : Ura M} (𝓛 : Logic 𝓤) (at_mem : Memory → SP
         assigns ! (bin ! (load ! (from ! (stop !)) (look ! (at 9) refl)) (lit ! tt) tt) (from ! (stop !)) (init ! (at 20) refl (tt, tt)) $
         branches ! (load ! (from ! (stop !)) (look ! (at 20) refl)) (λ none.
         (let zero = eqb→eq (number_of meant) 0 none in let fits : own.drawn + amount < 2 ^ 32 =
-        (let c = granted-cap total ys centre amount zero in let k = fs.1.0.1 in omega (arith, c, k)) in
+        (let c = granted_cap total ys centre amount zero in let k = fs.1.0.1 in omega (arith, c, k)) in
         assigns ! (bin ! (load ! (from ! (fld ! refl (stop !))) (look_in ! (at 10) (sub ! 2 refl (whole !))))
         (load ! (from ! (stop !)) (look ! (at 4) refl)) (record { fits = fits })) (from ! (stop !)) (init ! (at 21) refl (tt, record { fits = fits })) $
         assigns ! (bin ! (load ! (from ! (stop !)) (look ! (at 3) refl)) (lit ! tt) (record { fits = scaled gn centre l })) (from ! (stop !))
@@ -310,39 +310,39 @@ module _ {M : Type 1} {𝓤 : Ura M} (𝓛 : Logic 𝓤) (at_mem : Memory → SP
         (load ! (from ! (stop !)) (look ! (at 22) refl)) tt) (from ! (stop !)) (init ! (at 23) refl (tt, tt)) $
         rewrite ! (at 23) (λ (a : ℕ). ‵ (fat full_share ty_ptr l₂₃ 0 (vptr b a))) (sym (place_is 12 o centre)) refl $
         elem_out ! T.the_row (Is T.the_row) (shows 𝓛 T.the_row) (LL.vals T.the_type T'.the_laws)
-        (LL.tells T.the_type T'.the_laws) full_share ys centre noCentre b o l (λ _.
+        (LL.tells T.the_type T'.the_laws) full_share ys centre no_centre b o l (λ _.
         assigns_last ! (of_opd ! (load ! (from ! (stop !)) (look ! (2 + at 21) refl))) (from ! (hop ! (look ! (2 + at 23) refl) (fld ! refl (stop !))))
         (store_in ! 0 (sub ! 2 refl (whole !)) (tt, record { fits = fits })) $
         exec ! C Λ En mirs.t-9 (at_ret En Post) $
-        move ! (1 ∷ []) $ drop ! $ owned ! T.the_row (Is T.the_row) ((LL.makes T.the_type T'.the_plain) 𝓛) (withDraw own amount) _ (made was fits) $
+        move ! (1 ∷ []) $ drop ! $ owned ! T.the_row (Is T.the_row) ((LL.makes T.the_type T'.the_plain) 𝓛) (with_draw own amount) _ (made was fits) $
         move ! (1 ∷ 0 ∷ []) $
-        elem_put ! T.the_row full_share ys centre (withDraw own amount) (mach centre (vint w32 (own.drawn + amount)) ∷ []) b o l $
+        elem_put ! T.the_row full_share ys centre (with_draw own amount) (mach centre (vint w32 (own.drawn + amount)) ∷ []) b o l $
         forget ! (at 10) refl $ forget ! (at 20) refl $ forget ! (at 21) refl $ forget ! (at 22) refl $ forget ! (at 23) refl $
-        ends p (set ys centre (withDraw own amount)) (number_of meant) (length-set ys centre _) fits_8 refl
-        (sym (granted-list total ys centre amount zero)))))
+        ends p (set ys centre (with_draw own amount)) (number_of meant) (length-set ys centre _) fits_8 refl
+        (sym (granted_list total ys centre amount zero)))))
         (λ some-no. skips ! $ exec ! C Λ En mirs.t-9 (at_ret En Post) $ forget ! (at 10) refl $ forget ! (at 20) refl $
-        ends p ys (number_of meant) refl fits_8 refl (sym (refused-list total ys centre amount
+        ends p ys (number_of meant) refl fits_8 refl (sym (refused_list total ys centre amount
         (λ e. T_not (eqb (number_of meant) 0) some-no (subst (λ (k : ℕ). T (eqb (number_of meant) k)) e (eqb_refl (number_of meant))))))))))))))
         (λ over'. absurd (T_not (ltb centre n) over' (lt→ltb centre n less)))
 
     -- the centre is not there, or the list is too long
     missed : (p : Progress ys) → n ≤ centre → Sq 𝓛 (At p) (runs C Λ En mirs.t-6 (at_ret En Post))
-    unfolding number_of listAfter
+    unfolding number_of list_after
     missed p past =
         assigns ! (of_opd ! (lit ! tt)) (from ! (stop !)) (init ! (at 9) refl (tt, record { fits = lit< tt })) $
         assigns ! (bin ! (load ! (from ! (stop !)) (look ! (at 3) refl)) (load ! (from ! (stop !)) (look ! (at 5) refl)) tt) (from ! (stop !))
         (init ! (at 16) refl (tt, tt)) $
         first ! $ branches ! (load ! (from ! (stop !)) (look ! (at 16) refl)) (λ less. absurd (let l = ltb→lt centre n less in omega (arith, past, l)))
         (λ _. skips ! $ exec ! C Λ En mirs.t-9 (at_ret En Post) $ forget ! (at 16) refl $
-        (let e = question-missed total ys centre amount past in
-        ends p ys 18 refl (lit< tt) (sym (ap number_of e)) (sym (ap (λ (r : Drawn'). listAfter r ys centre amount) e))))
+        (let e = question_missed total ys centre amount past in
+        ends p ys 18 refl (lit< tt) (sym (ap number_of e)) (sym (ap (λ (r : Drawn'). list_after r ys centre amount) e))))
 
     abbrev Turned : Progress ys → Out → SProp 𝓤
     Turned i = after_turn 𝓤 H (Below 𝓛 Nearer At i) (after_block 𝓤 H
         (after_seq 𝓤 H (Wp 𝓤 H C Λ En mirs.t-6 (at_return 𝓤 H En Post)) (at_return 𝓤 H En Post)))
 
-    ends-below : (p : Progress ys) → p.reached < 2 ^ 64
-    ends-below p = let a = p.upto in let b = looked-few (length ys) in omega (arith, a, b)
+    ends_below : (p : Progress ys) → p.reached < 2 ^ 64
+    ends_below p = let a = p.upto in let b = looked_few (length ys) in omega (arith, a, b)
 
     -- a turn that adds one record's claim
     more : (p : Progress ys) → ltb p.reached n ≡ true → Sq 𝓛 (At p) (runs C Λ En mirs.turn-1 (any_q (Turned p)))
@@ -359,31 +359,31 @@ module _ {M : Type 1} {𝓤 : Ura M} (𝓛 : Logic 𝓤) (at_mem : Memory → SP
         (load ! (from ! (stop !)) (look ! (at 13) refl)) tt) (from ! (stop !)) (init ! (at 14) refl (tt, tt)) $
         rewrite ! (at 14) (λ (a : ℕ). ‵ (fat full_share ty_ptr l₁₄ 0 (vptr b a))) (sym (place_is 12 o p.reached)) refl $
         elem_out ! T.the_row (Is T.the_row) (shows 𝓛 T.the_row) (LL.vals T.the_type T'.the_laws) (LL.tells T.the_type T'.the_laws) full_share ys
-        p.reached noCentre b o l (λ was.
+        p.reached no_centre b o l (λ was.
         let fs = LL.owed T.the_type T'.the_laws (next p) _ was in let typed = ((LL.lawful T.the_type T'.the_laws 𝓛).typed (next p) _ was).0 in
         assigns ! (of_opd ! (load ! (from ! (hop ! (look ! (2 + at 14) refl) (stop !))) (look_raw ! 0 refl))) (from ! (stop !))
         (init ! (2 + at 15) refl typed) $
         assigns ! (of_opd ! (load ! (from ! (stop !)) (look ! (2 + at 15) refl))) (from ! (stop !)) (init ! (2 + at 8) refl typed) $
-        elem_back ! T.the_row full_share ys p.reached noCentre (recs p.reached) b o l $
-        use0 𝓛 (raw ((WithClaim 𝓛 at_mem run).pre (to-with-claim 𝓛 at_mem run p.sum (next p))))
-        (goes-with-claim 𝓛 at_mem run p.sum (next p) (sum_fits ys p) (let s = sum_fits ys p in omega (arith, s)) fs.0.1 fs.1.0.1
+        elem_back ! T.the_row full_share ys p.reached no_centre (recs p.reached) b o l $
+        use0 𝓛 (raw ((WithClaim 𝓛 at_mem run).pre (to_with_claim 𝓛 at_mem run p.sum (next p))))
+        (goes_with_claim 𝓛 at_mem run p.sum (next p) (sum_fits ys p) (let s = sum_fits ys p in omega (arith, s)) fs.0.1 fs.1.0.1
         fs.1.1.0.1) $
-        calls_at ! (fm_of 𝓤 H 𝓛.laws 𝓣) (WithClaim 𝓛 at_mem run) known-with-claim (to-with-claim 𝓛 at_mem run p.sum (next p))
+        calls_at ! (fm_of 𝓤 H 𝓛.laws 𝓣) (WithClaim 𝓛 at_mem run) known-with-claim (to_with_claim 𝓛 at_mem run p.sum (next p))
         (and_then ! (load ! (from ! (stop !)) (look ! (1 + at 6) refl))
         (and_then ! (load ! (from ! (fld ! refl (stop !))) (look_in ! (1 + at 8) (sub ! 0 refl (whole !))))
         (and_then ! (load ! (from ! (fld ! refl (stop !))) (look_in ! (1 + at 8) (sub ! 1 refl (whole !))))
         (and_then ! (load ! (from ! (fld ! refl (stop !))) (look_in ! (1 + at 8) (sub ! 2 refl (whole !)))) (no_more !))))) (λ u6.
         use1 𝓛 (later (some (λ (r : ℕ). (‵ ftrue ⊛ ‵ (u64.own_val r (u6 ∷ []))) ⊛ raw
-        (ensured 𝓛 with-claim.ended (with-claim.clauses 𝓛 at_mem run) tt (claimArgs p.sum (next p)) tt r)))) (id⊢ 𝓤 _) $ await ! tt $
+        (ensured 𝓛 with-claim.ended (with-claim.clauses 𝓛 at_mem run) tt (claim_args p.sum (next p)) tt r)))) (id⊢ 𝓤 _) $ await ! tt $
         pick ! (λ r6.
-        split ! $ move ! (1 ∷ []) $ use1 𝓛 (raw (fact 𝓤 (r6 ≡ p.sum + claim_of (next p)))) (with-claim-said 𝓛 at_mem run p.sum (next p) r6) $
+        split ! $ move ! (1 ∷ []) $ use1 𝓛 (raw (fact 𝓤 (r6 ≡ p.sum + claim_of (next p)))) (with_claim_said 𝓛 at_mem run p.sum (next p) r6) $
         heard ! (r6 ≡ p.sum + claim_of (next p)) (λ e6. split ! $ drop ! $
         peeks ! u64 (Is u64) (shows 𝓛 u64) r6 (u6 ∷ []) (λ is6.
         land ! (from ! (stop !)) (store ! (1 + at 6) refl ((uint_Lawful 𝓛 w64).typed r6 _ is6).0) $ drop ! $
         rewrite ! (at 6) (λ (us : List Val). ‵ (fat full_share (ty_int w64) l₆ 0 (only us))) (is6.0 ∙ ap (λ (k : ℕ). vint w64 k ∷ []) e6) refl $
         (let after = one_on ys p within fs.1.0.1 in
-        assigns_last ! (bin ! (load ! (from ! (stop !)) (look ! (at 7) refl)) (lit ! tt) (record { fits = ends-below after })) (from ! (stop !))
-        (store ! (at 7) refl (tt, record { fits = ends-below after })) $
+        assigns_last ! (bin ! (load ! (from ! (stop !)) (look ! (at 7) refl)) (lit ! tt) (record { fits = ends_below after })) (from ! (stop !))
+        (store ! (at 7) refl (tt, record { fits = ends_below after })) $
         forget ! (at 12) refl $ forget ! (at 13) refl $ forget ! (at 14) refl $ forget ! (at 15) refl $ forget ! (at 8) refl $
         again ! Nearer At p after (add-one-dec n p.reached within)))))))
 
@@ -417,12 +417,12 @@ module _ {M : Type 1} {𝓤 : Ura M} (𝓛 : Logic 𝓤) (at_mem : Memory → SP
     begun known-counted =
         assigns ! (of_opd ! (load ! (from ! (fld ! refl (stop !))) (look_in ! (at 1 - 4) (sub ! 1 refl (whole !))))) (from ! (stop !))
         (init ! (at 11 - 4) refl (tt, record { fits = gn.0 })) $
-        use0 𝓛 (raw ((Counted 𝓛 at_mem run).pre (to-counted 𝓛 at_mem run (length ys)))) (goes-counted 𝓛 at_mem run (length ys) gn.0) $
-        calls_at ! (fm_of 𝓤 H 𝓛.laws 𝓣) (Counted 𝓛 at_mem run) known-counted (to-counted 𝓛 at_mem run (length ys))
+        use0 𝓛 (raw ((Counted 𝓛 at_mem run).pre (to_counted 𝓛 at_mem run (length ys)))) (goes_counted 𝓛 at_mem run (length ys) gn.0) $
+        calls_at ! (fm_of 𝓤 H 𝓛.laws 𝓣) (Counted 𝓛 at_mem run) known-counted (to_counted 𝓛 at_mem run (length ys))
         (and_then ! (load ! (from ! (stop !)) (look ! (at 11 - 3) refl)) (no_more !)) (λ u.
         use1 𝓛 (later (some (λ (r : ℕ). (‵ ftrue ⊛ ‵ (usize.own_val r (u ∷ []))) ⊛ raw
         (ensured 𝓛 counted.ended (counted.clauses 𝓛 at_mem run) tt (length ys, tt) tt r)))) (id⊢ 𝓤 _) $ await ! tt $ pick ! (λ r.
-        split ! $ move ! (1 ∷ []) $ use1 𝓛 (raw (fact 𝓤 (r ≡ n))) (counted-said 𝓛 at_mem run (length ys) r) $ heard ! (r ≡ n) (λ e. split ! $ drop ! $
+        split ! $ move ! (1 ∷ []) $ use1 𝓛 (raw (fact 𝓤 (r ≡ n))) (counted_said 𝓛 at_mem run (length ys) r) $ heard ! (r ≡ n) (λ e. split ! $ drop ! $
         peeks ! usize (Is usize) (shows 𝓛 usize) r (u ∷ []) (λ is.
         land ! (from ! (stop !)) (init ! (at 5 - 3) refl ((uint_Lawful 𝓛 w64).typed r _ is).0) $ drop ! $
         rewrite ! (at 5 - 4) (λ (us : List Val). ‵ (fat full_share word l₅ 0 (only us))) (is.0 ∙ ap (λ (k : ℕ). vint w64 k ∷ []) e) refl $
@@ -457,8 +457,8 @@ module _ {M : Type 1} {𝓤 : Ura M} (𝓛 : Logic 𝓤) (at_mem : Memory → SP
     (known-answer : Triple 𝓤 (𝓣.C #centres·answer) (Answer 𝓛 at_mem run)) where
   open 𝓛 use {H}
 
-  draw-walks : Walks 𝓛 draw.ended stayed (WpFn 𝓤 H 𝓣.C 𝓣.Λ code.function) (draw.clauses 𝓛 at_mem run)
-  draw-walks = walked 𝓛 draw.ended stayed (draw.clauses 𝓛 at_mem run) (WpFn 𝓤 H 𝓣.C 𝓣.Λ code.function)
+  draw_walks : Walks 𝓛 draw.ended stayed (WpFn 𝓤 H 𝓣.C 𝓣.Λ code.function) (draw.clauses 𝓛 at_mem run)
+  draw_walks = walked 𝓛 draw.ended stayed (draw.clauses 𝓛 at_mem run) (WpFn 𝓤 H 𝓣.C 𝓣.Λ code.function)
       (λ κs. (mut_slice_vals, (uint_vals w32, (uint_vals w64, (uint_vals w32, tt)))))
       (λ κs. (mut_slice_Tells (named 0) κs.0 T.the_row, (uint_Tells w32, (uint_Tells w64, (uint_Tells w32, tt)))))
       (λ κs qs bounds a g are. via 𝓤 _ (fst∗ 𝓤 _ (emp 𝓤))
@@ -466,8 +466,8 @@ module _ {M : Type 1} {𝓤 : Ura M} (𝓛 : Logic 𝓤) (at_mem : Memory → SP
       a.1.1.1.0 𝓣 known-counted known-with-claim known-question known-answer are.0.0.1 are.1.0.1 are.1.1.0.1
       are.1.1.1.0.1))
 
-  draw-meets : Meets 𝓛 draw.signature (WpFn 𝓤 H 𝓣.C 𝓣.Λ code.function) (draw.spec 𝓛 at_mem run)
-  draw-meets = walk_Meets 𝓛 draw.ended stayed (
+  draw_meets : Meets 𝓛 draw.signature (WpFn 𝓤 H 𝓣.C 𝓣.Λ code.function) (draw.spec 𝓛 at_mem run)
+  draw_meets = walk_Meets 𝓛 draw.ended stayed (
     Goes-slice 𝓛 1 0 tt (plain (λ _. T.the_row)),
     (
       Goes-none 𝓛 1 (λ _. u32) yes (λ κs x f. refl),
@@ -477,14 +477,14 @@ module _ {M : Type 1} {𝓤 : Ura M} (𝓛 : Logic 𝓤) (at_mem : Memory → SP
       ),
     ),
   ) (draw.clauses 𝓛 at_mem run)
-      (WpFn 𝓤 H 𝓣.C 𝓣.Λ code.function) (WpFn-mono 𝓤 H 𝓛.laws 𝓣 code.function) draw-walks
+      (WpFn 𝓤 H 𝓣.C 𝓣.Λ code.function) (WpFn-mono 𝓤 H 𝓛.laws 𝓣 code.function) draw_walks
 
-pub draw-spec : {M : Type 1} → stated.statement M
+pub draw_spec : {M : Type 1} → stated.statement M
 unfolding code.routine tables_of
-draw-spec 𝓤 𝓛 𝓜 𝓡 =
+draw_spec 𝓤 𝓛 𝓜 𝓡 =
     entered 𝓤 𝓛.H (triple_of 𝓛 draw.signature (draw.spec 𝓛 𝓜.mem 𝓡.run))
     (tables 𝓤 𝓛.H 𝓜 𝓡 code.env).C (tables 𝓤 𝓛.H 𝓜 𝓡 code.env).Λ #centres·draw code.function (code.unfolded 𝓤 𝓛.H 𝓜 𝓡)
-    (draw-meets 𝓛 𝓜.mem 𝓡.run (tables_of 𝓤 𝓛.H 𝓜 (tables 𝓤 𝓛.H 𝓜 𝓡 code.env))
+    (draw_meets 𝓛 𝓜.mem 𝓡.run (tables_of 𝓤 𝓛.H 𝓜 (tables 𝓤 𝓛.H 𝓜 𝓡 code.env))
     (cited 𝓤 𝓛.H (Counted 𝓛 𝓜.mem 𝓡.run) 𝓜 𝓡 code.env #centres·counted counted-def.routine code.calls-centres::counted
     (counted-thm.met 𝓤 𝓛 𝓜 𝓡))
     (cited 𝓤 𝓛.H (WithClaim 𝓛 𝓜.mem 𝓡.run) 𝓜 𝓡 code.env #centres·with-claim with-claim-def.routine code.calls-centres::with-claim

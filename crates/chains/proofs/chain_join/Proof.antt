@@ -9,14 +9,14 @@ use mir.Syntax.{w16}
 use borrow.Author.Rules.{rules}
 use Rattle.meaning.specs.FixedSearch.{chain-join}
 use Rattle.tables.specs.declared.Facts.{Facts}
-use Rattle.stages.specs.Found.{join_of, withBelow}
+use Rattle.stages.specs.Found.{join_of, with_below}
 use Rattle.stages.proofs.Stage.{NoneBefore, none_more, none_first}
-use Rattle.chains.proofs.First.{none-loose, none_apart, chain_first}
+use Rattle.chains.proofs.First.{none_loose, none_apart, chain_first}
 use Rattle.chains.proofs.chain_join.Statement.{statement}
 use Rattle.chains.proofs.chain_join.Tie as tie
 
 abbrev invariant-loop : tie.invariant-loop
-invariant-loop n below above vars incomparable loose z₀ z = (z ≤ n) × ((f : Facts) → NoneBefore chain-join n (withBelow below above f) z)
+invariant-loop n below above vars incomparable loose z₀ z = (z ≤ n) × ((f : Facts) → NoneBefore chain-join n (with_below below above f) z)
 
 abbrev decreases-loop : tie.decreases-loop
 decreases-loop n below above vars incomparable loose z₀ z = n - z
@@ -82,7 +82,7 @@ returns c =
     let s = r.before in
     let h : Fits w16 (get_or r.incomparable-rows.result l.lowest.result 0) = search rules in
     λ f.
-    chain_first _ s.before.requires (withBelow s.before.args.t1 s.before.args.t2 f) _ s.all.ensures r.incomparable-rows.result r.incomparable-rows.ensures _ i.loop-test.true _ m.meeting2.ensures
+    chain_first _ s.before.requires (with_below s.before.args.t1 s.before.args.t2 f) _ s.all.ensures r.incomparable-rows.result r.incomparable-rows.ensures _ i.loop-test.true _ m.meeting2.ensures
     _ l.lowest.ensures c.before.if2.true h.fits _ c.lowest2.ensures (i.before.loop.invariant.1 f)
 
 add-z : tie.Need-overflow-add-z invariant-loop decreases-loop
@@ -100,21 +100,21 @@ loop-again c =
     let s = r.before in (
       search rules,
       λ f.
-          let t = withBelow s.before.args.t1 s.before.args.t2 f in
+          let t = with_below s.before.args.t1 s.before.args.t2 f in
           none_more chain-join _ t _ (i.before.loop.invariant.1 f)
           (⊎_elim
           (λ w. none_apart _ s.before.requires t _ s.all.ensures r.incomparable-rows.result r.incomparable-rows.ensures _ i.loop-test.true _ w.1.ensures _ w.2.ensures w.3.left)
-          (λ w. none-loose _ s.before.requires t _ s.all.ensures r.incomparable-rows.result r.incomparable-rows.ensures _ g.meeting.ensures _ i.loop-test.true (sym x.except.ensures ∙ w.left))
+          (λ w. none_loose _ s.before.requires t _ s.all.ensures r.incomparable-rows.result r.incomparable-rows.ensures _ g.meeting.ensures _ i.loop-test.true (sym x.except.ensures ∙ w.left))
           c.if1.branch),
     )
 
 returns-2 : tie.Need-returns-2 invariant-loop decreases-loop
 returns-2 c = λ f.
     let s = c.before.before.before.before.before in
-    none_first chain-join _ (withBelow s.args.t1 s.args.t2 f) _ c.loop-test.false (c.before.loop.invariant.1 f)
+    none_first chain-join _ (with_below s.args.t1 s.args.t2 f) _ c.loop-test.false (c.before.loop.invariant.1 f)
 
-pub chain-join-spec : {M : Type 1} → statement M
-chain-join-spec =
+pub chain_join_spec : {M : Type 1} → statement M
+chain_join_spec =
     tie.close
     (tie.spec
     invariant-loop

@@ -5,7 +5,7 @@ use native.Mathlib.Nat.{le_trans}
 use lib.Bits.{bit_or, bit_xor}
 use borrow.Author.Rules.{rules}
 use Rattle.tables.specs.Tables.{row}
-use Rattle.tables.proofs.Loops.{Rowing, rowing-none, rowing_more}
+use Rattle.tables.proofs.Loops.{Rowing, rowing_none, rowing_more}
 use Rattle.chains.proofs.incomparable_rows.Statement.{statement}
 use Rattle.chains.proofs.incomparable_rows.Tie as tie
 
@@ -16,7 +16,7 @@ abbrev decreases-loop : tie.decreases-loop
 decreases-loop u a₀ x₀ a x = 16 - x
 
 loop-holds : tie.Need-loop-init invariant-loop decreases-loop
-loop-holds c = (search rules, rowing-none _ _ _ (search rules))
+loop-holds c = (search rules, rowing_none _ _ _ (search rules))
 
 mul-v : tie.Need-overflow-mul-v invariant-loop decreases-loop
 mul-v c = search rules
@@ -48,8 +48,8 @@ loop-again c = (search rules, rowing_more _ _ _ _ _ _ (search rules) refl c.befo
 returns : tie.Need-returns invariant-loop decreases-loop
 returns c = λ x h. c.before.loop.invariant.1.done x (le_trans h c.loop-test.false)
 
-pub incomparable-rows-spec : {M : Type 1} → statement M
-incomparable-rows-spec =
+pub incomparable_rows_spec : {M : Type 1} → statement M
+incomparable_rows_spec =
     tie.close
     (tie.spec
     invariant-loop

@@ -7,16 +7,16 @@ use borrow.Author.Rules.{rules}
 use Rattle.meaning.specs.FixedSearch.{parent-join}
 use Rattle.tables.specs.Rows.{Lowest}
 use Rattle.tables.specs.declared.Facts.{Facts}
-use Rattle.stages.specs.Found.{join_of, withBelow}
-use Rattle.chains.specs.Rows.{withParent}
+use Rattle.stages.specs.Found.{join_of, with_below}
+use Rattle.chains.specs.Rows.{with_parent}
 use Rattle.stages.proofs.Stage.{NoneBefore, none_more, none_first}
-use Rattle.chains.proofs.First.{none-without-parent, none-without-x, parent-first}
+use Rattle.chains.proofs.First.{none_without_parent, none_without_x, parent_first}
 use Rattle.chains.proofs.parent_join.Statement.{statement}
 use Rattle.chains.proofs.parent_join.Tie as tie
 
 abbrev invariant-loop : tie.invariant-loop
 invariant-loop n parent below above vars z₀ z =
-    (z ≤ n) × ((f : Facts) → NoneBefore parent-join n (withParent parent (withBelow below above f)) z)
+    (z ≤ n) × ((f : Facts) → NoneBefore parent-join n (with_parent parent (with_below below above f)) z)
 
 abbrev decreases-loop : tie.decreases-loop
 decreases-loop n parent below above vars z₀ z = n - z
@@ -78,7 +78,7 @@ returns c =
     let s = i.before.before.before in
     let x-is = subst (λ (k : ℕ). Lowest k c.before.lowest2.result) c.before.before.except.ensures c.before.lowest2.ensures in
     λ f.
-    parent-first _ s.requires (withParent s.args.t1 (withBelow s.args.t2 s.args.t3 f)) _ i.before.before.all.ensures _ i.loop-test.true _ l.lowest.ensures
+    parent_first _ s.requires (with_parent s.args.t1 (with_below s.args.t2 s.args.t3 f)) _ i.before.before.all.ensures _ i.loop-test.true _ l.lowest.ensures
     t.if1.true _ x-is c.if2.true (i.before.loop.invariant.1 f)
 
 add-z : tie.Need-overflow-add-z invariant-loop decreases-loop
@@ -94,22 +94,22 @@ loop-again c =
     let s = i.before.before.before in (
       search rules,
       λ f.
-          let g = withParent s.args.t1 (withBelow s.args.t2 s.args.t3 f) in
+          let g = with_parent s.args.t1 (with_below s.args.t2 s.args.t3 f) in
           none_more parent-join _ g _ (i.before.loop.invariant.1 f)
           (⊎_elim
-          (λ w. none-without-x _ s.requires g _ i.before.before.all.ensures _ i.loop-test.true _ l.lowest.ensures w.0.taken _
+          (λ w. none_without_x _ s.requires g _ i.before.before.all.ensures _ i.loop-test.true _ l.lowest.ensures w.0.taken _
           (subst (λ (k : ℕ). Lowest k w.2.result) w.1.ensures w.2.ensures) w.3.left)
-          (λ w. none-without-parent _ s.requires g _ i.before.before.all.ensures _ i.loop-test.true _ l.lowest.ensures w.left)
+          (λ w. none_without_parent _ s.requires g _ i.before.before.all.ensures _ i.loop-test.true _ l.lowest.ensures w.left)
           c.if1.branch),
     )
 
 returns-2 : tie.Need-returns-2 invariant-loop decreases-loop
 returns-2 c = λ f.
     let s = c.before.before.before in
-    none_first parent-join _ (withParent s.args.t1 (withBelow s.args.t2 s.args.t3 f)) _ c.loop-test.false (c.before.loop.invariant.1 f)
+    none_first parent-join _ (with_parent s.args.t1 (with_below s.args.t2 s.args.t3 f)) _ c.loop-test.false (c.before.loop.invariant.1 f)
 
-pub parent-join-spec : {M : Type 1} → statement M
-parent-join-spec =
+pub parent_join_spec : {M : Type 1} → statement M
+parent_join_spec =
     tie.close
     (tie.spec
     invariant-loop

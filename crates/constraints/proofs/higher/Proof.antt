@@ -12,5 +12,5 @@ larger-requires-2 c κs = search rules
 returns : tie.Need-returns
 returns c = rw (c.larger2.ensures, c.before.larger.ensures)
 
-pub higher-spec : {M : Type 1} → statement M
-higher-spec = tie.close (tie.spec larger-requires larger-requires-2 returns)
+pub higher_spec : {M : Type 1} → statement M
+higher_spec = tie.close (tie.spec larger-requires larger-requires-2 returns)

@@ -10,19 +10,19 @@ use borrow.Author.Rules.{rules}
 use borrow.Author.Tests.{not-false}
 use Rattle.tables.specs.Tables.{has}
 use Rattle.tables.specs.Rows.{Crossed}
-use Rattle.tables.proofs.Bits.{meets-in}
-use Rattle.tables.proofs.Clashes.{blank-crossed}
-use Rattle.enter.proofs.Apart.{differ-ready, differ-known}
-use Rattle.enter.proofs.Enter.{raised-ready, raised-clash, entered-well, entered-clash, entered-as, clash-entering, follows, entered-same}
+use Rattle.tables.proofs.Bits.{meets_in}
+use Rattle.tables.proofs.Clashes.{blank_crossed}
+use Rattle.enter.proofs.Apart.{differ_ready, differ_known}
+use Rattle.enter.proofs.Enter.{raised_ready, raised_clash, entered_well, entered_clash, entered_as, clash_entering, follows, entered_same}
 use Rattle.tables.proofs.Tested.{or_no}
 use Rattle.enter.proofs.enter_below.Statement.{statement}
 use Rattle.enter.proofs.enter_below.Tie as tie
 
-above-small : (c : tie.Start) (i : ℕ) → get_or c.args.f.above i 0 < 65536
-above-small c i = let h : Fits w16 (get_or c.args.f.above i 0) = search rules in h.fits
+above_small : (c : tie.Start) (i : ℕ) → get_or c.args.f.above i 0 < 65536
+above_small c i = let h : Fits w16 (get_or c.args.f.above i 0) = search rules in h.fits
 
-below-small : (c : tie.Start) (i : ℕ) → get_or c.args.f.below i 0 < 65536
-below-small c i = let h : Fits w16 (get_or c.args.f.below i 0) = search rules in h.fits
+below_small : (c : tie.Start) (i : ℕ) → get_or c.args.f.below i 0 < 65536
+below_small c i = let h : Fits w16 (get_or c.args.f.below i 0) = search rules in h.fits
 
 cast-i : tie.Need-overflow-cast-i
 cast-i c = search rules
@@ -52,14 +52,14 @@ enter-same-requires : tie.Need-enter-same-requires
 enter-same-requires c κs =
     let m = c.before in
     let s = m.before.before.before.before.before.before in
-    (s.requires.0, (_, s.requires.1.0.1, follows _ _ _ _ s.requires.0.2 s.requires.0.0 (above-small s _) _ _ m.before.has.ensures m.meet.ensures c.if1.true _ s.requires.1.0.1))
+    (s.requires.0, (_, s.requires.1.0.1, follows _ _ _ _ s.requires.0.2 s.requires.0.0 (above_small s _) _ _ m.before.has.ensures m.meet.ensures c.if1.true _ s.requires.1.0.1))
 
 returns : tie.Need-returns
 returns c =
     let test = c.before in
     let m = test.before in
     let s = m.before.before.before.before.before.before in
-    entered-same _ _ _ _ s.requires.0.2 s.requires.0.0 (above-small s _) _ _ m.before.has.ensures m.meet.ensures test.if1.true
+    entered_same _ _ _ _ s.requires.0.2 s.requires.0.0 (above_small s _) _ _ m.before.has.ensures m.meet.ensures test.if1.true
     _ s.requires.1.0.1 _ s.requires.1.1 _ c.enter-same.ensures
 
 raise-requires : tie.Need-raise-requires
@@ -84,10 +84,10 @@ returns-2 c =
     let m = apart.before in
     let s = m.before.before.before.before.before.before in
     let o = or_no _ _ apart.if1.false in
-    entered-clash _ _ _ (λ S q. clash-entering _ S _ _ s.args.apart
-    (raised-clash _ s.requires.0.2 S _ _ _ s.requires.0.0 s.requires.0.1 q (above-small s _) (below-small s _) _ _ below.raise.ensures above.raise2.ensures
+    entered_clash _ _ _ (λ S q. clash_entering _ S _ _ s.args.apart
+    (raised_clash _ s.requires.0.2 S _ _ _ s.requires.0.0 s.requires.0.1 q (above_small s _) (below_small s _) _ _ below.raise.ensures above.raise2.ensures
     (λ u. false≢true (sym o.0 ∙ m.before.has.ensures ∙ u))
-    (λ k u v. false≢true (sym o.1 ∙ m.meet.ensures ∙ meets-in _ _ k u v)) _ test.crossed.ensures c.if3.true))
+    (λ k u v. false≢true (sym o.1 ∙ m.meet.ensures ∙ meets_in _ _ k u v)) _ test.crossed.ensures c.if3.true))
 
 mul-known : tie.Need-overflow-mul-known
 mul-known c = search rules
@@ -108,7 +108,7 @@ uncrossed : (c : tie.Joined2) →
 uncrossed c =
     let blank = c.before in
     let above = blank.before.before in
-    ⊎_elim {C = Crossed _ above.before.raise.result above.raise2.result false} (λ h. subst (Crossed _ _ _) h.2.left h.1.ensures) (λ h. blank-crossed _ _ _ _ blank.blank.ensures h.left) c.if2.branch
+    ⊎_elim {C = Crossed _ above.before.raise.result above.raise2.result false} (λ h. subst (Crossed _ _ _) h.2.left h.1.ensures) (λ h. blank_crossed _ _ _ _ blank.blank.ensures h.left) c.if2.branch
 
 -- first differ(b, a), then below(a, b)
 returns-3 : tie.Need-returns-3
@@ -122,11 +122,11 @@ returns-3 c =
     let m = apart.before in
     let s = m.before.before.before.before.before.before in
     let o = or_no _ _ apart.if1.false in
-    entered-as _ _ flag.if4.true (entered-well _ _ _ _ (λ S q. raised-ready _ s.requires.0.2 _ _ _ _ s.requires.0.0 s.requires.0.1
-    (differ-ready _ s.requires.0.2 S _ _ _ s.requires.0.0 s.requires.0.1 (below-small s) q (λ u. false≢true (sym o.0 ∙ m.before.has.ensures ∙ u)) _ c.parted.ensures)
-    (above-small s _) (below-small s _) _ _ below.raise.ensures above.raise2.ensures
+    entered_as _ _ flag.if4.true (entered_well _ _ _ _ (λ S q. raised_ready _ s.requires.0.2 _ _ _ _ s.requires.0.0 s.requires.0.1
+    (differ_ready _ s.requires.0.2 S _ _ _ s.requires.0.0 s.requires.0.1 (below_small s) q (λ u. false≢true (sym o.0 ∙ m.before.has.ensures ∙ u)) _ c.parted.ensures)
+    (above_small s _) (below_small s _) _ _ below.raise.ensures above.raise2.ensures
     (λ u. false≢true (sym o.0 ∙ m.before.has.ensures ∙ u))
-    (λ k u v. false≢true (sym o.1 ∙ m.meet.ensures ∙ meets-in _ _ k u v)) false (uncrossed rows) refl))
+    (λ k u v. false≢true (sym o.1 ∙ m.meet.ensures ∙ meets_in _ _ k u v)) false (uncrossed rows) refl))
 
 -- where they differ already, below(a, b) alone
 returns-4 : tie.Need-returns-4
@@ -140,11 +140,11 @@ returns-4 c =
     let m = apart.before in
     let s = m.before.before.before.before.before.before in
     let o = or_no _ _ apart.if1.false in
-    entered-as _ _ flag.if4.true (entered-well _ _ _ _ (λ S q. raised-ready _ s.requires.0.2 _ _ _ _ s.requires.0.0 s.requires.0.1
-    (differ-known _ S _ _ _ q (sym c.before.has2.ensures ∙ not-false _ c.if5.false))
-    (above-small s _) (below-small s _) _ _ below.raise.ensures above.raise2.ensures
+    entered_as _ _ flag.if4.true (entered_well _ _ _ _ (λ S q. raised_ready _ s.requires.0.2 _ _ _ _ s.requires.0.0 s.requires.0.1
+    (differ_known _ S _ _ _ q (sym c.before.has2.ensures ∙ not-false _ c.if5.false))
+    (above_small s _) (below_small s _) _ _ below.raise.ensures above.raise2.ensures
     (λ u. false≢true (sym o.0 ∙ m.before.has.ensures ∙ u))
-    (λ k u v. false≢true (sym o.1 ∙ m.meet.ensures ∙ meets-in _ _ k u v)) false (uncrossed rows) refl))
+    (λ k u v. false≢true (sym o.1 ∙ m.meet.ensures ∙ meets_in _ _ k u v)) false (uncrossed rows) refl))
 
 returns-5 : tie.Need-returns-5
 unfolding has
@@ -156,12 +156,12 @@ returns-5 c =
     let m = apart.before in
     let s = m.before.before.before.before.before.before in
     let o = or_no _ _ apart.if1.false in
-    entered-as _ _ c.if4.false (entered-well _ _ _ _ (λ S q. raised-ready _ s.requires.0.2 S _ _ _ s.requires.0.0 s.requires.0.1 q (above-small s _) (below-small s _) _ _ below.raise.ensures above.raise2.ensures
+    entered_as _ _ c.if4.false (entered_well _ _ _ _ (λ S q. raised_ready _ s.requires.0.2 S _ _ _ s.requires.0.0 s.requires.0.1 q (above_small s _) (below_small s _) _ _ below.raise.ensures above.raise2.ensures
     (λ u. false≢true (sym o.0 ∙ m.before.has.ensures ∙ u))
-    (λ k u v. false≢true (sym o.1 ∙ m.meet.ensures ∙ meets-in _ _ k u v)) false (uncrossed rows) refl))
+    (λ k u v. false≢true (sym o.1 ∙ m.meet.ensures ∙ meets_in _ _ k u v)) false (uncrossed rows) refl))
 
-pub enter-below-spec : {M : Type 1} → statement M
-enter-below-spec =
+pub enter_below_spec : {M : Type 1} → statement M
+enter_below_spec =
     tie.close
     (tie.spec
     cast-i

@@ -36,8 +36,8 @@ raise-alike-requires-2 c κs = search rules
 returns : tie.Need-returns
 returns c = record { half = c.before.raise-alike.result; there = c.before.raise-alike.ensures; back = c.raise-alike2.ensures }
 
-pub parted-spec : {M : Type 1} → statement M
-parted-spec =
+pub parted_spec : {M : Type 1} → statement M
+parted_spec =
     tie.close
     (tie.spec
     mul-u

@@ -3,13 +3,13 @@ use mathlib.Core.Path.{subst}
 use Rattle.io.specs.Counts.{IsPrefixLen}
 use Rattle.reading.specs.Filling.{Fills}
 use Rattle.reading.specs.declared.Filled.{Filled}
-use Rattle.putting.proofs.Fronts.{front-counts}
+use Rattle.putting.proofs.Fronts.{front_counts}
 use borrow.Author.Rules.{rules}
 use Rattle.fromxml.proofs.main.Statement.{statement}
 use Rattle.fromxml.proofs.main.Tie as tie
 
-read-counts : (c : tie.After-filled) → IsPrefixLen c.filled.given.0.0 c.before.before.before.fill.new.1.1.0
-read-counts c = subst (λ (f : Filled). Fills f c.before.before.before.fill.new.1.1.0) c.filled.given.1 c.before.before.before.fill.ensures
+read_counts : (c : tie.After-filled) → IsPrefixLen c.filled.given.0.0 c.before.before.before.fill.new.1.1.0
+read_counts c = subst (λ (f : Filled). Fills f c.before.before.before.fill.new.1.1.0) c.filled.given.1 c.before.before.before.fill.ensures
 
 arg-count-requires : tie.Need-arg-count-requires
 arg-count-requires c κs = search rules
@@ -42,19 +42,19 @@ returns-2 : tie.Need-returns-2
 returns-2 c = search rules
 
 array-share-prefix-text : tie.Need-array-share-prefix-text
-array-share-prefix-text c = (read-counts c.before).0
+array-share-prefix-text c = (read_counts c.before).0
 
 slice-aggregate-read : tie.Need-slice-aggregate-read
-slice-aggregate-read c = (read-counts c.before.before).1
+slice-aggregate-read c = (read_counts c.before.before).1
 
 read-requires : tie.Need-read-requires
 read-requires c κs = search rules
 
 array-share-prefix-out : tie.Need-array-share-prefix-out
-array-share-prefix-out c = (front-counts c.read.ensures.output).0
+array-share-prefix-out c = (front_counts c.read.ensures.output).0
 
 slice-aggregate-print : tie.Need-slice-aggregate-print
-slice-aggregate-print c = (front-counts c.before.read.ensures.output).1
+slice-aggregate-print c = (front_counts c.before.read.ensures.output).1
 
 print-requires : tie.Need-print-requires
 print-requires c κs = search rules

@@ -5,27 +5,27 @@ use mir.Val.{Fits}
 use mir.Syntax.{w16}
 use lib.Bits.{bit_or, bit_and}
 use Rattle.meaning.proofs.Tests.{not_yes}
-use Rattle.tables.specs.Rows.{onDocument}
-use Rattle.grouping.proofs.Making.{unify-differs, unify-labels, unify-document, unify-well}
+use Rattle.tables.specs.Rows.{on_document}
+use Rattle.grouping.proofs.Making.{unify_differs, unify_labels, unify_document, unify_well}
 use borrow.Author.Rules.{rules}
 use Rattle.grouping.proofs.unify.Statement.{statement}
 use Rattle.grouping.proofs.unify.Tie as tie
 
-x-small : (c : tie.Start) → c.args.x < 65536
-x-small c = let h : Fits w16 c.args.x = search rules in h.fits
+x_small : (c : tie.Start) → c.args.x < 65536
+x_small c = let h : Fits w16 c.args.x = search rules in h.fits
 
-root-small : (c : tie.Start) → c.args.f.root < 65536
-root-small c = let h : Fits w16 c.args.f.root = search rules in h.fits
+root_small : (c : tie.Start) → c.args.f.root < 65536
+root_small c = let h : Fits w16 c.args.f.root = search rules in h.fits
 
-leaf-small : (c : tie.Start) → c.args.f.leaf < 65536
-leaf-small c = let h : Fits w16 c.args.f.leaf = search rules in h.fits
+leaf_small : (c : tie.Start) → c.args.f.leaf < 65536
+leaf_small c = let h : Fits w16 c.args.f.leaf = search rules in h.fits
 
 -- the group is tested for a leaf and for a label beside a root
-document-seen : (c : tie.After-on-document) → let shown = c.before.before.before in
+document_seen : (c : tie.After-on-document) → let shown = c.before.before.before in
     let far = shown.before.before.before.before in
     let s = far.before.before.before.before.before.before.before.before.before.before.before.args in
-    c.on-document.result ≡ onDocument s.f.root s.f.leaf (bit_and (bit_or (bit_or s.x s.upper) far.union-rows.result) (bit_or s.x s.lower)) shown.label_of.result
-document-seen c = c.on-document.ensures
+    c.on_document_lem.result ≡ on_document s.f.root s.f.leaf (bit_and (bit_or (bit_or s.x s.upper) far.union-rows.result) (bit_or s.x s.lower)) shown.label_of.result
+document_seen c = c.on_document_lem.ensures
 
 meet-requires : tie.Need-meet-requires
 meet-requires c κs = search rules
@@ -53,7 +53,7 @@ returns c =
     let leafy = far.before in
     let met = leafy.before in
     let s = met.before.before.before.before.before.before.before.before.before in
-    unify-differs _ _ _ _ _ _ (x-small s) s.requires.0 s.requires.1 far.union-rows.ensures (rw (leafy.when.ensures, met.meet.ensures))
+    unify_differs _ _ _ _ _ _ (x_small s) s.requires.0 s.requires.1 far.union-rows.ensures (rw (leafy.when.ensures, met.meet.ensures))
     _ others.union-rows2.ensures (sym differing.meet2.ensures ∙ c.before.if1.true) _ c.refused.ensures
 
 label-of-requires : tie.Need-label-of-requires
@@ -74,8 +74,8 @@ returns-2 c =
     let leafy = far.before in
     let met = leafy.before in
     let s = met.before.before.before.before.before.before.before.before.before in
-    unify-labels _ _ _ _ _ _ (x-small s) s.requires.0 s.requires.1 far.union-rows.ensures (rw (leafy.when.ensures, met.meet.ensures))
-    _ shown.label_of.ensures (test.two-labels.ensures.two c.before.if2.true) _ c.refused2.ensures
+    unify_labels _ _ _ _ _ _ (x_small s) s.requires.0 s.requires.1 far.union-rows.ensures (rw (leafy.when.ensures, met.meet.ensures))
+    _ shown.label_of.ensures (test.two_labels.ensures.two c.before.if2.true) _ c.refused2.ensures
 
 on-document-requires : tie.Need-on-document-requires
 on-document-requires c κs = search rules
@@ -92,8 +92,8 @@ returns-3 c =
     let leafy = far.before in
     let met = leafy.before in
     let s = met.before.before.before.before.before.before.before.before.before in
-    unify-document _ _ _ _ _ _ (x-small s) s.requires.0 s.requires.1 far.union-rows.ensures (rw (leafy.when.ensures, met.meet.ensures))
-    (root-small s) (leaf-small s) _ shown.label_of.ensures (sym (document-seen test) ∙ c.before.if3.true) _ c.refused3.ensures
+    unify_document _ _ _ _ _ _ (x_small s) s.requires.0 s.requires.1 far.union-rows.ensures (rw (leafy.when.ensures, met.meet.ensures))
+    (root_small s) (leaf_small s) _ shown.label_of.ensures (sym (document_seen test) ∙ c.before.if3.true) _ c.refused3.ensures
 
 union-rows-requires-3 : tie.Need-union-rows-requires-3
 union-rows-requires-3 c κs = search rules
@@ -144,8 +144,8 @@ returns-4 : tie.Need-returns-4
 returns-4 c =
     let leaf-met = c.before in
     let root = leaf-met.before in
-    let root-met = root.before in
-    let label = root-met.before in
+    let root_met = root.before in
+    let label = root_met.before in
     let differ = label.before in
     let parent = differ.before.before in
     let child = parent.before.before in
@@ -164,19 +164,19 @@ returns-4 c =
     let leafy = far.before in
     let met = leafy.before in
     let s = met.before.before.before.before.before.before.before.before.before in
-    unify-well _ _ _ _ _ _ (x-small s) s.requires.0 s.requires.1 far.union-rows.ensures (rw (leafy.when.ensures, met.meet.ensures))
-    (root-small s) (leaf-small s) _ _
+    unify_well _ _ _ _ _ _ (x_small s) s.requires.0 s.requires.1 far.union-rows.ensures (rw (leafy.when.ensures, met.meet.ensures))
+    (root_small s) (leaf_small s) _ _
     (record {
-      is-parents = parents.union-rows4.ensures;
+      is_parents = parents.union-rows4.ensures;
       children = _;
-      is-children = children.union-rows3.ensures;
+      is_children = children.union-rows3.ensures;
       others = _;
-      is-others = others.union-rows2.ensures;
+      is_others = others.union-rows2.ensures;
       apart = λ y. not_yes (sym differing.meet2.ensures ∙ differs-not.if1.false) y;
       shown = _;
-      is-shown = shown.label_of.ensures;
-      only = test.two-labels.ensures.one free.if2.false;
-      bare = λ y. not_yes (sym (document-seen bare.before) ∙ bare.if3.false) y;
+      is_shown = shown.label_of.ensures;
+      only = test.two_labels.ensures.one free.if2.false;
+      bare = λ y. not_yes (sym (document_seen bare.before) ∙ bare.if3.false) y;
       below = below.raise.ensures;
       above = above.raise2.ensures;
       child = record { half = _; first = child.before.raise3.ensures; last = child.raise4.ensures };
@@ -184,13 +184,13 @@ returns-4 c =
       differ = record { half = _; first = differ.before.raise7.ensures; last = differ.raise8.ensures };
       before = refl;
       after = refl;
-      root = rw (root.gain.ensures, root-met.meet3.ensures);
+      root = rw (root.gain.ensures, root_met.meet3.ensures);
       leaf = rw (c.gain2.ensures, leaf-met.meet4.ensures);
       label = label.paint.ensures;
     })
 
-pub unify-spec : {M : Type 1} → statement M
-unify-spec =
+pub unify_spec : {M : Type 1} → statement M
+unify_spec =
     tie.close
     (tie.spec
     meet-requires

@@ -1,7 +1,7 @@
 -- `marker::with` meets its contract: the shifted one is the power of two, since the node is below 64.
 use borrow.Author.Rules.{rules}
 use Rattle.rowbits.proofs.Laws.{shifted_one}
-use Rattle.rowbits.specs.Bit.{withBit}
+use Rattle.rowbits.specs.Bit.{with_bit}
 use Rattle.marker.proofs.with.Statement.{statement}
 use Rattle.marker.proofs.with.Tie as tie
 
@@ -12,8 +12,8 @@ shl-result : tie.Need-overflow-shl-result
 shl-result c = search rules
 
 returns : tie.Need-returns
-unfolding withBit
+unfolding with_bit
 returns c = rw (shifted_one 64 c.before.args.node.0 c.before.requires)
 
-pub with-spec : {M : Type 1} → statement M
-with-spec = tie.close (tie.spec cast-result shl-result returns)
+pub with_spec : {M : Type 1} → statement M
+with_spec = tie.close (tie.spec cast-result shl-result returns)

@@ -3,17 +3,17 @@ use mathlib.Core.Path.{subst}
 use Rattle.io.specs.Counts.{IsPrefixLen}
 use Rattle.reading.specs.Filling.{Fills}
 use Rattle.reading.specs.declared.Filled.{Filled}
-use Rattle.putting.proofs.Fronts.{front-counts}
+use Rattle.putting.proofs.Fronts.{front_counts}
 use Rattle.marking.specs.Pieces.{FillsWithAnswer}
 use borrow.Author.Rules.{rules}
 use Rattle.marking.proofs.mark_files.Statement.{statement}
 use Rattle.marking.proofs.mark_files.Tie as tie
 
-first-counts : (c : tie.After-first) → IsPrefixLen c.first.given.0.0 c.before.before.before.read-constraints.new.1.0
-first-counts c = subst (λ (f : Filled). Fills f c.before.before.before.read-constraints.new.1.0) c.first.given.1 c.before.before.before.read-constraints.ensures
+first_counts : (c : tie.After-first) → IsPrefixLen c.first.given.0.0 c.before.before.before.read-constraints.new.1.0
+first_counts c = subst (λ (f : Filled). Fills f c.before.before.before.read-constraints.new.1.0) c.first.given.1 c.before.before.before.read-constraints.ensures
 
-second-counts : (c : tie.After-second) → IsPrefixLen c.second.given.0.0 c.before.before.before.read_answer.new.1.0
-second-counts c = (subst (λ (f : Filled). FillsWithAnswer f c.before.before.before.read_answer.new.1.0) c.second.given.1 c.before.before.before.read_answer.ensures).0
+second_counts : (c : tie.After-second) → IsPrefixLen c.second.given.0.0 c.before.before.before.read_answer.new.1.0
+second_counts c = (subst (λ (f : Filled). FillsWithAnswer f c.before.before.before.read_answer.new.1.0) c.second.given.1 c.before.before.before.read_answer.ensures).0
 
 slice-aggregate-read-constraints : tie.Need-slice-aggregate-read-constraints
 slice-aggregate-read-constraints c = search rules
@@ -49,25 +49,25 @@ returns-2 : tie.Need-returns-2
 returns-2 c = search rules
 
 array-share-prefix-records : tie.Need-array-share-prefix-records
-array-share-prefix-records c = (first-counts c.before.before.before.before.before.before.before.before).0
+array-share-prefix-records c = (first_counts c.before.before.before.before.before.before.before.before).0
 
 slice-aggregate-mark : tie.Need-slice-aggregate-mark
-slice-aggregate-mark c = (first-counts c.before.before.before.before.before.before.before.before.before).1
+slice-aggregate-mark c = (first_counts c.before.before.before.before.before.before.before.before.before).1
 
 array-share-prefix-buffer : tie.Need-array-share-prefix-buffer
-array-share-prefix-buffer c = (second-counts c.before.before).0
+array-share-prefix-buffer c = (second_counts c.before.before).0
 
 slice-aggregate-mark-2 : tie.Need-slice-aggregate-mark-2
-slice-aggregate-mark-2 c = (second-counts c.before.before.before).1
+slice-aggregate-mark-2 c = (second_counts c.before.before.before).1
 
 mark-requires : tie.Need-mark-requires
 mark-requires c κs = search rules
 
 array-share-prefix-out : tie.Need-array-share-prefix-out
-array-share-prefix-out c = (front-counts c.mark.ensures.text).0
+array-share-prefix-out c = (front_counts c.mark.ensures.text).0
 
 slice-aggregate-print : tie.Need-slice-aggregate-print
-slice-aggregate-print c = (front-counts c.before.mark.ensures.text).1
+slice-aggregate-print c = (front_counts c.before.mark.ensures.text).1
 
 print-requires : tie.Need-print-requires
 print-requires c κs = search rules
@@ -75,8 +75,8 @@ print-requires c κs = search rules
 returns-3 : tie.Need-returns-3
 returns-3 c = search rules
 
-pub mark-files-spec : {M : Type 1} → statement M
-mark-files-spec =
+pub mark_files_spec : {M : Type 1} → statement M
+mark_files_spec =
     tie.close
     (tie.spec
     slice-aggregate-read-constraints

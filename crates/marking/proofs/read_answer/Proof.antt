@@ -1,6 +1,6 @@
 -- `read_answer` tells what the reader of pieces tells (proofs/Answers.antt).
 use borrow.Author.Rules.{rules}
-use Rattle.marking.proofs.Answers.{with-answer}
+use Rattle.marking.proofs.Answers.{with_answer}
 use Rattle.marking.proofs.read_answer.Statement.{statement}
 use Rattle.marking.proofs.read_answer.Tie as tie
 
@@ -20,7 +20,7 @@ same_length : tie.Need-same-length
 same_length c = search rules
 
 returns-2 : tie.Need-returns-2
-returns-2 c = let r = c.before.before.before.read-pieces in with-answer r.result r.new.1.1.0 r.ensures
+returns-2 c = let r = c.before.before.before.read-pieces in with_answer r.result r.new.1.1.0 r.ensures
 
-pub read-answer-spec : {M : Type 1} → statement M
-read-answer-spec = tie.close (tie.spec open-requires returns read-pieces-requires close-requires same_length returns-2)
+pub read_answer_spec : {M : Type 1} → statement M
+read_answer_spec = tie.close (tie.spec open-requires returns read-pieces-requires close-requires same_length returns-2)

@@ -9,7 +9,7 @@ use Rattle.tables.specs.Rows.{Union}
 use Rattle.grouping.specs.Rows.{Gap}
 use Rattle.grouping.specs.Grouping.{Pending, lacking}
 use Rattle.merge.specs.Merging.{OneElement}
-use Rattle.merge.proofs.Entered.{ready-top, begun, merged-clash, merged-well}
+use Rattle.merge.proofs.Entered.{ready_top, begun, merged_clash, merged_well}
 use borrow.Author.Rules.{rules}
 use Rattle.merge.proofs.enter_same.Statement.{statement}
 use Rattle.merge.proofs.enter_same.Tie as tie
@@ -21,8 +21,8 @@ invariant-loop f n i j g₀ x₀ lower₀ upper₀ g x lower upper =
 abbrev decreases-loop : tie.decreases-loop
 decreases-loop f n i j g₀ x₀ lower₀ upper₀ g x lower upper = lacking g.below
 
-union-at : (t : List ℕ) (j k r : ℕ) → j ≡ k → Union t k r → Union t j r
-union-at t j k r e h = subst (λ (i : ℕ). Union t i r) (sym e) h
+union_at : (t : List ℕ) (j k r : ℕ) → j ≡ k → Union t k r → Union t j r
+union_at t j k r e h = subst (λ (i : ℕ). Union t i r) (sym e) h
 
 cast-i : tie.Need-overflow-cast-i invariant-loop decreases-loop
 cast-i c = search rules
@@ -42,9 +42,9 @@ union-two-requires-2 c κs = (search rules, search rules)
 loop-holds : tie.Need-loop-init invariant-loop decreases-loop
 loop-holds c = (
   (λ T p. p),
-  (λ _. ready-top _ _ _ c.before.before.before.before.before.before.before.requires.1.1),
+  (λ _. ready_top _ _ _ c.before.before.before.before.before.before.before.requires.1.1),
   λ z. let h = c.before.before.two-with-gap.ensures.some z in
-      (subst (Gap _) (sym h.0) h.1, union-at _ _ _ _ h.0 c.before.union-two.ensures, union-at _ _ _ _ h.0 c.union-two2.ensures),
+      (subst (Gap _) (sym h.0) h.1, union_at _ _ _ _ h.0 c.before.union-two.ensures, union_at _ _ _ _ h.0 c.union-two2.ensures),
 )
 
 next-round-requires : tie.Need-next-round-requires invariant-loop decreases-loop
@@ -56,7 +56,7 @@ returns c =
     let l = u.before.before in
     let a = l.before.before.before in
     let s = a.before.before.before.before.before in
-    merged-clash _ _ _ _ s.requires.0.2 s.requires.0.0 s.requires.0.1 _ a.two-with-gap.ensures (λ T p. u.next-round.ensures.clashes c.if1.true _ T (l.loop.invariant.0 T p))
+    merged_clash _ _ _ _ s.requires.0.2 s.requires.0.0 s.requires.0.1 _ a.two-with-gap.ensures (λ T p. u.next-round.ensures.clashes c.if1.true _ T (l.loop.invariant.0 T p))
 
 union-rows-requires : tie.Need-union-rows-requires invariant-loop decreases-loop
 union-rows-requires c κs = search rules
@@ -91,11 +91,11 @@ returns-2 c =
     let l = c.before in
     let a = l.before.before.before in
     let s = a.before.before.before.before.before in
-    merged-well _ _ _ _ s.requires.0.2 s.requires.0.0 s.requires.0.1 _ a.two-with-gap.ensures
+    merged_well _ _ _ _ s.requires.0.2 s.requires.0.0 s.requires.0.1 _ a.two-with-gap.ensures
     _ (l.loop.invariant.1 c.loop-test.false) (λ T p. subst (λ (k : ℕ). Pending s.args.n T k l.loop.g) c.loop-test.false (l.loop.invariant.0 T p))
 
-pub enter-same-spec : {M : Type 1} → statement M
-enter-same-spec =
+pub enter_same_spec : {M : Type 1} → statement M
+enter_same_spec =
     tie.close
     (tie.spec
     invariant-loop

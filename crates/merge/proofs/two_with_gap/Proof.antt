@@ -1,5 +1,5 @@
 -- `merge::two_with_gap` meets its contract: what the two rows do not share one of them lacks.
-use Rattle.merge.proofs.Loops.{is-apart-two, not-apart-two}
+use Rattle.merge.proofs.Loops.{is_apart_two, not_apart_two}
 use borrow.Author.Rules.{rules}
 use Rattle.merge.proofs.two_with_gap.Statement.{statement}
 use Rattle.merge.proofs.two_with_gap.Tie as tie
@@ -29,17 +29,17 @@ returns : tie.Need-returns
 returns c =
     let e = c.before in
     let s = e.before.before.before in
-    not-apart-two s.args.t1 s.args.a s.args.b s.requires.0 s.requires.1 (rw (← e.before.before.one.ensures, ← e.before.one2.ensures) (rw (← e.except.ensures) c.if1.true))
+    not_apart_two s.args.t1 s.args.a s.args.b s.requires.0 s.requires.1 (rw (← e.before.before.one.ensures, ← e.before.one2.ensures) (rw (← e.except.ensures) c.if1.true))
 
 returns-2 : tie.Need-returns-2
 returns-2 c =
     let e = c.before in
     let s = e.before.before.before in
     rw (e.before.before.one.ensures, e.before.one2.ensures)
-    (is-apart-two s.args.t1 s.args.a s.args.b s.requires.0 s.requires.1 (rw (← e.before.before.one.ensures, ← e.before.one2.ensures) (rw (← e.except.ensures) c.if1.false)))
+    (is_apart_two s.args.t1 s.args.a s.args.b s.requires.0 s.requires.1 (rw (← e.before.before.one.ensures, ← e.before.one2.ensures) (rw (← e.except.ensures) c.if1.false)))
 
-pub two-with-gap-spec : {M : Type 1} → statement M
-two-with-gap-spec =
+pub two_with_gap_spec : {M : Type 1} → statement M
+two_with_gap_spec =
     tie.close
     (tie.spec
     mul-v

@@ -2,7 +2,7 @@
 use mir.Val.{Fits}
 use mir.Syntax.{w16}
 use Rattle.tables.specs.Tables.{row}
-use Rattle.merge.proofs.Loops.{is-union-two}
+use Rattle.merge.proofs.Loops.{is_union_two}
 use borrow.Author.Rules.{rules}
 use Rattle.merge.proofs.union_two.Statement.{statement}
 use Rattle.merge.proofs.union_two.Tie as tie
@@ -23,7 +23,7 @@ returns : tie.Need-returns
 returns c =
     let v : Fits w16 (row c.args.t1 c.args.a) = search rules in
     let w : Fits w16 (row c.args.t1 c.args.b) = search rules in
-    is-union-two c.args.t1 c.args.a c.args.b c.requires.0 c.requires.1 v.fits w.fits
+    is_union_two c.args.t1 c.args.a c.args.b c.requires.0 c.requires.1 v.fits w.fits
 
-pub union-two-spec : {M : Type 1} → statement M
-union-two-spec = tie.close (tie.spec mul-v array-read-v mul-w array-read-w returns)
+pub union_two_spec : {M : Type 1} → statement M
+union_two_spec = tie.close (tie.spec mul-v array-read-v mul-w array-read-w returns)

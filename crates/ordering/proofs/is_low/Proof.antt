@@ -12,5 +12,5 @@ all-requires c κs = search rules
 returns : tie.Need-returns
 returns c = rw c.all.ensures
 
-pub is-low-spec : {M : Type 1} → statement M
-is-low-spec = tie.close (tie.spec cast-all all-requires returns)
+pub is_low_spec : {M : Type 1} → statement M
+is_low_spec = tie.close (tie.spec cast-all all-requires returns)

@@ -16,5 +16,5 @@ except-requires c κs = search rules
 returns : tie.Need-returns
 returns c = rw (c.before.has.ensures, c.except.ensures) (and_is _ _)
 
-pub is-near-spec : {M : Type 1} → statement M
-is-near-spec = tie.close (tie.spec cast-has has-requires except-requires returns)
+pub is_near_spec : {M : Type 1} → statement M
+is_near_spec = tie.close (tie.spec cast-has has-requires except-requires returns)

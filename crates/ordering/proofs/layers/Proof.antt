@@ -2,7 +2,7 @@
 use mathlib.Core.Path.{◌≡◌, subst}
 use Prim.Native.Nat.{ℕ, ◌≤◌, ◌-◌}
 use lib.ListN.{length}
-use Rattle.ordering.proofs.Layered.{Layered, layered-none, layered-more}
+use Rattle.ordering.proofs.Layered.{Layered, layered_none, layered_more}
 use Rattle.ordering.specs.Rows.{deep}
 use borrow.Author.Rules.{rules}
 use Rattle.ordering.proofs.layers.Statement.{statement}
@@ -15,7 +15,7 @@ abbrev decreases-loop : tie.decreases-loop
 decreases-loop lows n below above layer₀ x₀ layer x = n - x
 
 loop-holds : tie.Need-loop-init invariant-loop decreases-loop
-loop-holds c = (search rules, search rules, layered-none _ _ _ _)
+loop-holds c = (search rules, search rules, layered_none _ _ _ _)
 
 mul-up : tie.Need-overflow-mul-up invariant-loop decreases-loop
 mul-up c = search rules
@@ -65,7 +65,7 @@ loop-again c =
     let i = c.before.before.before.before.before in (
       search rules,
       search rules,
-      layered-more _ _ _ _ i.loop.x _ _ _ _ i.loop.layer i.loop.invariant.1 c.before.before.before.over.ensures
+      layered_more _ _ _ _ i.loop.x _ _ _ _ i.loop.layer i.loop.invariant.1 c.before.before.before.over.ensures
           c.before.before.count.ensures.0 c.before.has.ensures c.gain-one.ensures i.loop.invariant.2,
     )
 
@@ -74,8 +74,8 @@ unfolding Layered
 returns c = let e : c.before.loop.x ≡ c.before.before.args.n = search rules in let s = c.before.before.args in
     subst (λ (k : ℕ). Layered s.t1 s.t2 s.n s.lows k c.before.loop.layer) e c.before.loop.invariant.2
 
-pub layers-spec : {M : Type 1} → statement M
-layers-spec =
+pub layers_spec : {M : Type 1} → statement M
+layers_spec =
     tie.close
     (tie.spec
     invariant-loop

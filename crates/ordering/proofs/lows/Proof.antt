@@ -1,14 +1,14 @@
 -- `ordering::lows` meets its contract: at x the row holds the lowest variables below x, of roots too, which are left out at the end.
 use mathlib.Core.Path.{◌≡◌}
 use Prim.Native.Nat.{◌≤◌, ◌-◌}
-use Rattle.ordering.specs.Rows.{Gathered, isLow, isLowest}
-use Rattle.ordering.proofs.Bits.{gather_none, gather-more, gather-except}
+use Rattle.ordering.specs.Rows.{Gathered, is_low, is_lowest}
+use Rattle.ordering.proofs.Bits.{gather_none, gather_more, gather_except}
 use borrow.Author.Rules.{rules}
 use Rattle.ordering.proofs.lows.Statement.{statement}
 use Rattle.ordering.proofs.lows.Tie as tie
 
 abbrev invariant-loop : tie.invariant-loop
-invariant-loop root n below above a₀ x₀ a x = (x ≤ n) × Gathered x (isLow below above) a
+invariant-loop root n below above a₀ x₀ a x = (x ≤ n) × Gathered x (is_low below above) a
 
 abbrev decreases-loop : tie.decreases-loop
 decreases-loop root n below above a₀ x₀ a x = n - x
@@ -44,22 +44,22 @@ loop-less : tie.Need-loop-smaller invariant-loop decreases-loop
 loop-less c = search rules
 
 loop-again : tie.Need-loop-preserved invariant-loop decreases-loop
-unfolding isLow
-loop-again c = (search rules, gather-more _ _ _ _ _ c.before.is-low.ensures c.gain-one.ensures c.before.before.before.loop.invariant.1)
+unfolding is_low
+loop-again c = (search rules, gather_more _ _ _ _ _ c.before.is-low.ensures c.gain-one.ensures c.before.before.before.loop.invariant.1)
 
 except-requires : tie.Need-except-requires invariant-loop decreases-loop
 except-requires c κs = search rules
 
 returns : tie.Need-returns invariant-loop decreases-loop
-unfolding isLowest
+unfolding is_lowest
 returns c =
     let i = c.before.before in
     let s = i.before in
     let e : i.loop.x ≡ s.args.n = search rules in
-    gather-except (isLow s.args.t1 s.args.t2) _ i.loop.a s.args.root _ s.requires c.except.ensures (rw (← e) i.loop.invariant.1)
+    gather_except (is_low s.args.t1 s.args.t2) _ i.loop.a s.args.root _ s.requires c.except.ensures (rw (← e) i.loop.invariant.1)
 
-pub lows-spec : {M : Type 1} → statement M
-lows-spec =
+pub lows_spec : {M : Type 1} → statement M
+lows_spec =
     tie.close
     (tie.spec
     invariant-loop

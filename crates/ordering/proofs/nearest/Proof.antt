@@ -6,7 +6,7 @@ use lib.ListN.{get_or, drop}
 use Rattle.meaning.specs.Finite.{position}
 use Rattle.ordering.specs.Rows.{near}
 use Rattle.ordering.specs.Listing.{groups}
-use Rattle.ordering.proofs.Listing.{length-mapped, inside-at, scan-here, scan-next, scan-end}
+use Rattle.ordering.proofs.Listing.{length_mapped, inside_at, scan_here, scan_next, scan_end}
 use borrow.Author.Rules.{rules}
 use Rattle.ordering.proofs.nearest.Statement.{statement}
 use Rattle.ordering.proofs.nearest.Tie as tie
@@ -18,8 +18,8 @@ abbrev decreases-loop : tie.decreases-loop
 decreases-loop over order below above len i₀ i = len - i
 
 -- the group that is looked at is a variable
-variable-in : (c : tie.After-struct-known invariant-loop decreases-loop) → let i = c.before.before.before in (get_or i.before.args.t1.group i.loop.i record { 0 = 0 }).0 < 16
-variable-in c = let i = c.before.before.before in inside-at i.before.args.t1 (search (rules, length-mapped)) i.before.requires i.loop.i (search rules)
+variable_in : (c : tie.After-struct-known invariant-loop decreases-loop) → let i = c.before.before.before in (get_or i.before.args.t1.group i.loop.i record { 0 = 0 }).0 < 16
+variable_in c = let i = c.before.before.before in inside_at i.before.args.t1 (search (rules, length_mapped)) i.before.requires i.loop.i (search rules)
 
 loop-holds : tie.Need-loop-init invariant-loop decreases-loop
 loop-holds c = (search rules, omega arith)
@@ -31,26 +31,26 @@ cast-w : tie.Need-overflow-cast-w invariant-loop decreases-loop
 cast-w c = search rules
 
 mul-down : tie.Need-overflow-mul-down invariant-loop decreases-loop
-mul-down c = omega (arith, variable-in c)
+mul-down c = omega (arith, variable_in c)
 
 array-read-down : tie.Need-array-read-down invariant-loop decreases-loop
-array-read-down c = variable-in c
+array-read-down c = variable_in c
 
 mul-up : tie.Need-overflow-mul-up invariant-loop decreases-loop
-mul-up c = omega (arith, variable-in c)
+mul-up c = omega (arith, variable_in c)
 
 array-read-up : tie.Need-array-read-up invariant-loop decreases-loop
-array-read-up c = variable-in c
+array-read-up c = variable_in c
 
 is-near-requires : tie.Need-is-near-requires invariant-loop decreases-loop
-is-near-requires c κs = variable-in c
+is-near-requires c κs = variable_in c
 
 returns : tie.Need-returns invariant-loop decreases-loop
 unfolding near
 returns c =
     let i = c.before.before.before.before.before in
-    scan-here (near i.before.args.t3 i.before.args.t4 i.before.args.over) i.before.args.t1 (search (rules, length-mapped)) i.before.requires i.loop.i (search rules)
-    (sym c.before.is-near.ensures ∙ c.if1.true) i.loop.invariant.1
+    scan_here (near i.before.args.t3 i.before.args.t4 i.before.args.over) i.before.args.t1 (search (rules, length_mapped)) i.before.requires i.loop.i (search rules)
+    (sym c.before.is_near.ensures ∙ c.if1.true) i.loop.invariant.1
 
 add-i : tie.Need-overflow-add-i invariant-loop decreases-loop
 add-i c = search rules
@@ -62,13 +62,13 @@ loop-again : tie.Need-loop-preserved invariant-loop decreases-loop
 unfolding near
 loop-again c =
     let i = c.before.before.before.before.before in
-    (search rules, scan-next (near i.before.args.t3 i.before.args.t4 i.before.args.over) i.before.args.t1 (search (rules, length-mapped)) i.before.requires i.loop.i (search rules) (sym c.before.is-near.ensures ∙ c.if1.false) i.loop.invariant.1)
+    (search rules, scan_next (near i.before.args.t3 i.before.args.t4 i.before.args.over) i.before.args.t1 (search (rules, length_mapped)) i.before.requires i.loop.i (search rules) (sym c.before.is_near.ensures ∙ c.if1.false) i.loop.invariant.1)
 
 returns-2 : tie.Need-returns-2 invariant-loop decreases-loop
-returns-2 c = let i = c.before in scan-end (near i.before.args.t3 i.before.args.t4 i.before.args.over) i.before.args.t1 (search (rules, length-mapped)) i.before.requires i.loop.i (search rules) (search rules) i.loop.invariant.1
+returns-2 c = let i = c.before in scan_end (near i.before.args.t3 i.before.args.t4 i.before.args.over) i.before.args.t1 (search (rules, length_mapped)) i.before.requires i.loop.i (search rules) (search rules) i.loop.invariant.1
 
-pub nearest-spec : {M : Type 1} → statement M
-nearest-spec =
+pub nearest_spec : {M : Type 1} → statement M
+nearest_spec =
     tie.close
     (tie.spec
     invariant-loop

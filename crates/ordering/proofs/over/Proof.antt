@@ -1,5 +1,5 @@
 -- `ordering::over` meets its contract.
-use Rattle.ordering.specs.Rows.{overRow}
+use Rattle.ordering.specs.Rows.{over_row}
 use borrow.Author.Rules.{rules}
 use Rattle.ordering.proofs.over.Statement.{statement}
 use Rattle.ordering.proofs.over.Tie as tie
@@ -11,8 +11,8 @@ all-requires : tie.Need-all-requires
 all-requires c κs = search rules
 
 returns : tie.Need-returns
-unfolding overRow
+unfolding over_row
 returns c = rw (c.before.except.ensures, c.all.ensures)
 
-pub over-spec : {M : Type 1} → statement M
-over-spec = tie.close (tie.spec except-requires all-requires returns)
+pub over_spec : {M : Type 1} → statement M
+over_spec = tie.close (tie.spec except-requires all-requires returns)

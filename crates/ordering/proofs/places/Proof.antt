@@ -4,7 +4,7 @@ use Prim.Native.Nat.{◌+◌, ◌-◌, ◌<◌, ◌≤◌}
 use native.Mathlib.Omega.{arith}
 use lib.ListN.{length}
 use Rattle.ordering.specs.Listing.{groups}
-use Rattle.ordering.proofs.Listing.{length-mapped, count-is, member-at, inside-at, Placing, placing-none, placing-more, placing-all}
+use Rattle.ordering.proofs.Listing.{length_mapped, count_is, member_at, inside_at, Placing, placing_none, placing_more, placing_all}
 use borrow.Author.Rules.{rules}
 use Rattle.ordering.proofs.places.Statement.{statement}
 use Rattle.ordering.proofs.places.Tie as tie
@@ -16,7 +16,7 @@ abbrev decreases-loop : tie.decreases-loop
 decreases-loop order a₀ i₀ a i = i
 
 loop-holds : tie.Need-loop-init invariant-loop decreases-loop
-loop-holds c = (search rules, search rules, placing-none _ _ _ (omega (arith, count-is c.args.t1 (search (rules, length-mapped)) c.requires)))
+loop-holds c = (search rules, search rules, placing_none _ _ _ (omega (arith, count_is c.args.t1 (search (rules, length_mapped)) c.requires)))
 
 sub-i : tie.Need-overflow-sub-i invariant-loop decreases-loop
 sub-i c = search rules
@@ -31,7 +31,7 @@ cast-a-2 : tie.Need-overflow-cast-a-2 invariant-loop decreases-loop
 cast-a-2 c = search rules
 
 array-write-a : tie.Need-array-write-a invariant-loop decreases-loop
-array-write-a c = let i = c.before.before.before in inside-at i.before.args.t1 (search (rules, length-mapped)) i.before.requires (i.loop.i - 1) (search rules)
+array-write-a c = let i = c.before.before.before in inside_at i.before.args.t1 (search (rules, length_mapped)) i.before.requires (i.loop.i - 1) (search rules)
 
 loop-less : tie.Need-loop-smaller invariant-loop decreases-loop
 loop-less c = search rules
@@ -40,20 +40,20 @@ loop-again : tie.Need-loop-preserved invariant-loop decreases-loop
 loop-again c =
     let i = c.before.before.before in
     let o = i.before.args.t1 in
-    let long : length o.group ≡ 16 = search (rules, length-mapped) in
+    let long : length o.group ≡ 16 = search (rules, length_mapped) in
     let l : i.loop.i - 1 < o.len = search rules in
     let e : i.loop.i - 1 + 1 ≡ i.loop.i = search rules in (
       search rules,
       search rules,
-      placing-more (groups o) (i.loop.i - 1) i.loop.a _ (omega (arith, l, count-is o long i.before.requires)) (member-at o long i.before.requires _ l)
-          (omega (arith, inside-at o long i.before.requires _ l, i.loop.invariant.1)) (rw e i.loop.invariant.2),
+      placing_more (groups o) (i.loop.i - 1) i.loop.a _ (omega (arith, l, count_is o long i.before.requires)) (member_at o long i.before.requires _ l)
+          (omega (arith, inside_at o long i.before.requires _ l, i.loop.invariant.1)) (rw e i.loop.invariant.2),
     )
 
 returns : tie.Need-returns invariant-loop decreases-loop
-returns c = let e : c.before.loop.i ≡ 0 = search rules in placing-all _ _ (rw e at c.before.loop.invariant.2)
+returns c = let e : c.before.loop.i ≡ 0 = search rules in placing_all _ _ (rw e at c.before.loop.invariant.2)
 
-pub places-spec : {M : Type 1} → statement M
-places-spec =
+pub places_spec : {M : Type 1} → statement M
+places_spec =
     tie.close
     (tie.spec
     invariant-loop

@@ -2,20 +2,20 @@
 use Prim.Native.Nat.{◌≤◌, ◌-◌}
 use borrow.Author.Rules.{rules}
 use Rattle.tables.specs.Tables.{row}
-use Rattle.tables.proofs.Loops.{Rowing, rowing-none, rowing_more}
-use Rattle.passes.specs.Rows.{firstRow}
-use Rattle.passes.proofs.Chain.{chained-rows}
+use Rattle.tables.proofs.Loops.{Rowing, rowing_none, rowing_more}
+use Rattle.passes.specs.Rows.{first_row}
+use Rattle.passes.proofs.Chain.{chained_rows}
 use Rattle.passes.proofs.below_rows.Statement.{statement}
 use Rattle.passes.proofs.below_rows.Tie as tie
 
 abbrev invariant-loop : tie.invariant-loop
-invariant-loop root n child a₀ x₀ a x = (x ≤ n) × Rowing (λ k v. firstRow v (row child k) root k n) n a₀ x a
+invariant-loop root n child a₀ x₀ a x = (x ≤ n) × Rowing (λ k v. first_row v (row child k) root k n) n a₀ x a
 
 abbrev decreases-loop : tie.decreases-loop
 decreases-loop root n child a₀ x₀ a x = n - x
 
 loop-holds : tie.Need-loop-init invariant-loop decreases-loop
-loop-holds c = (search rules, rowing-none _ _ _ (search rules))
+loop-holds c = (search rules, rowing_none _ _ _ (search rules))
 
 mul-v : tie.Need-overflow-mul-v invariant-loop decreases-loop
 mul-v c = search rules
@@ -53,10 +53,10 @@ chain-rows-requires c κs = search rules
 returns : tie.Need-returns invariant-loop decreases-loop
 returns c =
     let l = c.before.before in
-    chained-rows _ (search rules) _ _ _ _ _ _ (search rules) l.loop.invariant.0 l.loop.invariant.1 c.chain-rows.ensures
+    chained_rows _ (search rules) _ _ _ _ _ _ (search rules) l.loop.invariant.0 l.loop.invariant.1 c.chain-rows.ensures
 
-pub below-rows-spec : {M : Type 1} → statement M
-below-rows-spec =
+pub below_rows_spec : {M : Type 1} → statement M
+below_rows_spec =
     tie.close
     (tie.spec
     invariant-loop

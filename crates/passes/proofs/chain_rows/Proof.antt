@@ -5,8 +5,8 @@ use lib.ListN.{length}
 use borrow.Author.Rules.{rules}
 use Rattle.rowbits.specs.Bit.{bit}
 use Rattle.tables.specs.Rows.{gained}
-use Rattle.tables.proofs.Loops.{Rowing, rowing-none, rowing_more}
-use Rattle.passes.proofs.Chain.{Lifting, lifting-none, lifting-more, lifted, chain-of}
+use Rattle.tables.proofs.Loops.{Rowing, rowing_none, rowing_more}
+use Rattle.passes.proofs.Chain.{Lifting, lifting_none, lifting_more, lifted, chain_of}
 use Rattle.passes.proofs.chain_rows.Statement.{statement}
 use Rattle.passes.proofs.chain_rows.Tie as tie
 
@@ -23,7 +23,7 @@ abbrev decreases-loop : tie.decreases-loop
 decreases-loop n a₀ y₀ a y = n - y
 
 loop-holds : tie.Need-loop-init invariant-loop2 decreases-loop2 invariant-loop decreases-loop
-loop-holds c = (search rules, search rules, lifting-none _)
+loop-holds c = (search rules, search rules, lifting_none _)
 
 mul-by : tie.Need-overflow-mul-by invariant-loop2 decreases-loop2 invariant-loop decreases-loop
 mul-by c = search rules
@@ -32,7 +32,7 @@ array-read-by : tie.Need-array-read-by invariant-loop2 decreases-loop2 invariant
 array-read-by c = search rules
 
 loop2-holds : tie.Need-loop2-init invariant-loop2 decreases-loop2 invariant-loop decreases-loop
-loop2-holds c = (search rules, rowing-none _ _ _ c.before.loop.invariant.1)
+loop2-holds c = (search rules, rowing_none _ _ _ c.before.loop.invariant.1)
 
 mul-v : tie.Need-overflow-mul-v invariant-loop2 decreases-loop2 invariant-loop decreases-loop
 mul-v c = search rules
@@ -68,13 +68,13 @@ loop-less : tie.Need-loop-smaller invariant-loop2 decreases-loop2 invariant-loop
 loop-less c = search rules
 
 loop-again : tie.Need-loop-preserved invariant-loop2 decreases-loop2 invariant-loop decreases-loop
-loop-again c = (search rules, c.before.loop2.invariant.1.long, lifting-more _ _ _ _ (search rules) (lifted _ _ _ _ (search rules) c.before.loop2.invariant.0 c.before.loop2.invariant.1) c.before.before.before.loop.invariant.2)
+loop-again c = (search rules, c.before.loop2.invariant.1.long, lifting_more _ _ _ _ (search rules) (lifted _ _ _ _ (search rules) c.before.loop2.invariant.0 c.before.loop2.invariant.1) c.before.before.before.loop.invariant.2)
 
 returns : tie.Need-returns invariant-loop2 decreases-loop2 invariant-loop decreases-loop
-returns c = chain-of _ (search rules) _ _ _ (search rules) c.before.loop.invariant.2
+returns c = chain_of _ (search rules) _ _ _ (search rules) c.before.loop.invariant.2
 
-pub chain-rows-spec : {M : Type 1} → statement M
-chain-rows-spec =
+pub chain_rows_spec : {M : Type 1} → statement M
+chain_rows_spec =
     tie.close
     (tie.spec
     invariant-loop2

@@ -1,6 +1,6 @@
 -- `passes::first_row` meets its contract: from what its helpers ensure.
 use borrow.Author.Rules.{rules}
-use Rattle.passes.specs.Rows.{firstRow}
+use Rattle.passes.specs.Rows.{first_row}
 use Rattle.passes.proofs.first_row.Statement.{statement}
 use Rattle.passes.proofs.first_row.Tie as tie
 
@@ -17,8 +17,8 @@ gain-requires : tie.Need-gain-requires
 gain-requires c κs = search rules
 
 returns : tie.Need-returns
-unfolding firstRow
+unfolding first_row
 returns c = rw (c.gain.ensures, c.before.all.ensures, c.before.before.one.ensures, c.before.before.before.has.ensures)
 
-pub first-row-spec : {M : Type 1} → statement M
-first-row-spec = tie.close (tie.spec has-requires one-requires all-requires gain-requires returns)
+pub first_row_spec : {M : Type 1} → statement M
+first_row_spec = tie.close (tie.spec has-requires one-requires all-requires gain-requires returns)

@@ -2,7 +2,7 @@
 use Prim.Native.Nat.{◌≤◌, ◌-◌}
 use native.Mathlib.Numerals.{add-one-le}
 use borrow.Author.Rules.{rules}
-use Rattle.passes.proofs.Joining.{Joining, joining-none, joining-more, joining-all}
+use Rattle.passes.proofs.Joining.{Joining, joining_none, joining_more, joining_all}
 use Rattle.passes.proofs.join_rows.Statement.{statement}
 use Rattle.passes.proofs.join_rows.Tie as tie
 
@@ -13,7 +13,7 @@ abbrev decreases-loop : tie.decreases-loop
 decreases-loop leaf root n above child parent a₀ more₀ x₀ a more x = n - x
 
 loop-holds : tie.Need-loop-init invariant-loop decreases-loop
-loop-holds c = (search rules, joining-none _ _ _ _ _ _ (search rules))
+loop-holds c = (search rules, joining_none _ _ _ _ _ _ (search rules))
 
 mul-old : tie.Need-overflow-mul-old invariant-loop decreases-loop
 mul-old c = search rules
@@ -61,10 +61,10 @@ loop-again : tie.Need-loop-preserved invariant-loop decreases-loop
 loop-again c =
     let u = c.before in
     let t = u.before in
-    (add-one-le t.loop-test.true, joining-more _ _ _ _ _ _ _ _ _ _ _ (search rules) t.before.loop.invariant.1 u.union-rows.ensures c.union-rows2.ensures)
+    (add-one-le t.loop-test.true, joining_more _ _ _ _ _ _ _ _ _ _ _ (search rules) t.before.loop.invariant.1 u.union-rows.ensures c.union-rows2.ensures)
 
 returns : tie.Need-returns invariant-loop decreases-loop
-returns c = let i = c.before.loop.invariant in joining-all _ _ _ _ _ _ i.0 c.loop-test.false i.1
+returns c = let i = c.before.loop.invariant in joining_all _ _ _ _ _ _ i.0 c.loop-test.false i.1
 
 pub join_rows_spec : {M : Type 1} → statement M
 join_rows_spec =

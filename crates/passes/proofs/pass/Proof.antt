@@ -3,7 +3,7 @@ use lib.ListN.{get_or}
 use mir.Val.{Fits}
 use mir.Syntax.{w16}
 use borrow.Author.Rules.{rules}
-use Rattle.passes.proofs.Final.{Start, ended-well, ended-clash}
+use Rattle.passes.proofs.Final.{Start, ended_well, ended_clash}
 use Rattle.passes.proofs.pass.Statement.{statement}
 use Rattle.passes.proofs.pass.Tie as tie
 
@@ -13,9 +13,9 @@ started c =
     record {
       few = a.requires;
       groups = c.find-groups.ensures;
-      parent-long = search rules;
-      child-small = λ i. let h : Fits w16 (get_or a.args.f.child i 0) = search rules in h.fits;
-      parent-small = λ i. let h : Fits w16 (get_or a.args.f.parent i 0) = search rules in h.fits;
+      parent_long = search rules;
+      child_small = λ i. let h : Fits w16 (get_or a.args.f.child i 0) = search rules in h.fits;
+      parent_small = λ i. let h : Fits w16 (get_or a.args.f.parent i 0) = search rules in h.fits;
     }
 
 find-groups-requires : tie.Need-find-groups-requires
@@ -31,7 +31,7 @@ share-rows-requires : tie.Need-share-rows-requires
 share-rows-requires c κs = search rules
 
 returns : tie.Need-returns
-returns c = let s = c.before in ended-clash (started s.before.before.before.before) s.share-rows.ensures _ _ c.if1.true
+returns c = let s = c.before in ended_clash (started s.before.before.before.before) s.share-rows.ensures _ _ c.if1.true
 
 join-rows-requires : tie.Need-join-rows-requires
 join-rows-requires c κs = search rules
@@ -42,7 +42,7 @@ returns-2 c =
     let e = j.before.before.before.before.before.before.before in
     let s = e.before in
     let l = s.before in
-    ended-well (started l.before.before.before) s.share-rows.ensures e.if1.false j.join-rows.ensures l.before.whole-groups.ensures l.whole-groups2.ensures
+    ended_well (started l.before.before.before) s.share-rows.ensures e.if1.false j.join-rows.ensures l.before.whole-groups.ensures l.whole-groups2.ensures
 
 pub pass_spec : {M : Type 1} → statement M
 pass_spec =

@@ -15,5 +15,5 @@ returns c =
     let h : Fits w16 c.meeting.result = search rules in
     whole _ _ _ (λ i. let k : Fits w16 (get_or c.before.args.same i 0) = search rules in k.fits) h.fits c.meeting.ensures
 
-pub whole-groups-spec : {M : Type 1} → statement M
-whole-groups-spec = tie.close (tie.spec meeting-requires returns)
+pub whole_groups_spec : {M : Type 1} → statement M
+whole_groups_spec = tie.close (tie.spec meeting-requires returns)

@@ -3,14 +3,14 @@ use mathlib.Core.Path.{subst}
 use Rattle.io.specs.Counts.{IsPrefixLen}
 use Rattle.reading.specs.Filling.{Fills}
 use Rattle.reading.specs.declared.Filled.{Filled}
-use Rattle.putting.proofs.Fronts.{front-counts}
+use Rattle.putting.proofs.Fronts.{front_counts}
 use borrow.Author.Rules.{rules}
 use Rattle.paths.proofs.main.Statement.{statement}
 use Rattle.paths.proofs.main.Tie as tie
 
 -- src/main.rt:8:8
-read-counts : (c : tie.After-filled) → IsPrefixLen c.filled.given.0.0 c.before.before.before.fill.new.1.1.0
-read-counts c = subst (λ (f : Filled). Fills f c.before.before.before.fill.new.1.1.0) c.filled.given.1 c.before.before.before.fill.ensures
+read_counts : (c : tie.After-filled) → IsPrefixLen c.filled.given.0.0 c.before.before.before.fill.new.1.1.0
+read_counts c = subst (λ (f : Filled). Fills f c.before.before.before.fill.new.1.1.0) c.filled.given.1 c.before.before.before.fill.ensures
 
 arg-count-requires : tie.Need-arg-count-requires
 arg-count-requires c κs = search rules
@@ -53,11 +53,11 @@ returns-2 c = search rules
 
 -- src/main.rt:18:30
 array-share-prefix-lines : tie.Need-array-share-prefix-lines
-array-share-prefix-lines c = (read-counts c.before).0
+array-share-prefix-lines c = (read_counts c.before).0
 
 -- src/main.rt:18:30
 slice-aggregate-paths : tie.Need-slice-aggregate-paths
-slice-aggregate-paths c = (read-counts c.before.before).1
+slice-aggregate-paths c = (read_counts c.before.before).1
 
 -- src/main.rt:18:9
 paths-requires : tie.Need-paths-requires
@@ -65,11 +65,11 @@ paths-requires c κs = search rules
 
 -- src/main.rt:19:21
 array-share-prefix-out : tie.Need-array-share-prefix-out
-array-share-prefix-out c = (front-counts c.paths.ensures.output).0
+array-share-prefix-out c = (front_counts c.paths.ensures.output).0
 
 -- src/main.rt:19:21
 slice-aggregate-print : tie.Need-slice-aggregate-print
-slice-aggregate-print c = (front-counts c.before.paths.ensures.output).1
+slice-aggregate-print c = (front_counts c.before.paths.ensures.output).1
 
 -- src/main.rt:19:5
 print-requires : tie.Need-print-requires

@@ -8,10 +8,10 @@ use lib.Seq.{length-take-le}
 use borrow.Author.Rules.{rules}
 use Rattle.io.proofs.Counting.{prefix_len_of_le}
 use Rattle.answers.specs.Pieces.{KeptPieces}
-use Rattle.answers.proofs.Pieces.{no-piece}
+use Rattle.answers.proofs.Pieces.{no_piece}
 use Rattle.reading.specs.Filling.{Fills}
 use Rattle.reading.specs.declared.Filled.{Filled}
-use Rattle.pieces.proofs.Turn.{one-turn}
+use Rattle.pieces.proofs.Turn.{one_turn}
 use Rattle.pieces.proofs.read_pieces.Statement.{statement}
 use Rattle.pieces.proofs.read_pieces.Tie as tie
 
@@ -22,21 +22,21 @@ abbrev decreases-loop : tie.decreases-loop
 decreases-loop fd path buffer₀ kept₀ turns₀ buffer kept turns = turns
 
 -- so many of the bytes that were read count
-more-fits : (c : tie.After-filled invariant-loop decreases-loop) → c.filled.given.0.0 ≤ length c.before.before.before.before.fill.new.1.1.0
-more-fits c = (subst (λ (f : Filled). Fills f c.before.before.before.before.fill.new.1.1.0) c.filled.given.1 c.before.before.before.before.fill.ensures).0
+more_fits : (c : tie.After-filled invariant-loop decreases-loop) → c.filled.given.0.0 ≤ length c.before.before.before.before.fill.new.1.1.0
+more_fits c = (subst (λ (f : Filled). Fills f c.before.before.before.before.fill.new.1.1.0) c.filled.given.1 c.before.before.before.before.fill.ensures).0
 
 -- what is kept after a turn stands for one piece more
 stands : (c : tie.After-shorten invariant-loop decreases-loop) (after : List ℕ) → KeptPieces (take c.shorten.result (c.shorten.new.0 ++ after))
 stands c after =
     let l = c.before.before.before.before.before.before.before.before.before.before.loop in
-    one-turn l.buffer c.before.before.before.before.before.before.before.fill.new.1.1.0 (drop (length l.buffer - l.auto) (drop l.auto l.buffer)) _ after l.auto _ _ l.invariant.0 (more-fits c.before.before.before) c.shorten.ensures.0 c.shorten.ensures.1 l.invariant.2
+    one_turn l.buffer c.before.before.before.before.before.before.before.fill.new.1.1.0 (drop (length l.buffer - l.auto) (drop l.auto l.buffer)) _ after l.auto _ _ l.invariant.0 (more_fits c.before.before.before) c.shorten.ensures.0 c.shorten.ensures.1 l.invariant.2
 
 -- and is within the buffer
 within : (c : tie.After-shorten invariant-loop decreases-loop) (after : List ℕ) → c.shorten.result ≤ length (c.shorten.new.0 ++ after)
 within c after = omega (arith, c.shorten.ensures.0, length-append c.shorten.new.0 after)
 
 loop-holds : tie.Need-loop-init invariant-loop decreases-loop
-loop-holds c = (search rules, search rules, no-piece)
+loop-holds c = (search rules, search rules, no_piece)
 
 sub-room : tie.Need-overflow-sub-room invariant-loop decreases-loop
 sub-room c = search rules
@@ -66,13 +66,13 @@ returns : tie.Need-returns invariant-loop decreases-loop
 returns c = search rules
 
 add-end : tie.Need-overflow-add-end invariant-loop decreases-loop
-add-end c = omega (arith, more-fits c.before)
+add-end c = omega (arith, more_fits c.before)
 
 slice-relend-prefix-shorten : tie.Need-slice-relend-prefix-shorten invariant-loop decreases-loop
-slice-relend-prefix-shorten c = omega (arith, more-fits c.before)
+slice-relend-prefix-shorten c = omega (arith, more_fits c.before)
 
 slice-aggregate-shorten : tie.Need-slice-aggregate-shorten invariant-loop decreases-loop
-slice-aggregate-shorten c = sym (length-take-le _ _ (omega (arith, more-fits c.before.before)))
+slice-aggregate-shorten c = sym (length-take-le _ _ (omega (arith, more_fits c.before.before)))
 
 shorten-requires : tie.Need-shorten-requires invariant-loop decreases-loop
 shorten-requires c κs = search rules
@@ -98,8 +98,8 @@ same-length-3 c = search rules
 returns-3 : tie.Need-returns-3 invariant-loop decreases-loop
 returns-3 c = search rules
 
-pub read-pieces-spec : {M : Type 1} → statement M
-read-pieces-spec =
+pub read_pieces_spec : {M : Type 1} → statement M
+read_pieces_spec =
     tie.close
     (tie.spec
     invariant-loop

@@ -6,7 +6,7 @@ use native.Mathlib.Omega.{arith}
 use lib.ListN.{length, get_or, set, take, length-set}
 use lib.Seq.{sets, take_all}
 use borrow.Author.Rules.{rules}
-use Rattle.lent.proofs.Stores.{put-text, put_byte}
+use Rattle.lent.proofs.Stores.{put_text, put_byte}
 use Rattle.putting.proofs.put.Statement.{statement}
 use Rattle.putting.proofs.put.Tie as tie
 
@@ -54,7 +54,7 @@ same_length c = c.before.loop.invariant.2
 returns : tie.Need-returns invariant-loop decreases-loop
 returns c =
     let start = c.before.before in
-    put-text start.args.out.now start.args.at start.args.word.now _ _ refl
+    put_text start.args.out.now start.args.at start.args.word.now _ _ refl
     (c.before.loop.invariant.1 ∙ ap (sets start.args.out.now start.args.at) (take_all c.before.loop.i start.args.word.now (omega arith)))
     (omega arith)
 

@@ -4,8 +4,8 @@ use mathlib.Core.List.{List}
 use Prim.Native.Nat.{ℕ}
 use Rattle.meaning.specs.Finite.{pick}
 use Rattle.meaning.specs.Ascii.{ascii}
-use Rattle.meaning.specs.Text.{kindName}
-use Rattle.constraints.specs.Record.{kindNumber}
+use Rattle.meaning.specs.Text.{kind_name}
+use Rattle.constraints.specs.Record.{kind_number}
 use Rattle.constraints.specs.declared.Kind.{Kind}
 use Rattle.lent.proofs.Stores.{put_same}
 use borrow.Author.Rules.{rules}
@@ -13,7 +13,7 @@ use Rattle.putting.proofs.put_kind.Statement.{statement}
 use Rattle.putting.proofs.put_kind.Tie as tie
 
 abbrev named : Kind → List ℕ
-named k = ascii (kindName (kindNumber k))
+named k = ascii (kind_name (kind_number k))
 
 enum_told : tie.Need-enum-told
 enum_told c = search rules
@@ -100,67 +100,67 @@ same_length : tie.Need-same-length
 same_length c = search rules
 
 returns : tie.Need-returns
-unfolding ascii kindName kindNumber pick
+unfolding ascii kind_name kind_number pick
 returns c = let put = c.before.before in put_same (ap named (sym put.before.before.before.enum_told.given.1)) put.put.ensures
 
 same-length-2 : tie.Need-same-length-2
 same-length-2 c = search rules
 
 returns-2 : tie.Need-returns-2
-unfolding ascii kindName kindNumber pick
+unfolding ascii kind_name kind_number pick
 returns-2 c = let put = c.before.before in put_same (ap named (sym put.before.before.before.enum-told2.given.1)) put.put2.ensures
 
 same-length-3 : tie.Need-same-length-3
 same-length-3 c = search rules
 
 returns-3 : tie.Need-returns-3
-unfolding ascii kindName kindNumber pick
+unfolding ascii kind_name kind_number pick
 returns-3 c = let put = c.before.before in put_same (ap named (sym put.before.before.before.enum-told3.given.1)) put.put3.ensures
 
 same-length-4 : tie.Need-same-length-4
 same-length-4 c = search rules
 
 returns-4 : tie.Need-returns-4
-unfolding ascii kindName kindNumber pick
+unfolding ascii kind_name kind_number pick
 returns-4 c = let put = c.before.before in put_same (ap named (sym put.before.before.before.enum-told4.given.1)) put.put4.ensures
 
 same-length-5 : tie.Need-same-length-5
 same-length-5 c = search rules
 
 returns-5 : tie.Need-returns-5
-unfolding ascii kindName kindNumber pick
+unfolding ascii kind_name kind_number pick
 returns-5 c = let put = c.before.before in put_same (ap named (sym put.before.before.before.enum-told5.given.1)) put.put5.ensures
 
 same-length-6 : tie.Need-same-length-6
 same-length-6 c = search rules
 
 returns-6 : tie.Need-returns-6
-unfolding ascii kindName kindNumber pick
+unfolding ascii kind_name kind_number pick
 returns-6 c = let put = c.before.before in put_same (ap named (sym put.before.before.before.enum-told6.given.1)) put.put6.ensures
 
 same-length-7 : tie.Need-same-length-7
 same-length-7 c = search rules
 
 returns-7 : tie.Need-returns-7
-unfolding ascii kindName kindNumber pick
+unfolding ascii kind_name kind_number pick
 returns-7 c = let put = c.before.before in put_same (ap named (sym put.before.before.before.enum-told7.given.1)) put.put7.ensures
 
 same-length-8 : tie.Need-same-length-8
 same-length-8 c = search rules
 
 returns-8 : tie.Need-returns-8
-unfolding ascii kindName kindNumber pick
+unfolding ascii kind_name kind_number pick
 returns-8 c = let put = c.before.before in put_same (ap named (sym put.before.before.before.enum-told8.given.1)) put.put8.ensures
 
 same-length-9 : tie.Need-same-length-9
 same-length-9 c = search rules
 
 returns-9 : tie.Need-returns-9
-unfolding ascii kindName kindNumber pick
+unfolding ascii kind_name kind_number pick
 returns-9 c = let put = c.before.before in put_same (ap named (sym put.before.before.before.enum-told9.given.1)) put.put9.ensures
 
-pub put-kind-spec : {M : Type 1} → statement M
-put-kind-spec =
+pub put_kind_spec : {M : Type 1} → statement M
+put_kind_spec =
     tie.close
     (tie.spec
     enum_told

@@ -2,7 +2,7 @@
 use native.Mathlib.Omega.{arith}
 use Rattle.meaning.specs.Ascii.{ascii}
 use Rattle.lent.proofs.Stores.{put_then}
-use Rattle.putting.proofs.Numbers.{count-digits}
+use Rattle.putting.proofs.Numbers.{count_digits}
 use borrow.Author.Rules.{rules}
 use Rattle.putting.proofs.put_line.Statement.{statement}
 use Rattle.putting.proofs.put_line.Tie as tie
@@ -15,7 +15,7 @@ put-number-requires c κs =
     let word = c.before.before.before in
     let start = word.before.before.before.before in
     let p = word.put.ensures in
-    omega (arith, p.end, p.same_length, count-digits start.args.n (omega arith))
+    omega (arith, p.end, p.same_length, count_digits start.args.n (omega arith))
 
 slice-aggregate-put : tie.Need-slice-aggregate-put
 slice-aggregate-put c = search rules
@@ -27,7 +27,7 @@ put-requires-2 c κs =
     let start = word.before.before.before.before in
     let p = word.put.ensures in
     let q = number.put-number.ensures in
-    omega (arith, p.end, p.same_length, q.end, q.same_length, count-digits start.args.n (omega arith))
+    omega (arith, p.end, p.same_length, q.end, q.same_length, count_digits start.args.n (omega arith))
 
 same_length : tie.Need-same-length
 same_length c = search rules
@@ -40,8 +40,8 @@ returns c =
     let word = number.before.before.before.before in
     put_then word.put.ensures (put_then number.put-number.ensures line.put2.ensures)
 
-pub put-line-spec : {M : Type 1} → statement M
-put-line-spec =
+pub put_line_spec : {M : Type 1} → statement M
+put_line_spec =
     tie.close
     (tie.spec
     put-requires

@@ -2,7 +2,7 @@
 use native.Mathlib.Omega.{arith}
 use Rattle.meaning.specs.Ascii.{ascii}
 use Rattle.lent.proofs.Stores.{put_then}
-use Rattle.putting.proofs.Numbers.{byte-digits}
+use Rattle.putting.proofs.Numbers.{byte_digits}
 use borrow.Author.Rules.{rules}
 use Rattle.putting.proofs.put_pair.Statement.{statement}
 use Rattle.putting.proofs.put_pair.Tie as tie
@@ -15,7 +15,7 @@ put-number-requires c κs =
     let word = c.before.before.before in
     let start = word.before.before.before.before in
     let p = word.put.ensures in
-    omega (arith, p.end, p.same_length, byte-digits start.args.a (omega arith))
+    omega (arith, p.end, p.same_length, byte_digits start.args.a (omega arith))
 
 slice-aggregate-put : tie.Need-slice-aggregate-put
 slice-aggregate-put c = search rules
@@ -27,7 +27,7 @@ put-requires-2 c κs =
     let start = word.before.before.before.before in
     let p = word.put.ensures in
     let q = number.put-number.ensures in
-    omega (arith, p.end, p.same_length, q.end, q.same_length, byte-digits start.args.a (omega arith))
+    omega (arith, p.end, p.same_length, q.end, q.same_length, byte_digits start.args.a (omega arith))
 
 put-number-requires-2 : tie.Need-put-number-requires-2
 put-number-requires-2 c κs =
@@ -38,7 +38,7 @@ put-number-requires-2 c κs =
     let p = word.put.ensures in
     let q = number.put-number.ensures in
     let r = space.put2.ensures in
-    omega (arith, p.end, p.same_length, q.end, q.same_length, r.end, r.same_length, byte-digits start.args.a (omega arith), byte-digits start.args.b (omega arith))
+    omega (arith, p.end, p.same_length, q.end, q.same_length, r.end, r.same_length, byte_digits start.args.a (omega arith), byte_digits start.args.b (omega arith))
 
 same_length : tie.Need-same-length
 same_length c = search rules
@@ -52,8 +52,8 @@ returns c =
     let word = number.before.before.before.before in
     put_then word.put.ensures (put_then number.put-number.ensures (put_then space.put2.ensures second.put-number2.ensures))
 
-pub put-pair-spec : {M : Type 1} → statement M
-put-pair-spec =
+pub put_pair_spec : {M : Type 1} → statement M
+put_pair_spec =
     tie.close
     (tie.spec
     put-requires

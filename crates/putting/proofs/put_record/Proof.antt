@@ -2,8 +2,8 @@
 use native.Mathlib.Omega.{arith}
 use Rattle.meaning.specs.Ascii.{ascii}
 use Rattle.lent.proofs.Stores.{put_same, put_then}
-use Rattle.putting.proofs.Numbers.{byte-digits}
-use Rattle.putting.proofs.Lines.{pair-short, place-line, node-line}
+use Rattle.putting.proofs.Numbers.{byte_digits}
+use Rattle.putting.proofs.Lines.{pair_short, place_line, node_line}
 use borrow.Author.Rules.{rules}
 use Rattle.putting.proofs.put_record.Statement.{statement}
 use Rattle.putting.proofs.put_record.Tie as tie
@@ -23,7 +23,7 @@ put-requires c κs =
     let pair = c.before.before.before.before in
     let start = pair.before.before.before.before.before in
     let p = pair.put-pair.ensures in
-    omega (arith, p.end, p.same_length, pair-short start.args.a start.args.b (omega arith) (omega arith))
+    omega (arith, p.end, p.same_length, pair_short start.args.a start.args.b (omega arith) (omega arith))
 
 same_length : tie.Need-same-length
 same_length c = search rules
@@ -34,7 +34,7 @@ returns c =
     let end = c.before.before in
     let pair = end.before.before.before.before.before in
     let start = pair.before.before.before.before.before in
-    put_same (place-line start.args.kind start.args.a start.args.b start.args.c pair.before.before.before.if1.true) (put_then pair.put-pair.ensures end.put.ensures)
+    put_same (place_line start.args.kind start.args.a start.args.b start.args.c pair.before.before.before.if1.true) (put_then pair.put-pair.ensures end.put.ensures)
 
 slice-aggregate-put-pair-2 : tie.Need-slice-aggregate-put-pair-2
 slice-aggregate-put-pair-2 c = search rules
@@ -51,7 +51,7 @@ put-requires-2 c κs =
     let pair = c.before.before.before.before in
     let start = pair.before.before.before.before.before in
     let p = pair.put-pair2.ensures in
-    omega (arith, p.end, p.same_length, pair-short start.args.a start.args.b (omega arith) (omega arith))
+    omega (arith, p.end, p.same_length, pair_short start.args.a start.args.b (omega arith) (omega arith))
 
 put-number-requires : tie.Need-put-number-requires
 unfolding ascii
@@ -61,7 +61,7 @@ put-number-requires c κs =
     let start = pair.before.before.before.before.before in
     let p = pair.put-pair2.ensures in
     let q = space.put2.ensures in
-    omega (arith, p.end, p.same_length, q.end, q.same_length, pair-short start.args.a start.args.b (omega arith) (omega arith), byte-digits start.args.b (omega arith), byte-digits start.args.c (omega arith))
+    omega (arith, p.end, p.same_length, q.end, q.same_length, pair_short start.args.a start.args.b (omega arith) (omega arith), byte_digits start.args.b (omega arith), byte_digits start.args.c (omega arith))
 
 slice-aggregate-put-3 : tie.Need-slice-aggregate-put-3
 slice-aggregate-put-3 c = search rules
@@ -76,7 +76,7 @@ put-requires-3 c κs =
     let p = pair.put-pair2.ensures in
     let q = space.put2.ensures in
     let r = label.put-number.ensures in
-    omega (arith, p.end, p.same_length, q.end, q.same_length, r.end, r.same_length, pair-short start.args.a start.args.b (omega arith) (omega arith), byte-digits start.args.b (omega arith), byte-digits start.args.c (omega arith))
+    omega (arith, p.end, p.same_length, q.end, q.same_length, r.end, r.same_length, pair_short start.args.a start.args.b (omega arith) (omega arith), byte_digits start.args.b (omega arith), byte_digits start.args.c (omega arith))
 
 same-length-2 : tie.Need-same-length-2
 same-length-2 c = search rules
@@ -89,11 +89,11 @@ returns-2 c =
     let space = label.before.before.before.before in
     let pair = space.before.before.before.before.before in
     let start = pair.before.before.before.before.before in
-    put_same (node-line start.args.kind start.args.a start.args.b start.args.c pair.before.before.before.if1.false)
+    put_same (node_line start.args.kind start.args.a start.args.b start.args.c pair.before.before.before.if1.false)
     (put_then pair.put-pair2.ensures (put_then space.put2.ensures (put_then label.put-number.ensures end.put3.ensures)))
 
-pub put-record-spec : {M : Type 1} → statement M
-put-record-spec =
+pub put_record_spec : {M : Type 1} → statement M
+put_record_spec =
     tie.close
     (tie.spec
     slice-aggregate-put-pair

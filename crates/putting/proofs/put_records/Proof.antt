@@ -5,23 +5,23 @@ use Prim.Native.Nat.{ℕ, ◌+◌, ◌-◌, ◌*◌, ◌/◌, ◌≤◌}
 use native.Mathlib.Omega.{arith}
 use lib.ListN.{length, get_or, drop}
 use Rattle.meaning.specs.Files.{quads}
-use Rattle.meaning.specs.Text.{recordLines}
+use Rattle.meaning.specs.Text.{record_lines}
 use Rattle.lent.specs.Putting.{Put}
-use Rattle.lent.proofs.Stores.{put-none, put_same, put_then}
-use Rattle.putting.proofs.Lines.{record-short, lines_more, lines-all}
+use Rattle.lent.proofs.Stores.{put_none, put_same, put_then}
+use Rattle.putting.proofs.Lines.{record_short, lines_more, lines_all}
 use borrow.Author.Rules.{rules}
 use Rattle.putting.proofs.put_records.Statement.{statement}
 use Rattle.putting.proofs.put_records.Tie as tie
 
 abbrev invariant-loop : tie.invariant-loop
 invariant-loop out₀ at answer end₀ i₀ out end i =
-    (i ≤ length answer / 4) × (end ≤ at + i * 17) × ((text : List ℕ) × Put out₀ at text end out × (recordLines (quads answer) ≡ text ++ recordLines (drop i (quads answer))))
+    (i ≤ length answer / 4) × (end ≤ at + i * 17) × ((text : List ℕ) × Put out₀ at text end out × (record_lines (quads answer) ≡ text ++ record_lines (drop i (quads answer))))
 
 abbrev decreases-loop : tie.decreases-loop
 decreases-loop out₀ at answer end₀ i₀ out end i = length answer / 4 - i
 
 loop-holds : tie.Need-loop-init invariant-loop decreases-loop
-loop-holds c = (omega arith, omega arith, ([], put-none _ _ (omega arith), refl))
+loop-holds c = (omega arith, omega arith, ([], put_none _ _ (omega arith), refl))
 
 mul-kind : tie.Need-overflow-mul-kind invariant-loop decreases-loop
 mul-kind c = search rules
@@ -77,7 +77,7 @@ loop-again c =
     let i = loop.loop.i in
     let byte = known.shared-slice-known.given in
     let p = put.put_record.ensures in
-    let short = record-short (get_or bytes (i * 4) 0) (get_or bytes (i * 4 + 1) 0) (get_or bytes (i * 4 + 2) 0) (get_or bytes (i * 4 + 3) 0) (omega (arith, byte (i * 4 + 1))) (omega (arith, byte (i * 4 + 2))) (omega (arith, byte (i * 4 + 3))) in (
+    let short = record_short (get_or bytes (i * 4) 0) (get_or bytes (i * 4 + 1) 0) (get_or bytes (i * 4 + 2) 0) (get_or bytes (i * 4 + 3) 0) (omega (arith, byte (i * 4 + 1))) (omega (arith, byte (i * 4 + 2))) (omega (arith, byte (i * 4 + 3))) in (
       omega arith,
       omega (arith, p.end, loop.loop.invariant.1),
       (_, put_then loop.loop.invariant.2.1 p, lines_more bytes loop.loop.invariant.2.0 i inside.loop-test.true loop.loop.invariant.2.2),
@@ -90,10 +90,10 @@ returns : tie.Need-returns invariant-loop decreases-loop
 returns c =
     let loop = c.before in
     let bytes = loop.before.before.before.args.answer.now in
-    put_same (lines-all bytes _ loop.loop.i (omega arith) loop.loop.invariant.2.2) loop.loop.invariant.2.1
+    put_same (lines_all bytes _ loop.loop.i (omega arith) loop.loop.invariant.2.2) loop.loop.invariant.2.1
 
-pub put-records-spec : {M : Type 1} → statement M
-put-records-spec =
+pub put_records_spec : {M : Type 1} → statement M
+put_records_spec =
     tie.close
     (tie.spec
     invariant-loop

@@ -5,17 +5,17 @@ use Prim.Native.Nat.{ℕ, ◌≤◌, ◌-◌}
 use lib.Bits.{bit_and}
 use lib.ListN.{length}
 use Rattle.meaning.specs.Finite.{Yes, tab, position}
-use Rattle.meaning.proofs.Tests.{not_yes, yes-not}
+use Rattle.meaning.proofs.Tests.{not_yes, yes_not}
 use Rattle.rowbits.specs.Bit.{bit}
 use Rattle.tables.specs.Tables.{row}
 use Rattle.ordering.specs.Numbering.{numbered}
 use Rattle.ordering.specs.Listing.{groups, Placed}
-use Rattle.readoff.specs.Nodes.{Led, nodeNumbers, place_in}
-use Rattle.ordering.proofs.Listing.{length-mapped}
-use Rattle.readoff.proofs.Places.{place-most, place-led}
-use Rattle.readoff.proofs.Numbering.{numbered-fits}
-use Rattle.tables.proofs.Helpers.{pick-on, pick-off}
-use Rattle.readoff.proofs.Written.{assigned-none, assigned-more}
+use Rattle.readoff.specs.Nodes.{Led, node_numbers, place_in}
+use Rattle.ordering.proofs.Listing.{length_mapped}
+use Rattle.readoff.proofs.Places.{place_most, place_led}
+use Rattle.readoff.proofs.Numbering.{numbered_fits}
+use Rattle.tables.proofs.Helpers.{pick_on, pick_off}
+use Rattle.readoff.proofs.Written.{assigned_none, assigned_more}
 use borrow.Author.Rules.{rules}
 use Rattle.readoff.proofs.assign.Statement.{statement}
 use Rattle.readoff.proofs.assign.Tie as tie
@@ -23,7 +23,7 @@ use Rattle.readoff.proofs.assign.Tie as tie
 -- the order has gone into `places`, so this is of every order that has these places
 abbrev invariant-loop : tie.invariant-loop
 invariant-loop root element n below above nodes₀ at x₀ nodes x = (x ≤ n) × (length nodes ≡ 16)
-    × ((gs : List ℕ) → Placed gs at → Led below above root n gs → nodeNumbers x nodes ≡ tab x (place_in below above root element gs))
+    × ((gs : List ℕ) → Placed gs at → Led below above root n gs → node_numbers x nodes ≡ tab x (place_in below above root element gs))
 
 abbrev decreases-loop : tie.decreases-loop
 decreases-loop root element n below above nodes₀ at x₀ nodes x = n - x
@@ -39,21 +39,21 @@ place_read : (c : tie.After-lowest invariant-loop decreases-loop) → let i = c.
 place_read c gs p w =
     let i = c.before.before.before.before in
     let s = i.before.before in
-    place-led s.args.t2 s.args.t3 _ _ gs i.before.places.result w p i.loop.x _ (search rules) (under c.before) c.lowest.ensures
+    place_led s.args.t2 s.args.t3 _ _ gs i.before.places.result w p i.loop.x _ (search rules) (under c.before) c.lowest.ensures
 
 -- it is a place of the order
-place-small : (c : tie.After-lowest invariant-loop decreases-loop) → let p = c.before.before.before.before.before in row p.places.result c.lowest.result ≤ p.before.args.order.len
-place-small c =
+place_small : (c : tie.After-lowest invariant-loop decreases-loop) → let p = c.before.before.before.before.before in row p.places.result c.lowest.result ≤ p.before.args.order.len
+place_small c =
     let i = c.before.before.before.before in
     let s = i.before.before in
     rw (place_read c (groups s.args.order) i.before.places.ensures s.requires.3)
-    (place-most (bit (bit_and (row s.args.t3 i.loop.x) (row s.args.t2 i.loop.x))) s.args.order (search (rules, length-mapped)) s.requires.0)
+    (place_most (bit (bit_and (row s.args.t3 i.loop.x) (row s.args.t2 i.loop.x))) s.args.order (search (rules, length_mapped)) s.requires.0)
 
 places-requires : tie.Need-places-requires invariant-loop decreases-loop
 places-requires c κs = c.requires.0
 
 loop-holds : tie.Need-loop-init invariant-loop decreases-loop
-loop-holds c = (search rules, search rules, λ gs p w. assigned-none _ _)
+loop-holds c = (search rules, search rules, λ gs p w. assigned_none _ _)
 
 has-requires : tie.Need-has-requires invariant-loop decreases-loop
 has-requires c κs = search rules
@@ -74,8 +74,8 @@ loop-again c =
     let s = i.before.before in (
       search rules,
       search rules,
-      λ gs p v. assigned-more i.loop.nodes i.loop.x _ (place_in s.args.t2 s.args.t3 s.args.root s.args.element gs) (search rules)
-          (pick-on _ _ _ (sym c.before.has.ensures ∙ c.if1.true)) (i.loop.invariant.2 gs p v),
+      λ gs p v. assigned_more i.loop.nodes i.loop.x _ (place_in s.args.t2 s.args.t3 s.args.root s.args.element gs) (search rules)
+          (pick_on _ _ _ (sym c.before.has.ensures ∙ c.if1.true)) (i.loop.invariant.2 gs p v),
     )
 
 mul-up : tie.Need-overflow-mul-up invariant-loop decreases-loop
@@ -103,7 +103,7 @@ cast-node-at : tie.Need-overflow-cast-node-at invariant-loop decreases-loop
 cast-node-at c = search rules
 
 node-at-requires : tie.Need-node-at-requires invariant-loop decreases-loop
-node-at-requires c κs = numbered-fits _ _ _ (place-small c) c.before.before.before.before.before.before.requires.1
+node-at-requires c κs = numbered_fits _ _ _ (place_small c) c.before.before.before.before.before.before.requires.1
 
 array-set-from-nodes-2 : tie.Need-array-set-from-nodes-2 invariant-loop decreases-loop
 array-set-from-nodes-2 c = search rules
@@ -122,8 +122,8 @@ loop-again-2 c =
     let s = i.before.before in (
       search rules,
       search rules,
-      λ gs p v. assigned-more i.loop.nodes i.loop.x _ (place_in s.args.t2 s.args.t3 s.args.root s.args.element gs) (search rules)
-          (c.node_at.ensures ∙ ap (numbered s.args.element) (place_read w gs p v) ∙ pick-off _ _ _ (yes-not (under w.before))) (i.loop.invariant.2 gs p v),
+      λ gs p v. assigned_more i.loop.nodes i.loop.x _ (place_in s.args.t2 s.args.t3 s.args.root s.args.element gs) (search rules)
+          (c.node_at.ensures ∙ ap (numbered s.args.element) (place_read w gs p v) ∙ pick_off _ _ _ (yes_not (under w.before))) (i.loop.invariant.2 gs p v),
     )
 
 returns : tie.Need-returns invariant-loop decreases-loop
@@ -132,8 +132,8 @@ returns c =
     let e : c.before.loop.x ≡ p.before.args.n = search rules in
     rw (← e) (c.before.loop.invariant.2 (groups p.before.args.order) p.places.ensures p.before.requires.3)
 
-pub assign-spec : {M : Type 1} → statement M
-assign-spec =
+pub assign_spec : {M : Type 1} → statement M
+assign_spec =
     tie.close
     (tie.spec
     invariant-loop

@@ -3,22 +3,22 @@ use mathlib.Core.Path.{refl, ap}
 use mathlib.Core.List.{[], ◌∷◌}
 use Prim.Native.Nat.{ℕ, ◌+◌, ◌≤◌, ◌-◌}
 use native.Mathlib.Omega.{arith}
-use Rattle.meaning.specs.ReadOff.{placeBytes}
-use Rattle.readoff.specs.Nodes.{nodeNumbers}
-use Rattle.readoff.specs.Written.{Recorded, placeRecord}
-use Rattle.readoff.proofs.Written.{recorded-none, recorded_more, recorded-all, number_at}
+use Rattle.meaning.specs.ReadOff.{place_bytes}
+use Rattle.readoff.specs.Nodes.{node_numbers}
+use Rattle.readoff.specs.Written.{Recorded, place_record}
+use Rattle.readoff.proofs.Written.{recorded_none, recorded_more, recorded_all, number_at}
 use borrow.Author.Rules.{rules}
 use Rattle.readoff.proofs.put_places.Statement.{statement}
 use Rattle.readoff.proofs.put_places.Tie as tie
 
 abbrev invariant-loop : tie.invariant-loop
-invariant-loop answer₀ first n nodes x₀ answer x = (x ≤ n) × Recorded (λ y. first + y) (placeRecord (nodeNumbers n nodes)) x answer₀ answer
+invariant-loop answer₀ first n nodes x₀ answer x = (x ≤ n) × Recorded (λ y. first + y) (place_record (node_numbers n nodes)) x answer₀ answer
 
 abbrev decreases-loop : tie.decreases-loop
 decreases-loop answer₀ first n nodes x₀ answer x = n - x
 
 loop-holds : tie.Need-loop-init invariant-loop decreases-loop
-loop-holds c = (search rules, recorded-none _ _ _)
+loop-holds c = (search rules, recorded_none _ _ _)
 
 array-copy-out-v : tie.Need-array-copy-out-v invariant-loop decreases-loop
 array-copy-out-v c = search rules
@@ -39,7 +39,7 @@ loop-less : tie.Need-loop-smaller invariant-loop decreases-loop
 loop-less c = search rules
 
 loop-again : tie.Need-loop-preserved invariant-loop decreases-loop
-unfolding placeBytes
+unfolding place_bytes
 loop-again c =
     let l = c.before.before.before.before.before in
     let i = l.before in
@@ -53,10 +53,10 @@ same_length : tie.Need-same-length invariant-loop decreases-loop
 same_length c = c.before.loop.invariant.1.long
 
 returns : tie.Need-returns invariant-loop decreases-loop
-returns c = recorded-all _ _ _ _ _ _ (search rules) c.before.loop.invariant.1
+returns c = recorded_all _ _ _ _ _ _ (search rules) c.before.loop.invariant.1
 
-pub put-places-spec : {M : Type 1} → statement M
-put-places-spec =
+pub put_places_spec : {M : Type 1} → statement M
+put_places_spec =
     tie.close
     (tie.spec
     invariant-loop

@@ -4,7 +4,7 @@
 use mathlib.Core.Bool.{true, false}
 use borrow.Author.Rules.{rules}
 use Rattle.meaning.specs.Settled.{root_below}
-use Rattle.search.proofs.Entering.{enters-one, enters-apart, enters-two, enters-first, never-apart, chain-forked, joined, step-solved, step-split}
+use Rattle.search.proofs.Entering.{enters_one, enters_apart, enters_two, enters_first, never_apart, chain_forked, joined, step_solved, step_split}
 use Rattle.search.proofs.next_step.Statement.{statement}
 use Rattle.search.proofs.next_step.Tie as tie
 
@@ -30,34 +30,34 @@ enum-told-5 : tie.Need-enum-told-5
 enum-told-5 c = search rules
 
 returns : tie.Need-returns
-returns c = step-solved _ _ _ c.before.before.first-join.ensures c.enum_told.given.1
+returns c = step_solved _ _ _ c.before.before.first-join.ensures c.enum_told.given.1
 
 returns-2 : tie.Need-returns-2
 returns-2 c =
     let e = c.before.before.before in let j = e.before.before in
-    step-split _ _ _ j.first-join.ensures _ j.before.requires.1.1 _ (joined e.found.given.1 c.enum-told2.given.1) _ _ false never-apart
-    (λ S q. (enters-one _ S _, enters-two _ S _ _ q.above))
+    step_split _ _ _ j.first-join.ensures _ j.before.requires.1.1 _ (joined e.found.given.1 c.enum-told2.given.1) _ _ false never_apart
+    (λ S q. (enters_one _ S _, enters_two _ S _ _ q.above))
 
 returns-3 : tie.Need-returns-3
 returns-3 c =
     let e = c.before.before.before in let j = e.before.before in
-    step-split _ _ _ j.first-join.ensures _ j.before.requires.1.1 _ (joined e.found.given.1 c.enum-told3.given.1) _ _ true (λ _ q. chain-forked _ _ _ j.before.requires.1.1 _ _ _ q)
-    (λ S q. (enters-one _ S _, enters-apart _ S _))
+    step_split _ _ _ j.first-join.ensures _ j.before.requires.1.1 _ (joined e.found.given.1 c.enum-told3.given.1) _ _ true (λ _ q. chain_forked _ _ _ j.before.requires.1.1 _ _ _ q)
+    (λ S q. (enters_one _ S _, enters_apart _ S _))
 
 returns-4 : tie.Need-returns-4
 returns-4 c =
     let e = c.before.before.before in let j = e.before.before in
-    step-split _ _ _ j.first-join.ensures _ j.before.requires.1.1 _ (joined e.found.given.1 c.enum-told4.given.1) _ _ false never-apart
-    (λ S q. (enters-one _ S _, enters-two _ S _ _ q.above))
+    step_split _ _ _ j.first-join.ensures _ j.before.requires.1.1 _ (joined e.found.given.1 c.enum-told4.given.1) _ _ false never_apart
+    (λ S q. (enters_one _ S _, enters_two _ S _ _ q.above))
 
 returns-5 : tie.Need-returns-5
 returns-5 c =
     let e = c.before.before.before in let j = e.before.before in
-    step-split _ _ _ j.first-join.ensures _ j.before.requires.1.1 _ (joined e.found.given.1 c.enum-told5.given.1) _ _ false never-apart
-    (λ S q. (enters-one _ S _, enters-first _ S _ _ (root_below q.document q.variable)))
+    step_split _ _ _ j.first-join.ensures _ j.before.requires.1.1 _ (joined e.found.given.1 c.enum-told5.given.1) _ _ false never_apart
+    (λ S q. (enters_one _ S _, enters_first _ S _ _ (root_below q.document q.variable)))
 
-pub next-step-spec : {M : Type 1} → statement M
-next-step-spec =
+pub next_step_spec : {M : Type 1} → statement M
+next_step_spec =
     tie.close
     (tie.spec
     first-join-requires

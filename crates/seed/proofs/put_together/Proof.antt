@@ -101,22 +101,22 @@ returns c =
     let t2 = t3.before in
     let t1 = t2.before in
     record {
-      child-rows = t1.table.ensures;
-      parent-rows = t2.table2.ensures;
+      child_rows = t1.table.ensures;
+      parent_rows = t2.table2.ensures;
       below_rows = both_of t5.table5.ensures (both_of t6.table6.ensures (both_of t7.table7.ensures t8.table8.ensures e1.either.ensures) e2.either2.ensures) e3.either3.ensures;
       above_rows = refl;
-      differ-rows = both_of
+      differ_rows = both_of
           (both_of (both_of t1.table.ensures t2.table2.ensures e4.either4.ensures) (both_of t3.table3.ensures t4.table4.ensures e5.either5.ensures) e6.either6.ensures)
           (both_of (both_of t9.table9.ensures t10.table10.ensures e7.either7.ensures) (both_of t11.table11.ensures t12.table12.ensures e8.either8.ensures) e9.either9.ensures) c.either10.ensures;
-      before-rows = t3.table3.ensures;
-      after-rows = t4.table4.ensures;
-      root-row = refl;
-      leaf-row = refl;
-      names-kept = refl;
+      before_rows = t3.table3.ensures;
+      after_rows = t4.table4.ensures;
+      root_row = refl;
+      leaf_row = refl;
+      names_kept = refl;
     }
 
-pub put-together-spec : {M : Type 1} → statement M
-put-together-spec =
+pub put_together_spec : {M : Type 1} → statement M
+put_together_spec =
     tie.close
     (tie.spec
     array-read-root

@@ -3,22 +3,22 @@ use mathlib.Core.Path.{◌≡◌, refl}
 use Prim.Native.Nat.{ℕ, ◌≤◌, ◌-◌, ◌/◌}
 use native.Mathlib.Omega.{arith}
 use lib.ListN.{length}
-use Rattle.constraints.specs.Judgement.{constraintsIn}
-use Rattle.constraints.proofs.Records.{accepted-file, no_more}
-use Rattle.seed.proofs.Seeding.{Seeding, seeding-start, seeding-step, seeding-clash, few}
+use Rattle.constraints.specs.Judgement.{constraints_in}
+use Rattle.constraints.proofs.Records.{accepted_file, no_more}
+use Rattle.seed.proofs.Seeding.{Seeding, seeding_start, seeding_step, seeding_clash, few}
 use Rattle.seed.proofs.Together.{exact, one_label, seeded}
 use borrow.Author.Rules.{rules}
 use Rattle.seed.proofs.seed.Statement.{statement}
 use Rattle.seed.proofs.seed.Tie as tie
 
 abbrev invariant-loop : tie.invariant-loop
-invariant-loop file rows₀ columns₀ label₀ position₀ rows columns label position = (position ≤ length file / 4) × Seeding (constraintsIn file) position rows columns label
+invariant-loop file rows₀ columns₀ label₀ position₀ rows columns label position = (position ≤ length file / 4) × Seeding (constraints_in file) position rows columns label
 
 abbrev decreases-loop : tie.decreases-loop
 decreases-loop file rows₀ columns₀ label₀ position₀ rows columns label position = length file / 4 - position
 
 loop-holds : tie.Need-loop-init invariant-loop decreases-loop
-loop-holds c = (omega arith, seeding-start _)
+loop-holds c = (omega arith, seeding_start _)
 
 mul_at : tie.Need-overflow-mul-at invariant-loop decreases-loop
 mul_at c = search rules
@@ -78,8 +78,8 @@ returns c =
     let kinds = xs.before.before in
     let inside = kinds.before.before in
     let start = inside.before.before.before in
-    let file = (accepted-file start.args.file.now start.requires.0 start.requires.1).0 in
-    let two = seeding-clash start.args.file.now _ file (λ i. omega (arith, kinds.before.shared-slice-known2.given i)) _ (omega arith) _ _ _ inside.before.loop.invariant.1
+    let file = (accepted_file start.args.file.now start.requires.0 start.requires.1).0 in
+    let two = seeding_clash start.args.file.now _ file (λ i. omega (arith, kinds.before.shared-slice-known2.given i)) _ (omega arith) _ _ _ inside.before.loop.invariant.1
     _ _ _ _ kinds.index.ensures xs.index2.ensures ys.index3.ensures small.folded.ensures _ names.label-with.ensures _ seconds.second-label.ensures c.before.if1.true in
     record {
       clashes = (λ e. two, λ t. refl);
@@ -164,9 +164,9 @@ loop-again c =
     let kinds = xs.before.before in
     let inside = kinds.before.before in
     let start = inside.before.before.before in
-    let file = (accepted-file start.args.file.now start.requires.0 start.requires.1).0 in (
+    let file = (accepted_file start.args.file.now start.requires.0 start.requires.1).0 in (
       omega arith,
-      seeding-step start.args.file.now _ file (λ i. omega (arith, kinds.before.shared-slice-known2.given i)) _ (omega arith) _ _ _ inside.before.loop.invariant.1
+      seeding_step start.args.file.now _ file (λ i. omega (arith, kinds.before.shared-slice-known2.given i)) _ (omega arith) _ _ _ inside.before.loop.invariant.1
           _ _ _ _ kinds.index.ensures xs.index2.ensures ys.index3.ensures small.folded.ensures _ names.label-with.ensures _ seconds.second-label.ensures free.if1.false
           _ _ rights.one.ensures c.one2.ensures,
     )
@@ -179,7 +179,7 @@ returns-2 c =
     let loop = c.before.before in
     let start = loop.before.before in
     let file = start.args.file.now in
-    let accepts = (accepted-file file start.requires.0 start.requires.1).0 in
+    let accepts = (accepted_file file start.requires.0 start.requires.1).0 in
     let over = no_more file _ accepts loop.loop.position (omega arith) in
     let low = few file _ accepts (λ i. omega (arith, loop.before.shared-slice-known.given i)) in
     let s = loop.loop.invariant.1 in
@@ -192,8 +192,8 @@ returns-2 c =
       seeded = λ e. seeded _ _ over low _ _ _ s _ w;
     }
 
-pub seed-spec : {M : Type 1} → statement M
-seed-spec =
+pub seed_spec : {M : Type 1} → statement M
+seed_spec =
     tie.close
     (tie.spec
     invariant-loop

@@ -2,20 +2,20 @@
 use mathlib.Core.Path.{refl}
 use Prim.Native.Nat.{◌≤◌, ◌-◌}
 use borrow.Author.Rules.{rules}
-use Rattle.tables.proofs.Loops.{Rowing, rowing-none, rowing_more}
-use Rattle.seed.specs.Seeds.{kindRow}
+use Rattle.tables.proofs.Loops.{Rowing, rowing_none, rowing_more}
+use Rattle.seed.specs.Seeds.{kind_row}
 use Rattle.seed.proofs.Parts.{rows_of}
 use Rattle.seed.proofs.table.Statement.{statement}
 use Rattle.seed.proofs.table.Tie as tie
 
 abbrev invariant-loop : tie.invariant-loop
-invariant-loop kind rows a₀ x₀ a x = (x ≤ 16) × Rowing (λ k v. kindRow rows kind k) 16 a₀ x a
+invariant-loop kind rows a₀ x₀ a x = (x ≤ 16) × Rowing (λ k v. kind_row rows kind k) 16 a₀ x a
 
 abbrev decreases-loop : tie.decreases-loop
 decreases-loop kind rows a₀ x₀ a x = 16 - x
 
 loop-holds : tie.Need-loop-init invariant-loop decreases-loop
-loop-holds c = (search rules, rowing-none _ _ _ (search rules))
+loop-holds c = (search rules, rowing_none _ _ _ (search rules))
 
 mul-v : tie.Need-overflow-mul-v invariant-loop decreases-loop
 mul-v c = search rules
@@ -47,8 +47,8 @@ loop-again c = (search rules, rowing_more _ _ _ _ _ _ (search rules) refl c.befo
 returns : tie.Need-returns invariant-loop decreases-loop
 returns c = rows_of _ _ _ (search rules) c.before.loop.invariant.0 c.before.loop.invariant.1
 
-pub table-spec : {M : Type 1} → statement M
-table-spec =
+pub table_spec : {M : Type 1} → statement M
+table_spec =
     tie.close
     (tie.spec
     invariant-loop

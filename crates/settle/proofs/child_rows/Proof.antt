@@ -12,5 +12,5 @@ reach-requires c κs = search rules
 returns : tie.Need-returns
 returns c = passed_on c.before.either.ensures c.reach.ensures
 
-pub child-rows-spec : {M : Type 1} → statement M
-child-rows-spec = tie.close (tie.spec either-requires reach-requires returns)
+pub child_rows_spec : {M : Type 1} → statement M
+child_rows_spec = tie.close (tie.spec either-requires reach-requires returns)

@@ -12,5 +12,5 @@ either-requires-2 c κs = search rules
 returns : tie.Need-returns
 returns c = parted c.before.either.ensures c.either2.ensures
 
-pub differ-rows-spec : {M : Type 1} → statement M
-differ-rows-spec = tie.close (tie.spec either-requires either-requires-2 returns)
+pub differ_rows_spec : {M : Type 1} → statement M
+differ_rows_spec = tie.close (tie.spec either-requires either-requires-2 returns)

@@ -27,5 +27,5 @@ returns c =
       crossed = c.crossed.ensures;
     }
 
-pub find-order-spec : {M : Type 1} → statement M
-find-order-spec = tie.close (tie.spec common-requires order-rows-requires transpose-requires crossed-requires returns)
+pub find_order_spec : {M : Type 1} → statement M
+find_order_spec = tie.close (tie.spec common-requires order-rows-requires transpose-requires crossed-requires returns)

@@ -1,5 +1,5 @@
 use borrow.Author.Rules.{rules}
-use Rattle.settle.proofs.Reaching.{ordered, ordered-alone}
+use Rattle.settle.proofs.Reaching.{ordered, ordered_alone}
 use Rattle.settle.proofs.order_rows.Statement.{statement}
 use Rattle.settle.proofs.order_rows.Tie as tie
 
@@ -10,7 +10,7 @@ chain-rows-requires : tie.Need-chain-rows-requires
 chain-rows-requires c κs = search rules
 
 returns : tie.Need-returns
-returns c = ordered-alone c.before.before.before.requires c.before.before.grouped.ensures c.before.if1.true c.chain-rows.ensures
+returns c = ordered_alone c.before.before.before.requires c.before.before.grouped.ensures c.before.if1.true c.chain-rows.ensures
 
 reach-requires : tie.Need-reach-requires
 reach-requires c κs = search rules
@@ -27,8 +27,8 @@ returns-2 c =
     let a = b.before in
     ordered a.before.before.before.requires a.reach.ensures b.reach2.ensures c.chain-rows2.ensures
 
-pub order-rows-spec : {M : Type 1} → statement M
-order-rows-spec =
+pub order_rows_spec : {M : Type 1} → statement M
+order_rows_spec =
     tie.close
     (tie.spec
     grouped-requires

@@ -7,8 +7,8 @@ use borrow.Author.Rules.{rules}
 use Rattle.rowbits.specs.Bit.{bit}
 use Rattle.tables.specs.Tables.{row}
 use Rattle.tables.specs.Rows.{gained}
-use Rattle.tables.proofs.Loops.{Rowing, rowing-none, rowing_more}
-use Rattle.settle.proofs.Reaching.{Reaching, reaching-none, reaching-more, reached}
+use Rattle.tables.proofs.Loops.{Rowing, rowing_none, rowing_more}
+use Rattle.settle.proofs.Reaching.{Reaching, reaching_none, reaching_more, reached}
 use Rattle.settle.proofs.reach.Statement.{statement}
 use Rattle.settle.proofs.reach.Tie as tie
 
@@ -25,7 +25,7 @@ abbrev decreases-loop : tie.decreases-loop
 decreases-loop a b r₀ z₀ r z = 16 - z
 
 loop-holds : tie.Need-loop-init invariant-loop2 decreases-loop2 invariant-loop decreases-loop
-loop-holds c = (search rules, reaching-none _ _ _ (search rules))
+loop-holds c = (search rules, reaching_none _ _ _ (search rules))
 
 mul-by : tie.Need-overflow-mul-by invariant-loop2 decreases-loop2 invariant-loop decreases-loop
 mul-by c = search rules
@@ -34,7 +34,7 @@ array-read-by : tie.Need-array-read-by invariant-loop2 decreases-loop2 invariant
 array-read-by c = search rules
 
 loop2-holds : tie.Need-loop2-init invariant-loop2 decreases-loop2 invariant-loop decreases-loop
-loop2-holds c = (search rules, rowing-none _ _ _ c.before.loop.invariant.1.long)
+loop2-holds c = (search rules, rowing_none _ _ _ c.before.loop.invariant.1.long)
 
 mul-v : tie.Need-overflow-mul-v invariant-loop2 decreases-loop2 invariant-loop decreases-loop
 mul-v c = search rules
@@ -76,13 +76,13 @@ loop-less : tie.Need-loop-smaller invariant-loop2 decreases-loop2 invariant-loop
 loop-less c = search rules
 
 loop-again : tie.Need-loop-preserved invariant-loop2 decreases-loop2 invariant-loop decreases-loop
-loop-again c = (search rules, reaching-more _ _ _ _ _ _ _ (search rules) c.before.loop2.invariant.0 c.before.loop2.invariant.1 c.before.before.before.loop.invariant.1)
+loop-again c = (search rules, reaching_more _ _ _ _ _ _ _ (search rules) c.before.loop2.invariant.0 c.before.loop2.invariant.1 c.before.before.before.loop.invariant.1)
 
 returns : tie.Need-returns invariant-loop2 decreases-loop2 invariant-loop decreases-loop
 returns c = reached _ _ _ _ _ (search rules) (λ i. let h : Fits w16 (get_or c.before.before.args.t2 i 0) = search rules in h.fits) c.before.loop.invariant.1
 
-pub reach-spec : {M : Type 1} → statement M
-reach-spec =
+pub reach_spec : {M : Type 1} → statement M
+reach_spec =
     tie.close
     (tie.spec
     invariant-loop2

@@ -12,8 +12,8 @@ use borrow.Author.Tests.{not-true, not-false}
 use Rattle.meaning.specs.Constraint.{Fact}
 use Rattle.tables.specs.Tables.{row, Seeded}
 use Rattle.passes.specs.Steps.{weight, BareRules}
-use Rattle.settle.proofs.Sibling.{Rowed, ordering, passing, ordered-clash, ordered-seeded, ordered-passed, ordered-bare, ordered-closed, both-seeded, both-grew, no-siblings}
-use Rattle.settle.proofs.Ending.{ready, grew, no_less, weight-most}
+use Rattle.settle.proofs.Sibling.{Rowed, ordering, passing, ordered_clash, ordered_seeded, ordered_passed, ordered_bare, ordered_closed, both_seeded, both_grew, no_siblings}
+use Rattle.settle.proofs.Ending.{ready, grew, no_less, weight_most}
 use Rattle.settle.proofs.settle.Statement.{statement}
 use Rattle.settle.proofs.settle.Tie as tie
 
@@ -54,11 +54,11 @@ returns c = record {
   settles = λ e. absurd (false≢true (sym e));
 }
 
-below-small : (c : tie.After-pass-bare invariant-loop decreases-loop) (i : ℕ) → row c.pass-bare.result.facts.below i < 65536
-below-small c i = let h : Fits w16 (get_or c.pass-bare.result.facts.below i 0) = search rules in h.fits
+below_small : (c : tie.After-pass-bare invariant-loop decreases-loop) (i : ℕ) → row c.pass-bare.result.facts.below i < 65536
+below_small c i = let h : Fits w16 (get_or c.pass-bare.result.facts.below i 0) = search rules in h.fits
 
-child-small : (c : tie.After-pass-bare invariant-loop decreases-loop) (i : ℕ) → row c.pass-bare.result.facts.child i < 65536
-child-small c i = let h : Fits w16 (get_or c.pass-bare.result.facts.child i 0) = search rules in h.fits
+child_small : (c : tie.After-pass-bare invariant-loop decreases-loop) (i : ℕ) → row c.pass-bare.result.facts.child i < 65536
+child_small c i = let h : Fits w16 (get_or c.pass-bare.result.facts.child i 0) = search rules in h.fits
 
 before_small : (c : tie.After-pass-bare invariant-loop decreases-loop) (i : ℕ) → row c.pass-bare.result.facts.before i < 65536
 before_small c i = let h : Fits w16 (get_or c.pass-bare.result.facts.before i 0) = search rules in h.fits
@@ -67,7 +67,7 @@ loop-less : tie.Need-loop-smaller invariant-loop decreases-loop
 loop-less c =
     let e = c.before.before in
     let a = grew (p e).pass-bare.ensures e.if1.false c.if2.true in
-    let b = weight-most (p e).pass-bare.result.facts (below-small (p e)) (child-small (p e)) (before_small (p e)) in
+    let b = weight_most (p e).pass-bare.result.facts (below_small (p e)) (child_small (p e)) (before_small (p e)) in
     omega (arith, a, b)
 
 loop-again : tie.Need-loop-preserved invariant-loop decreases-loop
@@ -85,7 +85,7 @@ returns-2 c =
       kept = λ d. absurd (false≢true d);
       settles = λ d S s.
           let g = seeds e S s in
-          ready _ S _ g (closes m S s).passed (closes m S s).bare (no-siblings (start e).pre.0 g c.before.blank.ensures c.if3.true);
+          ready _ S _ g (closes m S s).passed (closes m S s).bare (no_siblings (start e).pre.0 g c.before.blank.ensures c.if3.true);
     }
 
 -- where before was shared and chained
@@ -99,11 +99,11 @@ rowed : (c : tie.After-find-order invariant-loop decreases-loop) → let e = (en
 rowed c =
     let m = ends c in
     let s = (start m.before.before).pre in
-    record { few = s.0; columns = (closes m s.1.0 s.1.1).passed.ancestors; order = c.find-order.ensures; after-long = search rules }
+    record { few = s.0; columns = (closes m s.1.0 s.1.1).passed.ancestors; order = c.find-order.ensures; after_long = search rules }
 
 returns-3 : tie.Need-returns-3 invariant-loop decreases-loop
 returns-3 c = record {
-  clashes = λ d S s. ordered-clash (rowed c.before) S (seeds (ends c.before).before.before S s) c.if4.true;
+  clashes = λ d S s. ordered_clash (rowed c.before) S (seeds (ends c.before).before.before S s) c.if4.true;
   kept = λ d. refl;
   settles = λ d. absurd (false≢true (sym d));
 }
@@ -130,15 +130,15 @@ returns-4 c =
     let h = free u in
     let m = ends h.before in
     let o = rowed h.before in
-    let d = (differing u).differ-rows.ensures in
+    let d = (differing u).differ_rows.ensures in
     record {
       clashes = λ d. absurd (false≢true d);
       kept = λ d. absurd (false≢true d);
       settles = λ z S s.
           let g = seeds m.before.before S s in
           let a = (closes m S s).passed in
-          ready _ S _ (ordered-seeded o S g d) (ordered-passed o S g d h.if4.left a) (ordered-bare o S g d (closes m S s).bare)
-          (ordered-closed o S g d h.if4.left a u.before.child-rows.ensures u.unlike.ensures (not-true _ c.if5.true));
+          ready _ S _ (ordered_seeded o S g d) (ordered_passed o S g d h.if4.left a) (ordered_bare o S g d (closes m S s).bare)
+          (ordered_closed o S g d h.if4.left a u.before.child_rows.ensures u.unlike.ensures (not-true _ c.if5.true));
     }
 
 transpose-requires : tie.Need-transpose-requires invariant-loop decreases-loop
@@ -147,14 +147,14 @@ transpose-requires c κs = search rules
 differ-rows-requires-2 : tie.Need-differ-rows-requires-2 invariant-loop decreases-loop
 differ-rows-requires-2 c κs = search rules
 
-parent-long : (c : tie.After-transpose invariant-loop decreases-loop) → length c.transpose.result ≡ 16
-parent-long c = search rules
+parent_long : (c : tie.After-transpose invariant-loop decreases-loop) → length c.transpose.result ≡ 16
+parent_long c = search rules
 
-child-small-2 : (c : tie.After-child-rows invariant-loop decreases-loop) (i : ℕ) → row c.child-rows.result i < 65536
-child-small-2 c i = let h : Fits w16 (get_or c.child-rows.result i 0) = search rules in h.fits
+child_small_2 : (c : tie.After-child-rows invariant-loop decreases-loop) (i : ℕ) → row c.child_rows.result i < 65536
+child_small_2 c i = let h : Fits w16 (get_or c.child_rows.result i 0) = search rules in h.fits
 
-before-small-2 : (c : tie.After-find-order invariant-loop decreases-loop) (i : ℕ) → row c.find-order.result.before i < 65536
-before-small-2 c i = let h : Fits w16 (get_or c.find-order.result.before i 0) = search rules in h.fits
+before_small_2 : (c : tie.After-find-order invariant-loop decreases-loop) (i : ℕ) → row c.find-order.result.before i < 65536
+before_small_2 c i = let h : Fits w16 (get_or c.find-order.result.before i 0) = search rules in h.fits
 
 loop-less-2 : tie.Need-loop-smaller-2 invariant-loop decreases-loop
 loop-less-2 c =
@@ -163,20 +163,20 @@ loop-less-2 c =
     let e = (ends h).before.before in
     let t = differing u in
     let l = no_less (p e).pass-bare.ensures e.if1.left in
-    let a = both-grew (rowed h) t.differ-rows.ensures u.before.child-rows.ensures c.before.transpose.result c.differ-rows2.result u.unlike.ensures (not-false _ c.before.before.if5.false) in
-    let b = weight-most (passing (ordering (p e).pass-bare.result.facts h.find-order.result t.differ-rows.result) u.before.child-rows.result c.before.transpose.result c.differ-rows2.result)
-    (below-small (p e)) (child-small-2 u.before) (before-small-2 h) in
+    let a = both_grew (rowed h) t.differ_rows.ensures u.before.child_rows.ensures c.before.transpose.result c.differ-rows2.result u.unlike.ensures (not-false _ c.before.before.if5.false) in
+    let b = weight_most (passing (ordering (p e).pass-bare.result.facts h.find-order.result t.differ_rows.result) u.before.child_rows.result c.before.transpose.result c.differ-rows2.result)
+    (below_small (p e)) (child_small_2 u.before) (before_small_2 h) in
     omega (arith, l, a, b)
 
 loop-again-2 : tie.Need-loop-preserved-2 invariant-loop decreases-loop
 loop-again-2 c S s =
     let u = c.before.before.before in
     let h = (free u).before in
-    both-seeded (rowed h) (differing u).differ-rows.ensures u.before.child-rows.ensures c.before.transpose.ensures (parent-long c.before) c.differ-rows2.ensures
+    both_seeded (rowed h) (differing u).differ_rows.ensures u.before.child_rows.ensures c.before.transpose.ensures (parent_long c.before) c.differ-rows2.ensures
     S (seeds (ends h).before.before S s)
 
-pub settle-spec : {M : Type 1} → statement M
-settle-spec =
+pub settle_spec : {M : Type 1} → statement M
+settle_spec =
     tie.close
     (tie.spec
     invariant-loop

@@ -2,7 +2,7 @@
 use mathlib.Core.Path.{refl}
 use Prim.Native.Nat.{◌≤◌, ◌-◌}
 use borrow.Author.Rules.{rules}
-use Rattle.settle.proofs.Reaching.{Comparing, comparing-none, comparing-more, compared}
+use Rattle.settle.proofs.Reaching.{Comparing, comparing_none, comparing_more, compared}
 use Rattle.settle.proofs.unlike.Statement.{statement}
 use Rattle.settle.proofs.unlike.Tie as tie
 
@@ -13,7 +13,7 @@ abbrev decreases-loop : tie.decreases-loop
 decreases-loop t u any₀ x₀ any x = 16 - x
 
 loop-holds : tie.Need-loop-init invariant-loop decreases-loop
-loop-holds c = (search rules, comparing-none _ _)
+loop-holds c = (search rules, comparing_none _ _)
 
 mul-v : tie.Need-overflow-mul-v invariant-loop decreases-loop
 mul-v c = search rules
@@ -34,13 +34,13 @@ loop-less : tie.Need-loop-smaller invariant-loop decreases-loop
 loop-less c = search rules
 
 loop-again : tie.Need-loop-preserved invariant-loop decreases-loop
-loop-again c = (search rules, comparing-more _ _ _ _ c.before.loop.invariant.1)
+loop-again c = (search rules, comparing_more _ _ _ _ c.before.loop.invariant.1)
 
 returns : tie.Need-returns invariant-loop decreases-loop
 returns c = compared _ _ _ _ (search rules) c.before.loop.invariant.0 c.before.loop.invariant.1 _ refl
 
-pub unlike-spec : {M : Type 1} → statement M
-unlike-spec =
+pub unlike_spec : {M : Type 1} → statement M
+unlike_spec =
     tie.close
     (tie.spec
     invariant-loop

@@ -10,5 +10,5 @@ returns c = sym (pick_yes _ _ (eq_yes c.if1.true))
 returns-2 : tie.Need-returns-2
 returns-2 c = sym (pick_no _ _ (λ u. c.if1.false (is_eq u)))
 
-pub either-label-spec : {M : Type 1} → statement M
-either-label-spec = tie.close (tie.spec returns returns-2)
+pub either_label_spec : {M : Type 1} → statement M
+either_label_spec = tie.close (tie.spec returns returns-2)

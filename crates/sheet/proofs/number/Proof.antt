@@ -1,5 +1,5 @@
 use mathlib.Core.Path.{refl}
-use Rattle.sheet.proofs.Small.{numbered-yes, numbered-no}
+use Rattle.sheet.proofs.Small.{numbered_yes, numbered_no}
 use borrow.Author.Rules.{rules}
 use Rattle.sheet.proofs.number.Statement.{statement}
 use Rattle.sheet.proofs.number.Tie as tie
@@ -14,11 +14,11 @@ element-write-sheet : tie.Need-element-write-sheet
 element-write-sheet c = search rules
 
 returns : tie.Need-returns
-returns c = (refl, numbered-yes c.before.before.args.sheet.now c.if1.true)
+returns c = (refl, numbered_yes c.before.before.args.sheet.now c.if1.true)
 
 returns-2 : tie.Need-returns-2
-returns-2 c = (refl, numbered-no c.before.before.args.sheet.now c.if1.false)
+returns-2 c = (refl, numbered_no c.before.before.args.sheet.now c.if1.false)
 
-pub number-spec : {M : Type 1} → statement M
-number-spec =
+pub number_spec : {M : Type 1} → statement M
+number_spec =
     tie.close (tie.spec element-copy-out-next add-sheet element-write-sheet returns returns-2)

@@ -1,4 +1,4 @@
-use Rattle.sheet.proofs.Small.{put_full, put-more}
+use Rattle.sheet.proofs.Small.{put_full, put_more}
 use borrow.Author.Rules.{rules}
 use Rattle.sheet.proofs.put.Statement.{statement}
 use Rattle.sheet.proofs.put.Tie as tie
@@ -40,7 +40,7 @@ element-write-sheet-5 : tie.Need-element-write-sheet-5
 element-write-sheet-5 c = search rules
 
 returns-2 : tie.Need-returns-2
-returns-2 c = let a = c.before.before.args in put-more a.sheet.now a.kind a.x a.y a.label c.if1.false
+returns-2 c = let a = c.before.before.args in put_more a.sheet.now a.kind a.x a.y a.label c.if1.false
 
 pub put_spec : {M : Type 1} → statement M
 put_spec =

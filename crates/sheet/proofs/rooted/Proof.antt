@@ -1,8 +1,8 @@
 use mathlib.Core.Path.{ap}
 use mathlib.Core.List.{List}
 use Prim.Native.Nat.{ℕ}
-use Rattle.sheet.specs.Bytes.{rootIn}
-use Rattle.sheet.proofs.Small.{rooted-no, rooted-yes}
+use Rattle.sheet.specs.Bytes.{root_in}
+use Rattle.sheet.proofs.Small.{rooted_no, rooted_yes}
 use borrow.Author.Rules.{rules}
 use Rattle.sheet.proofs.rooted.Statement.{statement}
 use Rattle.sheet.proofs.rooted.Tie as tie
@@ -14,7 +14,7 @@ element-copy-out-result : tie.Need-element-copy-out-result
 element-copy-out-result c = search rules
 
 returns : tie.Need-returns
-returns c = let b = c.before.before.before.args.sheet.now in let e = rooted-no b c.before.if1.true in (ap (λ (k : List ℕ). rootIn k) e, e)
+returns c = let b = c.before.before.before.args.sheet.now in let e = rooted_no b c.before.if1.true in (ap (λ (k : List ℕ). root_in k) e, e)
 
 number-requires : tie.Need-number-requires
 number-requires c κs = search rules
@@ -34,11 +34,11 @@ returns-2 c =
     let n = p.before.before in
     let e = n.before.before in
     let b = e.before.before.args.sheet.now in
-    let h = rooted-yes b e.if1.false n.number.ensures.0 n.number.ensures.1 p.put.ensures in
-    (ap (λ (k : List ℕ). rootIn k) h, h)
+    let h = rooted_yes b e.if1.false n.number.ensures.0 n.number.ensures.1 p.put.ensures in
+    (ap (λ (k : List ℕ). root_in k) h, h)
 
-pub rooted-spec : {M : Type 1} → statement M
-rooted-spec =
+pub rooted_spec : {M : Type 1} → statement M
+rooted_spec =
     tie.close
     (tie.spec
     element-copy-out-if1

@@ -2,7 +2,7 @@
 use mathlib.Core.Path.{sym, ◌∙◌}
 use Prim.Native.Nat.{◌-◌}
 use borrow.Author.Rules.{rules}
-use Rattle.siblings.proofs.Loops.{Relating, relating-none, relating-more, relating-less, related}
+use Rattle.siblings.proofs.Loops.{Relating, relating_none, relating_more, relating_less, related}
 use Rattle.siblings.proofs.family.Statement.{statement}
 use Rattle.siblings.proofs.family.Tie as tie
 
@@ -13,7 +13,7 @@ abbrev decreases-loop : tie.decreases-loop
 decreases-loop before after group all₀ all = 65536 - all
 
 loop-holds : tie.Need-loop-init invariant-loop decreases-loop
-loop-holds c = relating-none _ _ _ c.ranges.group.fits
+loop-holds c = relating_none _ _ _ c.ranges.group.fits
 
 union-rows-requires : tie.Need-union-rows-requires invariant-loop decreases-loop
 union-rows-requires c κs = search rules
@@ -34,16 +34,16 @@ loop-less : tie.Need-loop-smaller invariant-loop decreases-loop
 loop-less c =
     let e = c.before in
     let u = e.before in
-    rw e.except.ensures (relating-less _ _ _ _ _ _ u.before.before.loop.invariant u.before.union-rows.ensures u.union-rows2.ensures (rw (← e.except.ensures) c.if1.false))
+    rw e.except.ensures (relating_less _ _ _ _ _ _ u.before.before.loop.invariant u.before.union-rows.ensures u.union-rows2.ensures (rw (← e.except.ensures) c.if1.false))
 
 loop-again : tie.Need-loop-preserved invariant-loop decreases-loop
 loop-again c =
     let e = c.before in
     let u = e.before in
-    rw e.except.ensures (relating-more _ _ _ _ _ _ u.before.before.loop.invariant u.before.union-rows.ensures u.union-rows2.ensures)
+    rw e.except.ensures (relating_more _ _ _ _ _ _ u.before.before.loop.invariant u.before.union-rows.ensures u.union-rows2.ensures)
 
-pub family-spec : {M : Type 1} → statement M
-family-spec =
+pub family_spec : {M : Type 1} → statement M
+family_spec =
     tie.close
     (tie.spec
     invariant-loop

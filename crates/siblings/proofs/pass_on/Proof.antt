@@ -2,7 +2,7 @@
 use mathlib.Core.Path.{refl}
 use mathlib.Core.Logic.{inl, inr}
 use borrow.Author.Rules.{rules}
-use Rattle.siblings.proofs.Loops.{none-spread, none-turned}
+use Rattle.siblings.proofs.Loops.{none_spread, none_turned}
 use Rattle.siblings.proofs.pass_on.Statement.{statement}
 use Rattle.siblings.proofs.pass_on.Tie as tie
 
@@ -24,10 +24,10 @@ returns c =
       b = _;
       a = _;
       shares = record {
-        is-earlier = earlier.union-rows2.ensures;
+        is_earlier = earlier.union-rows2.ensures;
         is_later = later.union-rows.ensures;
-        shared-before = none-turned _ _ e l c.if1.true;
-        shared-after = none-spread _ _ e l c.if1.true;
+        shared_before = none_turned _ _ e l c.if1.true;
+        shared_after = none_spread _ _ e l c.if1.true;
       };
       passes = inl (c.if1.true, refl);
     }
@@ -52,12 +52,12 @@ returns-2 c =
       later = _;
       b = _;
       a = _;
-      shares = record { is-earlier = earlier.union-rows2.ensures; is_later = later.union-rows.ensures; shared-before = before.spread.ensures; shared-after = after.spread2.ensures };
+      shares = record { is_earlier = earlier.union-rows2.ensures; is_later = later.union-rows.ensures; shared_before = before.spread.ensures; shared_after = after.spread2.ensures };
       passes = inr c.to-family.ensures;
     }
 
-pub pass-on-spec : {M : Type 1} → statement M
-pass-on-spec =
+pub pass_on_spec : {M : Type 1} → statement M
+pass_on_spec =
     tie.close
     (tie.spec
     union-rows-requires

@@ -40,8 +40,8 @@ spread-requires-2 c κs = search rules
 returns : tie.Need-returns
 returns c =
     let differ = c.before in
-    let differ-first = differ.before in
-    let above = differ-first.before in
+    let differ_first = differ.before in
+    let above = differ_first.before in
     let below = above.before in
     let parent = below.before in
     let child = parent.before in
@@ -52,31 +52,31 @@ returns c =
     let kin = over.before in
     let s = kin.before.before.before.before.before.before.before.before in
     record {
-      parents-small = s.ranges.parents.fits;
-      earlier-small = s.ranges.earlier.fits;
-      later-small = s.ranges.later.fits;
+      parents_small = s.ranges.parents.fits;
+      earlier_small = s.ranges.earlier.fits;
+      later_small = s.ranges.later.fits;
       kin = _;
-      is-kin = kin.family.ensures;
+      is_kin = kin.family.ensures;
       over = _;
-      is-over = over.union-rows.ensures;
+      is_over = over.union-rows.ensures;
       under = _;
-      is-under = under.union-rows2.ensures;
+      is_under = under.union-rows2.ensures;
       before = before.raise.ensures;
       after = after.raise2.ensures;
       child = child.raise3.ensures;
       parent = parent.raise4.ensures;
       below = below.raise5.ensures;
       above = above.raise6.ensures;
-      differ-half = _;
-      differ-first = differ-first.spread.ensures;
+      differ_half = _;
+      differ_first = differ_first.spread.ensures;
       differ = differ.spread2.ensures;
       root = refl;
       leaf = refl;
       label = refl;
     }
 
-pub to-family-spec : {M : Type 1} → statement M
-to-family-spec =
+pub to_family_spec : {M : Type 1} → statement M
+to_family_spec =
     tie.close
     (tie.spec
     family-requires

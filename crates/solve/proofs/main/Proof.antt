@@ -3,13 +3,13 @@ use mathlib.Core.Path.{subst}
 use Rattle.io.specs.Counts.{IsPrefixLen}
 use Rattle.reading.specs.Filling.{Fills}
 use Rattle.reading.specs.declared.Filled.{Filled}
-use Rattle.putting.proofs.Fronts.{front-counts}
+use Rattle.putting.proofs.Fronts.{front_counts}
 use borrow.Author.Rules.{rules}
 use Rattle.solve.proofs.main.Statement.{statement}
 use Rattle.solve.proofs.main.Tie as tie
 
-read-counts : (c : tie.After-filled) → IsPrefixLen c.filled.given.0.0 c.before.before.before.fill.new.1.1.0
-read-counts c = subst (λ (f : Filled). Fills f c.before.before.before.fill.new.1.1.0) c.filled.given.1 c.before.before.before.fill.ensures
+read_counts : (c : tie.After-filled) → IsPrefixLen c.filled.given.0.0 c.before.before.before.fill.new.1.1.0
+read_counts c = subst (λ (f : Filled). Fills f c.before.before.before.fill.new.1.1.0) c.filled.given.1 c.before.before.before.fill.ensures
 
 arg-count-requires : tie.Need-arg-count-requires
 arg-count-requires c κs = search rules
@@ -42,19 +42,19 @@ returns-2 : tie.Need-returns-2
 returns-2 c = search rules
 
 array-share-prefix-constraints : tie.Need-array-share-prefix-constraints
-array-share-prefix-constraints c = (read-counts c.before).0
+array-share-prefix-constraints c = (read_counts c.before).0
 
 slice-aggregate-solve : tie.Need-slice-aggregate-solve
-slice-aggregate-solve c = (read-counts c.before.before).1
+slice-aggregate-solve c = (read_counts c.before.before).1
 
 solve-requires : tie.Need-solve-requires
 solve-requires c κs = search rules
 
 array-share-prefix-out : tie.Need-array-share-prefix-out
-array-share-prefix-out c = (front-counts c.solve.ensures.text).0
+array-share-prefix-out c = (front_counts c.solve.ensures.text).0
 
 slice-aggregate-print : tie.Need-slice-aggregate-print
-slice-aggregate-print c = (front-counts c.before.solve.ensures.text).1
+slice-aggregate-print c = (front_counts c.before.solve.ensures.text).1
 
 print-requires : tie.Need-print-requires
 print-requires c κs = search rules

@@ -8,10 +8,10 @@ first-line-requires : tie.Need-first-line-requires
 first-line-requires c κs = search rules
 
 search-requires : tie.Need-search-requires
-search-requires c κs = ((c.before.before.requires.few, omega arith), (_, c.first-line.ensures))
+search-requires c κs = ((c.before.before.requires.few, omega arith), (_, c.first_line.ensures))
 
 returns : tie.Need-returns
-returns c = c.search.ensures _ c.before.first-line.ensures
+returns c = c.search.ensures _ c.before.first_line.ensures
 
-pub search-over-spec : {M : Type 1} → statement M
-search-over-spec = tie.close (tie.spec first-line-requires search-requires returns)
+pub search_over_spec : {M : Type 1} → statement M
+search_over_spec = tie.close (tie.spec first-line-requires search-requires returns)

@@ -1,7 +1,7 @@
 -- The questions in order, then the answer.
 use mathlib.Core.Path.{sym, ◌∙◌}
 use native.Mathlib.Omega.{arith}
-use Rattle.solver.proofs.Answers.{refuses-file, refuses-buffer, covers, answers-file}
+use Rattle.solver.proofs.Answers.{refuses_file, refuses_buffer, covers, answers_file}
 use borrow.Author.Rules.{rules}
 use Rattle.solver.proofs.solve.Statement.{statement}
 use Rattle.solver.proofs.solve.Tie as tie
@@ -20,7 +20,7 @@ returns c =
     let judged = c.before.before.before.before in
     let known = judged.before.before in
     let start = known.before in
-    refuses-buffer _ start.args.constraints.now _ (λ i. omega (arith, known.shared-slice-known.given i)) _ (sym judged.judge.ensures ∙ c.before.before.judged2.given.1) (omega arith)
+    refuses_buffer _ start.args.constraints.now _ (λ i. omega (arith, known.shared-slice-known.given i)) _ (sym judged.judge.ensures ∙ c.before.before.judged2.given.1) (omega arith)
 
 solve-over-requires : tie.Need-solve-over-requires
 solve-over-requires c κs =
@@ -34,7 +34,7 @@ returns-2 c =
     let judged = c.before.before.before in
     let known = judged.before.before in
     let start = known.before in
-    refuses-file _ start.args.constraints.now _ (λ i. omega (arith, known.shared-slice-known.given i)) _ (sym judged.judge.ensures ∙ c.before.judged.given.1)
+    refuses_file _ start.args.constraints.now _ (λ i. omega (arith, known.shared-slice-known.given i)) _ (sym judged.judge.ensures ∙ c.before.judged.given.1)
 
 same_length : tie.Need-same-length
 same_length c = search rules
@@ -45,11 +45,11 @@ returns-3 c =
     let judged = solved.before.before.before.before.before.before in
     let known = judged.before.before in
     let start = known.before in
-    answers-file _ start.args.constraints.now _ (λ i. omega (arith, known.shared-slice-known.given i)) _ (sym judged.judge.ensures ∙ solved.before.before.before.before.judged2.given.1)
+    answers_file _ start.args.constraints.now _ (λ i. omega (arith, known.shared-slice-known.given i)) _ (sym judged.judge.ensures ∙ solved.before.before.before.before.judged2.given.1)
     (omega arith) _ _ solved.solve-over.ensures
 
-pub solve-spec : {M : Type 1} → statement M
-solve-spec =
+pub solve_spec : {M : Type 1} → statement M
+solve_spec =
     tie.close
     (tie.spec
     judge-requires

@@ -1,6 +1,6 @@
 use mathlib.Core.Path.{sym, ap, ◌∙◌}
 use mathlib.Core.Bool.{Bool}
-use Rattle.steps.specs.Reading.{endNumber, endNumbered}
+use Rattle.steps.specs.Reading.{end_number, end_numbered}
 use borrow.Author.Rules.{rules}
 use Rattle.steps.proofs.end_number.Statement.{statement}
 use Rattle.steps.proofs.end_number.Tie as tie
@@ -17,14 +17,14 @@ returns c =
     let o = t.before in
     let b = o.before.before.args.sheet.now in
     let g = sym (sym o.goes_on.ensures ∙ t.if1.true) in
-    (c.number.ensures.0 ∙ ap (λ (k : Bool). endNumber k b) g, c.number.ensures.1 ∙ ap (λ (k : Bool). endNumbered k b) g)
+    (c.number.ensures.0 ∙ ap (λ (k : Bool). end_number k b) g, c.number.ensures.1 ∙ ap (λ (k : Bool). end_numbered k b) g)
 
 returns-2 : tie.Need-returns-2
 returns-2 c =
     let o = c.before in
     let b = o.before.before.args.sheet.now in
     let g = sym (sym o.goes_on.ensures ∙ c.if1.false) in
-    (ap (λ (k : Bool). endNumber k b) g, ap (λ (k : Bool). endNumbered k b) g)
+    (ap (λ (k : Bool). end_number k b) g, ap (λ (k : Bool). end_numbered k b) g)
 
-pub end-number-spec : {M : Type 1} → statement M
-end-number-spec = tie.close (tie.spec goes-on-requires number-requires returns returns-2)
+pub end_number_spec : {M : Type 1} → statement M
+end_number_spec = tie.close (tie.spec goes-on-requires number-requires returns returns-2)

@@ -5,11 +5,11 @@ use native.Mathlib.Nat.{le_refl, lt_irrefl}
 use native.Mathlib.Omega.{arith}
 use lib.Dec.{lit<}
 use lib.ListN.{length, drop}
-use Rattle.theory.specs.PathReader.{moveAt, goesOn}
+use Rattle.theory.specs.PathReader.{move_at, goes_on}
 use Rattle.steps.specs.Reading.{EndRead}
 use Rattle.axes.proofs.Moves.{byte_inside}
 use Rattle.steps.proofs.Returns.{above, move_some}
-use Rattle.steps.proofs.EndReturns.{end-not, end-bad, end-one, end_more}
+use Rattle.steps.proofs.EndReturns.{end_not, end_bad, end_one, end_more}
 use borrow.Author.Rules.{rules}
 use Rattle.steps.proofs.end_steps.Statement.{statement}
 use Rattle.steps.proofs.end_steps.Tie as tie
@@ -36,7 +36,7 @@ returns c =
     let s = a.s.now in
     let l = c.before.before.before.loop in
     let o = c.before.before.move_at in
-    (l.invariant.2 0 l.sheet (end-not s l.i l.from l.sheet o.result o.ensures l.sheet c.enum_told.given.1), λ h. absurd (lt_irrefl 0 h))
+    (l.invariant.2 0 l.sheet (end_not s l.i l.from l.sheet o.result o.ensures l.sheet c.enum_told.given.1), λ h. absurd (lt_irrefl 0 h))
 
 enum-known-found : tie.Need-enum-known-found invariant-loop decreases-loop
 enum-known-found c = search rules
@@ -48,7 +48,7 @@ end-number-requires c κs =
     let l = c.before.before.before.before.before.loop in
     let o = c.before.before.before.before.move_at in
     let g = c.before.before.found.given in
-    let m = move_some s l.i (moveAt (drop l.i s)) o.result g.0.0 g.0.1.0 g.0.1.1.0 o.ensures g.1 in
+    let m = move_some s l.i (move_at (drop l.i s)) o.result g.0.0 g.0.1.0 g.0.1.1.0 o.ensures g.1 in
     m.6
 
 put-move-requires : tie.Need-put-move-requires invariant-loop decreases-loop
@@ -61,7 +61,7 @@ brackets-requires c κs =
     let l = c.before.before.before.before.before.before.before.before.before.loop in
     let o = c.before.before.before.before.before.before.before.before.move_at in
     let g = c.before.before.before.before.before.before.found.given in
-    let m = move_some s l.i (moveAt (drop l.i s)) o.result g.0.0 g.0.1.0 g.0.1.1.0 o.ensures g.1 in
+    let m = move_some s l.i (move_at (drop l.i s)) o.result g.0.0 g.0.1.0 g.0.1.1.0 o.ensures g.1 in
     (omega (arith, m.5), m.6)
 
 returns-2 : tie.Need-returns-2 invariant-loop decreases-loop
@@ -71,12 +71,12 @@ returns-2 c =
     let l = c.before.before.before.before.before.before.before.before.before.before.before.loop in
     let o = c.before.before.before.before.before.before.before.before.before.before.move_at in
     let g = c.before.before.before.before.before.before.before.before.found.given in
-    let m = move_some s l.i (moveAt (drop l.i s)) o.result g.0.0 g.0.1.0 g.0.1.1.0 o.ensures g.1 in
+    let m = move_some s l.i (move_at (drop l.i s)) o.result g.0.0 g.0.1.0 g.0.1.1.0 o.ensures g.1 in
     let n = c.before.before.before.before.before.end-number in
     let p = c.before.before.before.put-move in
     let t = c.before.brackets in (
-      l.invariant.2 0 t.new.1.1.1.0 (end-bad s l.i l.from l.sheet o.result o.ensures g.0.0 g.0.1.0 g.0.1.1.0 g.1 n.result n.new.1.1.0 p.new.1.1.1.1.0 t.result
-          t.new.1.1.1.0 p.ensures t.ensures.0 (goesOn 0 (drop g.0.1.1.0 s)) refl n.ensures.0 n.ensures.1 c.if1.true),
+      l.invariant.2 0 t.new.1.1.1.0 (end_bad s l.i l.from l.sheet o.result o.ensures g.0.0 g.0.1.0 g.0.1.1.0 g.1 n.result n.new.1.1.0 p.new.1.1.1.1.0 t.result
+          t.new.1.1.1.0 p.ensures t.ensures.0 (goes_on 0 (drop g.0.1.1.0 s)) refl n.ensures.0 n.ensures.1 c.if1.true),
       λ h. absurd (lt_irrefl 0 h),
     )
 
@@ -90,13 +90,13 @@ returns-3 c =
     let l = c.before.before.before.before.before.before.before.before.before.before.before.before.before.loop in
     let o = c.before.before.before.before.before.before.before.before.before.before.before.before.move_at in
     let g = c.before.before.before.before.before.before.before.before.before.before.found.given in
-    let m = move_some s l.i (moveAt (drop l.i s)) o.result g.0.0 g.0.1.0 g.0.1.1.0 o.ensures g.1 in
+    let m = move_some s l.i (move_at (drop l.i s)) o.result g.0.0 g.0.1.0 g.0.1.1.0 o.ensures g.1 in
     let n = c.before.before.before.before.before.before.before.end-number in
     let p = c.before.before.before.before.before.put-move in
     let t = c.before.before.before.brackets in
     let e = c.before.before.if1.false in (
-      l.invariant.2 t.result t.new.1.1.1.0 (end-one s l.i l.from l.sheet o.result o.ensures g.0.0 g.0.1.0 g.0.1.1.0 g.1 n.result n.new.1.1.0 p.new.1.1.1.1.0 t.result
-          t.new.1.1.1.0 p.ensures t.ensures.0 (goesOn 0 (drop g.0.1.1.0 s)) refl n.ensures.0 n.ensures.1 e (λ h. c.if2.true (c.before.byte_at.ensures ∙ h))),
+      l.invariant.2 t.result t.new.1.1.1.0 (end_one s l.i l.from l.sheet o.result o.ensures g.0.0 g.0.1.0 g.0.1.1.0 g.1 n.result n.new.1.1.0 p.new.1.1.1.1.0 t.result
+          t.new.1.1.1.0 p.ensures t.ensures.0 (goes_on 0 (drop g.0.1.1.0 s)) refl n.ensures.0 n.ensures.1 e (λ h. c.if2.true (c.before.byte_at.ensures ∙ h))),
       λ h. let k = t.ensures.1 h in (omega (arith, k.0, m.5, l.invariant.0), k.1),
     )
 
@@ -107,7 +107,7 @@ add-i c =
     let l = c.before.before.before.before.before.before.before.before.before.before.before.before.before.loop in
     let o = c.before.before.before.before.before.before.before.before.before.before.before.before.move_at in
     let g = c.before.before.before.before.before.before.before.before.before.before.found.given in
-    let m = move_some s l.i (moveAt (drop l.i s)) o.result g.0.0 g.0.1.0 g.0.1.1.0 o.ensures g.1 in
+    let m = move_some s l.i (move_at (drop l.i s)) o.result g.0.0 g.0.1.0 g.0.1.1.0 o.ensures g.1 in
     let n = c.before.before.before.before.before.before.before.end-number in
     let p = c.before.before.before.before.before.put-move in
     let t = c.before.before.before.brackets in
@@ -125,7 +125,7 @@ loop-less c =
     let l = c.before.before.before.before.before.before.before.before.before.before.before.before.before.loop in
     let o = c.before.before.before.before.before.before.before.before.before.before.before.before.move_at in
     let g = c.before.before.before.before.before.before.before.before.before.before.found.given in
-    let m = move_some s l.i (moveAt (drop l.i s)) o.result g.0.0 g.0.1.0 g.0.1.1.0 o.ensures g.1 in
+    let m = move_some s l.i (move_at (drop l.i s)) o.result g.0.0 g.0.1.0 g.0.1.1.0 o.ensures g.1 in
     let n = c.before.before.before.before.before.before.before.end-number in
     let p = c.before.before.before.before.before.put-move in
     let t = c.before.before.before.brackets in
@@ -142,7 +142,7 @@ loop-again c =
     let l = c.before.before.before.before.before.before.before.before.before.before.before.before.before.loop in
     let o = c.before.before.before.before.before.before.before.before.before.before.before.before.move_at in
     let g = c.before.before.before.before.before.before.before.before.before.before.found.given in
-    let m = move_some s l.i (moveAt (drop l.i s)) o.result g.0.0 g.0.1.0 g.0.1.1.0 o.ensures g.1 in
+    let m = move_some s l.i (move_at (drop l.i s)) o.result g.0.0 g.0.1.0 g.0.1.1.0 o.ensures g.1 in
     let n = c.before.before.before.before.before.before.before.end-number in
     let p = c.before.before.before.before.before.put-move in
     let t = c.before.before.before.brackets in
@@ -153,11 +153,11 @@ loop-again c =
       omega (arith, l.invariant.0, f.0, m.5),
       omega (arith, i),
       λ r q h. l.invariant.2 r q (end_more s l.i l.from l.sheet o.result o.ensures g.0.0 g.0.1.0 g.0.1.1.0 g.1 n.result n.new.1.1.0 p.new.1.1.1.1.0 t.result
-          t.new.1.1.1.0 p.ensures t.ensures.0 (goesOn 0 (drop g.0.1.1.0 s)) refl n.ensures.0 n.ensures.1 r q e (omega (arith, f.0, m.5)) i u h),
+          t.new.1.1.1.0 p.ensures t.ensures.0 (goes_on 0 (drop g.0.1.1.0 s)) refl n.ensures.0 n.ensures.1 r q e (omega (arith, f.0, m.5)) i u h),
     )
 
-pub end-steps-spec : {M : Type 1} → statement M
-end-steps-spec =
+pub end_steps_spec : {M : Type 1} → statement M
+end_steps_spec =
     tie.close
     (tie.spec
     invariant-loop

@@ -3,15 +3,15 @@ use Prim.Native.Nat.{ℕ, ◌+◌, ◌-◌, ◌≤◌, ◌<◌}
 use native.Mathlib.Omega.{arith}
 use lib.Dec.{eqb, lit<}
 use lib.ListN.{length, drop}
-use Rattle.theory.specs.PathReader.{goesOn}
+use Rattle.theory.specs.PathReader.{goes_on}
 use Rattle.axes.proofs.Moves.{byte_inside}
-use Rattle.steps.proofs.Scan.{goes-on-end, goes-on-open, goes-on-close, goes-on-inside, goes-on-now, goes-on-last, goes-on-next, other-one}
+use Rattle.steps.proofs.Scan.{goes_on_end, goes_on_open, goes_on_close, goes_on_inside, goes_on_now, goes_on_last, goes_on_next, other_one}
 use borrow.Author.Rules.{rules}
 use Rattle.steps.proofs.goes_on.Statement.{statement}
 use Rattle.steps.proofs.goes_on.Tie as tie
 
 abbrev invariant-loop : tie.invariant-loop
-invariant-loop s at first depth₀ i₀ depth i = (i ≤ length s) × (0 < depth) × (depth ≤ i) × (goesOn depth (drop i s) ≡ goesOn 0 (drop at s))
+invariant-loop s at first depth₀ i₀ depth i = (i ≤ length s) × (0 < depth) × (depth ≤ i) × (goes_on depth (drop i s) ≡ goes_on 0 (drop at s))
 
 abbrev decreases-loop : tie.decreases-loop
 decreases-loop s at first depth₀ i₀ depth i = length s - i
@@ -24,7 +24,7 @@ returns c =
     let a = c.before.before.before.args in
     let s = a.s.now in
     let b = c.before.byte_at.ensures in
-    ap (λ (k : ℕ). eqb k 47) b ∙ goes-on-now s a.at (λ h. c.if1.true (b ∙ h))
+    ap (λ (k : ℕ). eqb k 47) b ∙ goes_on_now s a.at (λ h. c.if1.true (b ∙ h))
 
 add-i : tie.Need-overflow-add-i invariant-loop decreases-loop
 add-i c =
@@ -42,7 +42,7 @@ loop-holds c =
     let b = c.before.byte_at.ensures in
     let u = sym b ∙ c.if1.false in
     let j = byte_inside s a.at 91 (sym u) (lit< tt) in
-    (omega (arith, j), omega arith, omega arith, goes-on-open s a.at j 0 u)
+    (omega (arith, j), omega arith, omega arith, goes_on_open s a.at j 0 u)
 
 shared-slice-read-b : tie.Need-shared-slice-read-b invariant-loop decreases-loop
 shared-slice-read-b c = search rules
@@ -60,7 +60,7 @@ loop-again c =
     let i = c.before.before.loop-test.true in
     let n = l.invariant.1 in
     let b = c.if2.true in
-    (omega (arith, i), n, omega (arith, l.invariant.2), goes-on-inside s l.i i l.depth (λ h. omega (arith, n, h)) (λ h. omega (arith, b, h)) (λ h. omega (arith, b, h)) ∙ l.invariant.3)
+    (omega (arith, i), n, omega (arith, l.invariant.2), goes_on_inside s l.i i l.depth (λ h. omega (arith, n, h)) (λ h. omega (arith, b, h)) (λ h. omega (arith, b, h)) ∙ l.invariant.3)
 
 add-depth : tie.Need-overflow-add-depth invariant-loop decreases-loop
 add-depth c = search rules
@@ -73,7 +73,7 @@ loop-again-2 c =
     let s = c.before.before.before.before.before.before.before.before.args.s.now in
     let l = c.before.before.before.before.loop in
     let i = c.before.before.before.loop-test.true in
-    (omega (arith, i), omega arith, omega (arith, l.invariant.2), goes-on-open s l.i i l.depth c.if3.true ∙ l.invariant.3)
+    (omega (arith, i), omega arith, omega (arith, l.invariant.2), goes_on_open s l.i i l.depth c.if3.true ∙ l.invariant.3)
 
 sub-depth : tie.Need-overflow-sub-depth invariant-loop decreases-loop
 sub-depth c =
@@ -91,8 +91,8 @@ loop-again-3 c =
     let l = c.before.before.before.before.before.before.loop in
     let i = c.before.before.before.before.before.loop-test.true in
     let n = l.invariant.1 in
-    let m : 0 < l.depth - 1 = other-one l.depth n c.if5.true in
-    (omega (arith, i), m, omega (arith, l.invariant.2), goes-on-close s l.i i l.depth (λ h. omega (arith, n, h)) c.before.if4.true ∙ l.invariant.3)
+    let m : 0 < l.depth - 1 = other_one l.depth n c.if5.true in
+    (omega (arith, i), m, omega (arith, l.invariant.2), goes_on_close s l.i i l.depth (λ h. omega (arith, n, h)) c.before.if4.true ∙ l.invariant.3)
 
 byte-at-requires-2 : tie.Need-byte-at-requires-2 invariant-loop decreases-loop
 byte-at-requires-2 c κs = search rules
@@ -105,7 +105,7 @@ returns-2 c =
     let e = c.before.before.before.if4.true in
     let z = c.before.before.if5.false in
     let b = c.before.byte-at2.ensures in
-    ap (λ (k : ℕ). eqb k 47) b ∙ goes-on-last s l.i i l.depth z e (λ h. c.if6.true (b ∙ h)) ∙ l.invariant.3
+    ap (λ (k : ℕ). eqb k 47) b ∙ goes_on_last s l.i i l.depth z e (λ h. c.if6.true (b ∙ h)) ∙ l.invariant.3
 
 add-i-3 : tie.Need-overflow-add-i-3 invariant-loop decreases-loop
 add-i-3 c =
@@ -141,7 +141,7 @@ loop-again-4 c =
     let b = c.before.byte-at2.ensures in
     let u = sym b ∙ c.if6.false in
     let j = byte_inside s (l.i + 1) 91 (sym u) (lit< tt) in
-    (omega (arith, j), l.invariant.1, omega (arith, l.invariant.2), goes-on-next s l.i i l.depth z e j u ∙ l.invariant.3)
+    (omega (arith, j), l.invariant.1, omega (arith, l.invariant.2), goes_on_next s l.i i l.depth z e j u ∙ l.invariant.3)
 
 loop-less-5 : tie.Need-loop-smaller-5 invariant-loop decreases-loop
 loop-less-5 c = search rules
@@ -152,16 +152,16 @@ loop-again-5 c =
     let l = c.before.before.before.before.before.loop in
     let i = c.before.before.before.before.loop-test.true in
     let n = l.invariant.1 in
-    (omega (arith, i), n, omega (arith, l.invariant.2), goes-on-inside s l.i i l.depth (λ h. omega (arith, n, h)) c.before.if3.false c.if4.false ∙ l.invariant.3)
+    (omega (arith, i), n, omega (arith, l.invariant.2), goes_on_inside s l.i i l.depth (λ h. omega (arith, n, h)) c.before.if3.false c.if4.false ∙ l.invariant.3)
 
 returns-3 : tie.Need-returns-3 invariant-loop decreases-loop
 returns-3 c =
     let s = c.before.before.before.before.before.args.s.now in
     let l = c.before.loop in
-    goes-on-end s l.i l.depth c.loop-test.false ∙ l.invariant.3
+    goes_on_end s l.i l.depth c.loop-test.false ∙ l.invariant.3
 
-pub goes-on-spec : {M : Type 1} → statement M
-goes-on-spec =
+pub goes_on_spec : {M : Type 1} → statement M
+goes_on_spec =
     tie.close
     (tie.spec
     invariant-loop

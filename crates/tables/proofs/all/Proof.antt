@@ -1,6 +1,6 @@
 -- `tables::all` meets its contract: a power of two less one, which fits since n is at most 16.
 use borrow.Author.Rules.{rules}
-use Rattle.tables.proofs.Helpers.{all-positive, all-fits, power32}
+use Rattle.tables.proofs.Helpers.{all_positive, all_fits, power32}
 use Rattle.tables.proofs.all.Statement.{statement}
 use Rattle.tables.proofs.all.Tie as tie
 
@@ -11,13 +11,13 @@ shl-p : tie.Need-overflow-shl-p
 shl-p c = search rules
 
 sub-result : tie.Need-overflow-sub-result
-sub-result c = all-positive _ c.requires
+sub-result c = all_positive _ c.requires
 
 cast-result : tie.Need-overflow-cast-result
-cast-result c = all-fits _ c.requires
+cast-result c = all_fits _ c.requires
 
 returns : tie.Need-returns
 returns c = rw (power32 _ c.requires)
 
-pub all-spec : {M : Type 1} → statement M
-all-spec = tie.close (tie.spec cast-p shl-p sub-result cast-result returns)
+pub all_spec : {M : Type 1} → statement M
+all_spec = tie.close (tie.spec cast-p shl-p sub-result cast-result returns)

@@ -5,7 +5,7 @@ use mir.Val.{Fits}
 use mir.Syntax.{w16}
 use borrow.Author.Rules.{rules}
 use Rattle.tables.specs.Tables.{row}
-use Rattle.tables.proofs.Loops.{Crossing, crossing-none, crossing-more, was-crossed}
+use Rattle.tables.proofs.Loops.{Crossing, crossing_none, crossing_more, was_crossed}
 use Rattle.tables.proofs.crossed.Statement.{statement}
 use Rattle.tables.proofs.crossed.Tie as tie
 
@@ -16,7 +16,7 @@ abbrev decreases-loop : tie.decreases-loop
 decreases-loop t below above any₀ x₀ any x = 16 - x
 
 loop-holds : tie.Need-loop-init invariant-loop decreases-loop
-loop-holds c = (search rules, crossing-none _ _ _)
+loop-holds c = (search rules, crossing_none _ _ _)
 
 mul-v : tie.Need-overflow-mul-v invariant-loop decreases-loop
 mul-v c = search rules
@@ -46,13 +46,13 @@ loop-again : tie.Need-loop-preserved invariant-loop decreases-loop
 loop-again c =
     let l = c.before in
     let v : Fits w16 (row l.before.args.t1 l.loop.x) = search rules in
-    (search rules, crossing-more _ _ _ _ _ (search rules) v.fits l.loop.invariant.1)
+    (search rules, crossing_more _ _ _ _ _ (search rules) v.fits l.loop.invariant.1)
 
 returns : tie.Need-returns invariant-loop decreases-loop
-returns c = was-crossed _ _ _ _ _ (search rules) c.before.loop.invariant.1 _ refl
+returns c = was_crossed _ _ _ _ _ (search rules) c.before.loop.invariant.1 _ refl
 
-pub crossed-spec : {M : Type 1} → statement M
-crossed-spec =
+pub crossed_spec : {M : Type 1} → statement M
+crossed_spec =
     tie.close
     (tie.spec
     invariant-loop

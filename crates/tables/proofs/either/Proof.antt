@@ -4,7 +4,7 @@ use Prim.Native.Nat.{◌≤◌, ◌-◌}
 use lib.Bits.{bit_or}
 use borrow.Author.Rules.{rules}
 use Rattle.tables.specs.Tables.{row}
-use Rattle.tables.proofs.Loops.{Rowing, rowing-none, rowing_more, combined}
+use Rattle.tables.proofs.Loops.{Rowing, rowing_none, rowing_more, combined}
 use Rattle.tables.proofs.either.Statement.{statement}
 use Rattle.tables.proofs.either.Tie as tie
 
@@ -15,7 +15,7 @@ abbrev decreases-loop : tie.decreases-loop
 decreases-loop u a₀ x₀ a x = 16 - x
 
 loop-holds : tie.Need-loop-init invariant-loop decreases-loop
-loop-holds c = (search rules, rowing-none _ _ _ (search rules))
+loop-holds c = (search rules, rowing_none _ _ _ (search rules))
 
 mul-v : tie.Need-overflow-mul-v invariant-loop decreases-loop
 mul-v c = search rules
@@ -47,8 +47,8 @@ loop-again c = (search rules, rowing_more _ _ _ _ _ _ (search rules) refl c.befo
 returns : tie.Need-returns invariant-loop decreases-loop
 returns c = combined _ refl _ _ _ _ (search rules) c.before.loop.invariant.0 (search rules) (search rules) c.before.loop.invariant.1
 
-pub either-spec : {M : Type 1} → statement M
-either-spec =
+pub either_spec : {M : Type 1} → statement M
+either_spec =
     tie.close
     (tie.spec
     invariant-loop

@@ -8,5 +8,5 @@ returns : tie.Need-returns
 unfolding without
 returns c = search rules
 
-pub except-spec : {M : Type 1} → statement M
-except-spec = tie.close (tie.spec returns)
+pub except_spec : {M : Type 1} → statement M
+except_spec = tie.close (tie.spec returns)

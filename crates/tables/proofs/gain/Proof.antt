@@ -11,5 +11,5 @@ returns : tie.Need-returns
 unfolding gained
 returns c = rw c.when.ensures
 
-pub gain-spec : {M : Type 1} → statement M
-gain-spec = tie.close (tie.spec when-requires returns)
+pub gain_spec : {M : Type 1} → statement M
+gain_spec = tie.close (tie.spec when-requires returns)

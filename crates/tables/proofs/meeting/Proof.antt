@@ -3,7 +3,7 @@ use Prim.Native.Nat.{◌≤◌, ◌-◌}
 use borrow.Author.Rules.{rules}
 use Rattle.tables.specs.Tables.{row}
 use Rattle.tables.specs.Rows.{meets}
-use Rattle.tables.proofs.Loops.{Gathering, gather_none, gather-more, gather-all, none-meet}
+use Rattle.tables.proofs.Loops.{Gathering, gather_none, gather_more, gather_all, none_meet}
 use Rattle.tables.proofs.meeting.Statement.{statement}
 use Rattle.tables.proofs.meeting.Tie as tie
 
@@ -14,7 +14,7 @@ abbrev decreases-loop : tie.decreases-loop
 decreases-loop c t a₀ y₀ a y = 16 - y
 
 returns : tie.Need-returns invariant-loop decreases-loop
-returns c = rw c.if1.true (none-meet c.before.args.t1)
+returns c = rw c.if1.true (none_meet c.before.args.t1)
 
 loop-holds : tie.Need-loop-init invariant-loop decreases-loop
 loop-holds c = (search rules, gather_none _)
@@ -38,13 +38,13 @@ loop-less : tie.Need-loop-smaller invariant-loop decreases-loop
 loop-less c = search rules
 
 loop-again : tie.Need-loop-preserved invariant-loop decreases-loop
-loop-again c = (search rules, gather-more _ _ _ _ _ c.before.meet.ensures c.gain-one.ensures c.before.before.before.loop.invariant.1)
+loop-again c = (search rules, gather_more _ _ _ _ _ c.before.meet.ensures c.gain-one.ensures c.before.before.before.loop.invariant.1)
 
 returns-2 : tie.Need-returns-2 invariant-loop decreases-loop
-returns-2 c = gather-all _ _ _ (search rules) c.before.loop.invariant.1
+returns-2 c = gather_all _ _ _ (search rules) c.before.loop.invariant.1
 
-pub meeting-spec : {M : Type 1} → statement M
-meeting-spec =
+pub meeting_spec : {M : Type 1} → statement M
+meeting_spec =
     tie.close
     (tie.spec
     invariant-loop

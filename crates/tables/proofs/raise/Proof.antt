@@ -3,7 +3,7 @@ use Prim.Native.Nat.{◌≤◌, ◌-◌}
 use borrow.Author.Rules.{rules}
 use Rattle.rowbits.specs.Bit.{bit}
 use Rattle.tables.specs.Rows.{gained}
-use Rattle.tables.proofs.Loops.{Rowing, rowing-none, rowing_more, was-raised}
+use Rattle.tables.proofs.Loops.{Rowing, rowing_none, rowing_more, was_raised}
 use Rattle.tables.proofs.raise.Statement.{statement}
 use Rattle.tables.proofs.raise.Tie as tie
 
@@ -14,7 +14,7 @@ abbrev decreases-loop : tie.decreases-loop
 decreases-loop which by a₀ x₀ a x = 16 - x
 
 loop-holds : tie.Need-loop-init invariant-loop decreases-loop
-loop-holds c = (search rules, rowing-none _ _ _ (search rules))
+loop-holds c = (search rules, rowing_none _ _ _ (search rules))
 
 mul-v : tie.Need-overflow-mul-v invariant-loop decreases-loop
 mul-v c = search rules
@@ -44,10 +44,10 @@ loop-again : tie.Need-loop-preserved invariant-loop decreases-loop
 loop-again c = (search rules, rowing_more _ _ _ _ _ _ (search rules) (rw (c.gain.ensures, c.before.has.ensures)) c.before.before.before.loop.invariant.1)
 
 returns : tie.Need-returns invariant-loop decreases-loop
-returns c = was-raised _ _ _ _ _ (search rules) c.before.loop.invariant.0 c.before.loop.invariant.1
+returns c = was_raised _ _ _ _ _ (search rules) c.before.loop.invariant.0 c.before.loop.invariant.1
 
-pub raise-spec : {M : Type 1} → statement M
-raise-spec =
+pub raise_spec : {M : Type 1} → statement M
+raise_spec =
     tie.close
     (tie.spec
     invariant-loop

@@ -4,7 +4,7 @@ use borrow.Author.Rules.{rules}
 use lib.Dec.{eqb}
 use Rattle.tables.specs.Tables.{row}
 use Rattle.tables.specs.Rows.{gained}
-use Rattle.tables.proofs.Loops.{Rowing, rowing-none, rowing_more, was-raised}
+use Rattle.tables.proofs.Loops.{Rowing, rowing_none, rowing_more, was_raised}
 use Rattle.tables.proofs.raise_alike.Statement.{statement}
 use Rattle.tables.proofs.raise_alike.Tie as tie
 
@@ -15,7 +15,7 @@ abbrev decreases-loop : tie.decreases-loop
 decreases-loop like by rows a₀ x₀ a x = 16 - x
 
 loop-holds : tie.Need-loop-init invariant-loop decreases-loop
-loop-holds c = (search rules, rowing-none _ _ _ (search rules))
+loop-holds c = (search rules, rowing_none _ _ _ (search rules))
 
 mul-v : tie.Need-overflow-mul-v invariant-loop decreases-loop
 mul-v c = search rules
@@ -48,10 +48,10 @@ loop-again : tie.Need-loop-preserved invariant-loop decreases-loop
 loop-again c = (search rules, rowing_more _ _ _ _ _ _ (search rules) c.gain.ensures c.before.before.loop.invariant.1)
 
 returns : tie.Need-returns invariant-loop decreases-loop
-returns c = was-raised _ _ _ _ _ (search rules) c.before.loop.invariant.0 c.before.loop.invariant.1
+returns c = was_raised _ _ _ _ _ (search rules) c.before.loop.invariant.0 c.before.loop.invariant.1
 
-pub raise-alike-spec : {M : Type 1} → statement M
-raise-alike-spec =
+pub raise_alike_spec : {M : Type 1} → statement M
+raise_alike_spec =
     tie.close
     (tie.spec
     invariant-loop

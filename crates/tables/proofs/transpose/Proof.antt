@@ -3,13 +3,13 @@ use mathlib.Core.Path.{refl}
 use Prim.Native.Nat.{◌≤◌, ◌-◌}
 use borrow.Author.Rules.{rules}
 use Rattle.rowbits.specs.Bit.{bit}
-use Rattle.tables.specs.Rows.{gainedOne}
-use Rattle.tables.proofs.Loops.{Rowing, rowing-none, rowing_more, Transposing, transposing-none, transposing-more, transposed, zeros}
+use Rattle.tables.specs.Rows.{gained_one}
+use Rattle.tables.proofs.Loops.{Rowing, rowing_none, rowing_more, Transposing, transposing_none, transposing_more, transposed, zeros}
 use Rattle.tables.proofs.transpose.Statement.{statement}
 use Rattle.tables.proofs.transpose.Tie as tie
 
 abbrev invariant-loop2 : tie.invariant-loop2
-invariant-loop2 t a₀ y v x₀ a x = (x ≤ 16) × Rowing (λ k w. gainedOne (bit v k) w y) 16 a₀ x a
+invariant-loop2 t a₀ y v x₀ a x = (x ≤ 16) × Rowing (λ k w. gained_one (bit v k) w y) 16 a₀ x a
 
 abbrev decreases-loop2 : tie.decreases-loop2
 decreases-loop2 t a₀ y v x₀ a x = 16 - x
@@ -21,7 +21,7 @@ abbrev decreases-loop : tie.decreases-loop
 decreases-loop t a₀ y₀ a y = 16 - y
 
 loop-holds : tie.Need-loop-init invariant-loop2 decreases-loop2 invariant-loop decreases-loop
-loop-holds c = (search rules, transposing-none _ _ refl (λ x. zeros 16 x))
+loop-holds c = (search rules, transposing_none _ _ refl (λ x. zeros 16 x))
 
 mul-v : tie.Need-overflow-mul-v invariant-loop2 decreases-loop2 invariant-loop decreases-loop
 mul-v c = search rules
@@ -30,7 +30,7 @@ array-read-v : tie.Need-array-read-v invariant-loop2 decreases-loop2 invariant-l
 array-read-v c = search rules
 
 loop2-holds : tie.Need-loop2-init invariant-loop2 decreases-loop2 invariant-loop decreases-loop
-loop2-holds c = (search rules, rowing-none _ _ _ c.before.loop.invariant.1.long)
+loop2-holds c = (search rules, rowing_none _ _ _ c.before.loop.invariant.1.long)
 
 mul-w : tie.Need-overflow-mul-w invariant-loop2 decreases-loop2 invariant-loop decreases-loop
 mul-w c = search rules
@@ -66,13 +66,13 @@ loop-less : tie.Need-loop-smaller invariant-loop2 decreases-loop2 invariant-loop
 loop-less c = search rules
 
 loop-again : tie.Need-loop-preserved invariant-loop2 decreases-loop2 invariant-loop decreases-loop
-loop-again c = (search rules, transposing-more _ _ _ _ _ (search rules) c.before.loop2.invariant.1 c.before.before.before.loop.invariant.1)
+loop-again c = (search rules, transposing_more _ _ _ _ _ (search rules) c.before.loop2.invariant.1 c.before.before.before.loop.invariant.1)
 
 returns : tie.Need-returns invariant-loop2 decreases-loop2 invariant-loop decreases-loop
 returns c = transposed _ _ _ (search rules) c.before.loop.invariant.1
 
-pub transpose-spec : {M : Type 1} → statement M
-transpose-spec =
+pub transpose_spec : {M : Type 1} → statement M
+transpose_spec =
     tie.close
     (tie.spec
     invariant-loop2

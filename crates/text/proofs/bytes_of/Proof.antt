@@ -32,8 +32,8 @@ returns-4 : tie.Need-returns-4
 unfolding bytes_of
 returns-4 c = rw c.enum-told3.given.1
 
-pub bytes-of-spec : {M : Type 1} → statement M
-bytes-of-spec =
+pub bytes_of_spec : {M : Type 1} → statement M
+bytes_of_spec =
     tie.close
     (tie.spec
     enum-known-verdict

@@ -1,7 +1,7 @@
 -- The marker's verdict and its line.
 use mathlib.Core.Path.{ap, subst}
 use Rattle.meaning.specs.Promises.{MarkerPromise}
-use Rattle.meaning.specs.Text.{markedText}
+use Rattle.meaning.specs.Text.{marked_text}
 use Rattle.lent.proofs.Stores.{put_same}
 use Rattle.putting.proofs.Fronts.{put_front}
 use borrow.Author.Rules.{rules}
@@ -20,7 +20,7 @@ returns c =
     let start = marked.before.before.before.before in
     let m = marked.mark.ensures in
     record {
-      text = put_front (put_same (ap markedText m.0) c.put-mark.ensures);
+      text = put_front (put_same (ap marked_text m.0) c.put-mark.ensures);
       promise = subst (MarkerPromise start.args.constraints.now start.args.answer.now) m.0 m.1;
     }
 

@@ -1,6 +1,6 @@
 -- The records, or the line of a refusal.
 use borrow.Author.Rules.{rules}
-use Rattle.theory.specs.PathReader.{readPaths}
+use Rattle.theory.specs.PathReader.{read_paths}
 use Rattle.text.proofs.Records.{printed}
 use Rattle.text.proofs.paths.Statement.{statement}
 use Rattle.text.proofs.paths.Tie as tie
@@ -15,7 +15,7 @@ returns : tie.Need-returns
 returns c =
     let r = c.before.before in
     let s = r.before.before.before in
-    printed s.args.text.now s.args.out.now _ _ (search rules) (c.put-answer.ensures (readPaths s.args.text.now s.args.out.now) s.args.out.now r.read.ensures.0 r.read.ensures.1)
+    printed s.args.text.now s.args.out.now _ _ (search rules) (c.put-answer.ensures (read_paths s.args.text.now s.args.out.now) s.args.out.now r.read.ensures.0 r.read.ensures.1)
 
-pub paths-spec : {M : Type 1} → statement M
-paths-spec = tie.close (tie.spec read-requires put-answer-requires returns)
+pub paths_spec : {M : Type 1} → statement M
+paths_spec = tie.close (tie.spec read-requires put-answer-requires returns)

@@ -1,9 +1,9 @@
 -- Verdict by verdict.
 use mathlib.Core.Path.{sym, ap}
 use Rattle.meaning.specs.Ascii.{ascii}
-use Rattle.meaning.specs.Text.{numbered, markedText}
-use Rattle.marker.specs.Verdict.{markedOf}
-use Rattle.text.specs.Verdicts.{markerText}
+use Rattle.meaning.specs.Text.{numbered, marked_text}
+use Rattle.marker.specs.Verdict.{marked_of}
+use Rattle.text.specs.Verdicts.{marker_text}
 use Rattle.lent.proofs.Stores.{put_same}
 use borrow.Author.Rules.{rules}
 use Rattle.text.proofs.put_mark.Statement.{statement}
@@ -40,24 +40,24 @@ same_length : tie.Need-same-length
 same_length c = search rules
 
 returns : tie.Need-returns
-unfolding ascii markedText markedOf
-returns c = let put = c.before.before in put_same (ap markerText (sym put.before.before.before.enum_told.given.1)) put.put.ensures
+unfolding ascii marked_text marked_of
+returns c = let put = c.before.before in put_same (ap marker_text (sym put.before.before.before.enum_told.given.1)) put.put.ensures
 
 same-length-2 : tie.Need-same-length-2
 same-length-2 c = search rules
 
 returns-2 : tie.Need-returns-2
-returns-2 c = let put = c.before.before in put_same (ap markerText (sym put.before.before.before.verdict.given.1)) put.put-unmet.ensures
+returns-2 c = let put = c.before.before in put_same (ap marker_text (sym put.before.before.before.verdict.given.1)) put.put-unmet.ensures
 
 same-length-3 : tie.Need-same-length-3
 same-length-3 c = search rules
 
 returns-3 : tie.Need-returns-3
-unfolding ascii numbered markedText markedOf
-returns-3 c = let put = c.before.before in put_same (ap markerText (sym put.before.before.before.before.verdict2.given.1)) put.put-line.ensures
+unfolding ascii numbered marked_text marked_of
+returns-3 c = let put = c.before.before in put_same (ap marker_text (sym put.before.before.before.before.verdict2.given.1)) put.put-line.ensures
 
-pub put-mark-spec : {M : Type 1} → statement M
-put-mark-spec =
+pub put_mark_spec : {M : Type 1} → statement M
+put_mark_spec =
     tie.close
     (tie.spec
     enum_told

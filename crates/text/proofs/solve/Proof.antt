@@ -5,7 +5,7 @@ use lib.ListN.{length-take}
 use lib.Seq.{length-take-le}
 use Rattle.lent.proofs.Stores.{put_same}
 use Rattle.putting.proofs.Fronts.{put_front}
-use Rattle.text.proofs.Answers.{solver-text, bytes_most, bytes-within, promised}
+use Rattle.text.proofs.Answers.{solver_text_lem, bytes_most, bytes_within, promised}
 use borrow.Author.Rules.{rules}
 use Rattle.text.proofs.solve.Statement.{statement}
 use Rattle.text.proofs.solve.Tie as tie
@@ -20,13 +20,13 @@ bytes-of-requires : tie.Need-bytes-of-requires
 bytes-of-requires c κs = search rules
 
 array-share-prefix-answer : tie.Need-array-share-prefix-answer
-array-share-prefix-answer c = let solved = c.before.before.before in bytes-within _ _ _ _ _ solved.solve.ensures (omega arith) _ c.before.bytes_of.ensures
+array-share-prefix-answer c = let solved = c.before.before.before in bytes_within _ _ _ _ _ solved.solve.ensures (omega arith) _ c.before.bytes_of.ensures
 
 slice-aggregate-put-solved : tie.Need-slice-aggregate-put-solved
 slice-aggregate-put-solved c =
     let counted = c.before.before in
     let solved = counted.before.before in
-    sym (length-take-le _ _ (bytes-within _ _ _ _ _ solved.solve.ensures (omega arith) _ counted.bytes_of.ensures))
+    sym (length-take-le _ _ (bytes_within _ _ _ _ _ solved.solve.ensures (omega arith) _ counted.bytes_of.ensures))
 
 put-solved-requires : tie.Need-put-solved-requires
 put-solved-requires c κs =
@@ -40,10 +40,10 @@ returns c =
     let counted = c.before.before.before in
     let solved = counted.before.before in
     let w = solved.solve.ensures in
-    record { text = put_front (put_same (solver-text _ _ _ _ _ w _ counted.bytes_of.ensures) c.put-solved.ensures); promise = promised _ _ _ _ _ w }
+    record { text = put_front (put_same (solver_text_lem _ _ _ _ _ w _ counted.bytes_of.ensures) c.put-solved.ensures); promise = promised _ _ _ _ _ w }
 
-pub solve-spec : {M : Type 1} → statement M
-solve-spec =
+pub solve_spec : {M : Type 1} → statement M
+solve_spec =
     tie.close
     (tie.spec
     slice-aggregate-solve

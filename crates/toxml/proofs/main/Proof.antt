@@ -3,13 +3,13 @@ use mathlib.Core.Path.{subst}
 use Rattle.io.specs.Counts.{IsPrefixLen}
 use Rattle.pieces.specs.Pieces.{FillsInPieces}
 use Rattle.reading.specs.declared.Filled.{Filled}
-use Rattle.putting.proofs.Fronts.{front-counts}
+use Rattle.putting.proofs.Fronts.{front_counts}
 use borrow.Author.Rules.{rules}
 use Rattle.toxml.proofs.main.Statement.{statement}
 use Rattle.toxml.proofs.main.Tie as tie
 
-read-counts : (c : tie.After-filled) → IsPrefixLen c.filled.given.0.0 c.before.before.before.read-pieces.new.1.1.0
-read-counts c = (subst (λ (f : Filled). FillsInPieces f c.before.before.before.read-pieces.new.1.1.0) c.filled.given.1 c.before.before.before.read-pieces.ensures).0
+read_counts : (c : tie.After-filled) → IsPrefixLen c.filled.given.0.0 c.before.before.before.read-pieces.new.1.1.0
+read_counts c = (subst (λ (f : Filled). FillsInPieces f c.before.before.before.read-pieces.new.1.1.0) c.filled.given.1 c.before.before.before.read-pieces.ensures).0
 
 arg-count-requires : tie.Need-arg-count-requires
 arg-count-requires c κs = search rules
@@ -45,19 +45,19 @@ returns-2 : tie.Need-returns-2
 returns-2 c = search rules
 
 array-share-prefix-nodes : tie.Need-array-share-prefix-nodes
-array-share-prefix-nodes c = (read-counts c.before).0
+array-share-prefix-nodes c = (read_counts c.before).0
 
 slice-aggregate-write : tie.Need-slice-aggregate-write
-slice-aggregate-write c = (read-counts c.before.before).1
+slice-aggregate-write c = (read_counts c.before.before).1
 
 write-requires : tie.Need-write-requires
 write-requires c κs = search rules
 
 array-share-prefix-out : tie.Need-array-share-prefix-out
-array-share-prefix-out c = (front-counts c.write.ensures.output).0
+array-share-prefix-out c = (front_counts c.write.ensures.output).0
 
 slice-aggregate-print : tie.Need-slice-aggregate-print
-slice-aggregate-print c = (front-counts c.before.write.ensures.output).1
+slice-aggregate-print c = (front_counts c.before.write.ensures.output).1
 
 print-requires : tie.Need-print-requires
 print-requires c κs = search rules

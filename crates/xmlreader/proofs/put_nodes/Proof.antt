@@ -4,7 +4,7 @@ use Prim.Native.Nat.{◌+◌, ◌-◌, ◌*◌, ◌≤◌}
 use native.Mathlib.Omega.{arith}
 use lib.ListN.{length, get_or, length-set}
 use Rattle.lent.proofs.Stores.{put_four}
-use Rattle.xmlreader.proofs.Records.{First, first-none, first_more, first-all}
+use Rattle.xmlreader.proofs.Records.{First, first_none, first_more, first_all}
 use borrow.Author.Rules.{rules}
 use Rattle.xmlreader.proofs.put_nodes.Statement.{statement}
 use Rattle.xmlreader.proofs.put_nodes.Tie as tie
@@ -16,7 +16,7 @@ abbrev decreases-loop : tie.decreases-loop
 decreases-loop ups labels count nodes₀ i₀ nodes i = count - i
 
 loop-holds : tie.Need-loop-init invariant-loop decreases-loop
-loop-holds c = (omega arith, refl, first-none c.args.ups.now c.args.labels.now c.args.count c.args.nodes.now)
+loop-holds c = (omega arith, refl, first_none c.args.ups.now c.args.labels.now c.args.count c.args.nodes.now)
 
 mul-nodes : tie.Need-overflow-mul-nodes invariant-loop decreases-loop
 mul-nodes c = search rules
@@ -88,10 +88,10 @@ returns c =
     let s = l.before in
     let a = l.loop.invariant.0 in
     let b = c.loop-test.false in
-    first-all s.args.ups.now s.args.labels.now s.args.count l.loop.i s.args.nodes.now l.loop.nodes (omega (arith, a, b)) l.loop.invariant.2
+    first_all s.args.ups.now s.args.labels.now s.args.count l.loop.i s.args.nodes.now l.loop.nodes (omega (arith, a, b)) l.loop.invariant.2
 
-pub put-nodes-spec : {M : Type 1} → statement M
-put-nodes-spec =
+pub put_nodes_spec : {M : Type 1} → statement M
+put_nodes_spec =
     tie.close
     (tie.spec
     invariant-loop

@@ -8,7 +8,7 @@ use borrow.Author.Rules.{rules}
 use Rattle.xmlreader.specs.declared.Step.{Step}
 use Rattle.xmlreader.specs.declared.Step.TheVariants.{To, Absent, Not}
 use Rattle.xmlreader.specs.Reading.{Single, Found, ForestRead}
-use Rattle.xmlreader.proofs.Answers.{start-readable, short, missed-all, bytes_left, room, written}
+use Rattle.xmlreader.proofs.Answers.{start_readable, short, missed_all, bytes_left, room, written}
 use Rattle.xmlreader.proofs.read.Statement.{statement}
 use Rattle.xmlreader.proofs.read.Tie as tie
 
@@ -36,8 +36,8 @@ module _ (e : tie.After-element) where
   wide : 256 ≤ length buffer
   wide = e.before.before.before.if1.left
 
-  outermost-read : (r : Step) → e.element.result ≡ r → ForestRead Single text 0 0 1 blank blank r us ls
-  outermost-read r d = subst (λ (x : Step). ForestRead Single text 0 0 1 blank blank x us ls) d e.element.ensures.0
+  outermost_read : (r : Step) → e.element.result ≡ r → ForestRead Single text 0 0 1 blank blank r us ls
+  outermost_read r d = subst (λ (x : Step). ForestRead Single text 0 0 1 blank blank x us ls) d e.element.ensures.0
 
 -- where it has found one
 
@@ -52,7 +52,7 @@ module _ (o : tie.After-outermost) where
   total = o.outermost.given.0.1.0
 
   outermost : Found Single (text answer) 0 0 1 blank blank end total (us answer) (ls answer)
-  outermost = outermost-read answer (To end total) o.outermost.given.1
+  outermost = outermost_read answer (To end total) o.outermost.given.1
 
 -- and no byte is left
 
@@ -63,7 +63,7 @@ returns : tie.Need-returns
 returns c = short _ _ c.if1.true
 
 element-requires : tie.Need-element-requires
-element-requires c κs = start-readable _
+element-requires c κs = start_readable _
 
 enum_told : tie.Need-enum-told
 enum_told c = search rules
@@ -94,12 +94,12 @@ mul-t13 c =
 returns-3 : tie.Need-returns-3
 returns-3 c =
     let e = c.before.before in
-    missed-all (text e) (buffer e) (wide e) (outermost-read e Not c.enum_told.given.1)
+    missed_all (text e) (buffer e) (wide e) (outermost_read e Not c.enum_told.given.1)
 
 returns-4 : tie.Need-returns-4
 returns-4 c =
     let e = c.before.before in
-    missed-all (text e) (buffer e) (wide e) (outermost-read e Absent c.enum-told2.given.1)
+    missed_all (text e) (buffer e) (wide e) (outermost_read e Absent c.enum-told2.given.1)
 
 same_length : tie.Need-same-length
 same_length c = search rules

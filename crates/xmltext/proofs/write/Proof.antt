@@ -1,6 +1,6 @@
 -- `xmltext::write` meets its contract: what was filled, or the line of a refusal.
 use borrow.Author.Rules.{rules}
-use Rattle.theory.specs.Xml.{writeXml}
+use Rattle.theory.specs.Xml.{write_xml}
 use Rattle.xmltext.proofs.Printed.{written_as}
 use Rattle.xmltext.proofs.write.Statement.{statement}
 use Rattle.xmltext.proofs.write.Tie as tie
@@ -17,7 +17,7 @@ returns c =
     let s = r.before.before.before in
     let given = s.args.nodes.now in
     let before = s.args.out.now in
-    written_as given before _ _ (search rules) (c.put-answer.ensures (writeXml given before) before r.write.ensures.0 r.write.ensures.1)
+    written_as given before _ _ (search rules) (c.put-answer.ensures (write_xml given before) before r.write.ensures.0 r.write.ensures.1)
 
 pub write_spec : {M : Type 1} → statement M
 write_spec = tie.close (tie.spec write-requires put-answer-requires returns)

@@ -5,7 +5,7 @@ use mathlib.Core.List.{List}
 use native.Mathlib.Omega.{arith}
 use lib.ListN.{length, get_or}
 use Rattle.xmlwriter.specs.Links.{Fits}
-use Rattle.xmlwriter.proofs.Elements.{left, none_written, small, inner-falls, after-falls, leaf_room, leaf-fits, leaf-written, whole_room, whole-fits, close-room, after-fits, whole-written}
+use Rattle.xmlwriter.proofs.Elements.{left, none_written, small, inner_falls, after_falls, leaf_room, leaf_fits, leaf_written, whole_room, whole_fits, close_room, after_fits, whole_written}
 use borrow.Author.Rules.{rules}
 use Prim.Native.Nat.{ℕ, ◌<◌, ◌≤◌}
 use borrow.Fn.Kinds.{In}
@@ -18,22 +18,22 @@ use Rattle.xmlwriter.proofs.put_three.Reads as put-three-reads
 use Rattle.xmlwriter.proofs.+put_elements.{statement}
 use Rattle.xmlwriter.proofs.+put_elements.Tie.{close}
 
-abbrev μ-put-elements : Measures 4 put-elements-kinds.ps ℕ
-μ-put-elements κs a = left a.1.1.1.0
+abbrev μ_put_elements : Measures 4 put-elements-kinds.ps ℕ
+μ_put_elements κs a = left a.1.1.1.0
 
-abbrev put-elements-at : ℕ → In 4 put-elements-kinds.ps
-put-elements-at t = and 4 put-elements-kinds.ps (is 4 put-elements-kinds.ps μ-put-elements t) put-elements.Pre
+abbrev put_elements_at : ℕ → In 4 put-elements-kinds.ps
+put_elements_at t = and 4 put-elements-kinds.ps (is 4 put-elements-kinds.ps μ_put_elements t) put-elements.Pre
 
-abbrev put-elements-below : ℕ → In 4 put-elements-kinds.ps
-put-elements-below t = and 4 put-elements-kinds.ps (falls 4 put-elements-kinds.ps ◌<◌ μ-put-elements t) put-elements.Pre
+abbrev put_elements_below : ℕ → In 4 put-elements-kinds.ps
+put_elements_below t = and 4 put-elements-kinds.ps (falls 4 put-elements-kinds.ps ◌<◌ μ_put_elements t) put-elements.Pre
 
 abbrev claims : ℕ → put-elements-lts.Claims
-claims t = (put-four-reads.Asked, put-four-reads.Learnt, put-elements-below t, put-elements.Post, put-three-reads.Asked, put-three-reads.Learnt)
+claims t = (put-four-reads.Asked, put-four-reads.Learnt, put_elements_below t, put-elements.Post, put-three-reads.Asked, put-three-reads.Learnt)
 
 -- ---- at the start
 
 abbrev Start : ℕ → Type 0
-Start t = put-elements-lts.Start (claims t) (put-elements-at t) put-elements.Post
+Start t = put-elements-lts.Start (claims t) (put_elements_at t) put-elements.Post
 
 module _ (t : ℕ) (s : Start t) where
   abbrev fits : Fits s.args.first.now s.args.next.now s.args.names.now s.args.v s.args.text.now s.args.at
@@ -45,21 +45,21 @@ module _ (t : ℕ) (s : Start t) where
   room : s.args.at ≤ length s.args.text.now
   room = let r = fits.room in omega (arith, r)
 
-put-elements-returns : (t : ℕ) → put-elements-lts.Need-returns (claims t) (put-elements-at t) put-elements.Post
-put-elements-returns t c = none_written _ _ _ _ _ _ c.if1.true (room t c.before.before)
+put_elements_returns : (t : ℕ) → put-elements-lts.Need-returns (claims t) (put_elements_at t) put-elements.Post
+put_elements_returns t c = none_written _ _ _ _ _ _ c.if1.true (room t c.before.before)
 
-put-elements-element-copy-out-name : (t : ℕ) → put-elements-lts.Need-element-copy-out-name (claims t) (put-elements-at t) put-elements.Post
-put-elements-element-copy-out-name t c = inside t c.before.before c.if1.false
+put_elements_element_copy_out_name : (t : ℕ) → put-elements-lts.Need-element-copy-out-name (claims t) (put_elements_at t) put-elements.Post
+put_elements_element_copy_out_name t c = inside t c.before.before c.if1.false
 
-put-elements-element-copy-out-inner : (t : ℕ) → put-elements-lts.Need-element-copy-out-inner (claims t) (put-elements-at t) put-elements.Post
-put-elements-element-copy-out-inner t c = inside t c.before.before.before c.before.if1.false
+put_elements_element_copy_out_inner : (t : ℕ) → put-elements-lts.Need-element-copy-out-inner (claims t) (put_elements_at t) put-elements.Post
+put_elements_element_copy_out_inner t c = inside t c.before.before.before c.before.if1.false
 
-put-elements-element-copy-out-after : (t : ℕ) → put-elements-lts.Need-element-copy-out-after (claims t) (put-elements-at t) put-elements.Post
-put-elements-element-copy-out-after t c = inside t c.before.before.before.before c.before.before.if1.false
+put_elements_element_copy_out_after : (t : ℕ) → put-elements-lts.Need-element-copy-out-after (claims t) (put_elements_at t) put-elements.Post
+put_elements_element_copy_out_after t c = inside t c.before.before.before.before c.before.before.if1.false
 
 -- ---- where v is a node, and its links are read
 
-module _ (t : ℕ) (e : put-elements-lts.After-after (claims t) (put-elements-at t) put-elements.Post) where
+module _ (t : ℕ) (e : put-elements-lts.After-after (claims t) (put_elements_at t) put-elements.Post) where
   abbrev s : Start t
   s = e.before.before.before.before.before
 
@@ -87,62 +87,62 @@ module _ (t : ℕ) (e : put-elements-lts.After-after (claims t) (put-elements-at
   abbrev w : Fits f g n v old at
   w = fits t s
 
-  below-inner : left (get_or f v 0) < t
-  below-inner = subst (λ (j : ℕ). left (get_or f v 0) < j) s.pre.0 (inner-falls f g n v old at nz w.forest w.linked)
+  below_inner : left (get_or f v 0) < t
+  below_inner = subst (λ (j : ℕ). left (get_or f v 0) < j) s.pre.0 (inner_falls f g n v old at nz w.forest w.linked)
 
-  below-after : left (get_or g v 0) < t
-  below-after = subst (λ (j : ℕ). left (get_or g v 0) < j) s.pre.0 (after-falls f g n v old at nz w.forest w.linked)
+  below_after : left (get_or g v 0) < t
+  below_after = subst (λ (j : ℕ). left (get_or g v 0) < j) s.pre.0 (after_falls f g n v old at nz w.forest w.linked)
 
 -- ---- a leaf
 
-put-elements-put-four-requires : (t : ℕ) → put-elements-lts.Need-put-four-requires (claims t) (put-elements-at t) put-elements.Post
-put-elements-put-four-requires t c κs =
+put_elements_put_four_requires : (t : ℕ) → put-elements-lts.Need-put-four-requires (claims t) (put_elements_at t) put-elements.Post
+put_elements_put_four_requires t c κs =
     let e = c.before.before in
     leaf_room (f t e) (g t e) (n t e) (v t e) (old t e) (at t e) (nz t e) c.before.if2.true (w t e).forest (w t e).linked (w t e).room
 
-put-elements-put-elements-requires : (t : ℕ) → put-elements-lts.Need-put-elements-requires (claims t) (put-elements-at t) put-elements.Post
-put-elements-put-elements-requires t c κs =
+put_elements_put_elements_requires : (t : ℕ) → put-elements-lts.Need-put-elements-requires (claims t) (put_elements_at t) put-elements.Post
+put_elements_put_elements_requires t c κs =
     let p = c.before.before.before.put_four in
     let d = c.before.before.before.before.before in
     let e = d.before in
-    (below-after t e, leaf-fits (f t e) (g t e) (n t e) (v t e) (old t e) (at t e) (nz t e) d.if2.true p.new.0 p.result p.ensures (w t e).forest (w t e).linked (w t e).room)
+    (below_after t e, leaf_fits (f t e) (g t e) (n t e) (v t e) (old t e) (at t e) (nz t e) d.if2.true p.new.0 p.result p.ensures (w t e).forest (w t e).linked (w t e).room)
 
-put-elements-same-length : (t : ℕ) → put-elements-lts.Need-same-length (claims t) (put-elements-at t) put-elements.Post
-put-elements-same-length t c = search rules
+put_elements_same_length : (t : ℕ) → put-elements-lts.Need-same-length (claims t) (put_elements_at t) put-elements.Post
+put_elements_same_length t c = search rules
 
-put-elements-returns-2 : (t : ℕ) → put-elements-lts.Need-returns-2 (claims t) (put-elements-at t) put-elements.Post
-put-elements-returns-2 t c =
+put_elements_returns_2 : (t : ℕ) → put-elements-lts.Need-returns-2 (claims t) (put_elements_at t) put-elements.Post
+put_elements_returns_2 t c =
     let a = c.before.before.before in
     let p = a.before.before.before.put_four in
     let d = a.before.before.before.before.before in
     let e = d.before in
-    leaf-written (f t e) (g t e) (n t e) (v t e) (old t e) (at t e) (nz t e) d.if2.true p.new.0 p.result p.ensures _ _ c.before.before.put-elements.ensures
+    leaf_written (f t e) (g t e) (n t e) (v t e) (old t e) (at t e) (nz t e) d.if2.true p.new.0 p.result p.ensures _ _ c.before.before.put-elements.ensures
 
 -- ---- an element with elements inside it
 
-put-elements-put-three-requires : (t : ℕ) → put-elements-lts.Need-put-three-requires (claims t) (put-elements-at t) put-elements.Post
-put-elements-put-three-requires t c κs =
+put_elements_put_three_requires : (t : ℕ) → put-elements-lts.Need-put-three-requires (claims t) (put_elements_at t) put-elements.Post
+put_elements_put_three_requires t c κs =
     let e = c.before.before in
     whole_room (f t e) (g t e) (n t e) (v t e) (old t e) (at t e) (nz t e) c.before.if2.false (w t e).forest (w t e).linked (w t e).room
 
-put-elements-put-elements-requires-2 : (t : ℕ) → put-elements-lts.Need-put-elements-requires-2 (claims t) (put-elements-at t) put-elements.Post
-put-elements-put-elements-requires-2 t c κs =
+put_elements_put_elements_requires_2 : (t : ℕ) → put-elements-lts.Need-put-elements-requires-2 (claims t) (put_elements_at t) put-elements.Post
+put_elements_put_elements_requires_2 t c κs =
     let p = c.before.before.before.put_three in
     let d = c.before.before.before.before.before in
     let e = d.before in
-    (below-inner t e, whole-fits (f t e) (g t e) (n t e) (v t e) (old t e) (at t e) (nz t e) d.if2.false p.new.0 p.result p.ensures (w t e).forest (w t e).linked (w t e).room)
+    (below_inner t e, whole_fits (f t e) (g t e) (n t e) (v t e) (old t e) (at t e) (nz t e) d.if2.false p.new.0 p.result p.ensures (w t e).forest (w t e).linked (w t e).room)
 
-put-elements-put-four-requires-2 : (t : ℕ) → put-elements-lts.Need-put-four-requires-2 (claims t) (put-elements-at t) put-elements.Post
-put-elements-put-four-requires-2 t c κs =
+put_elements_put_four_requires_2 : (t : ℕ) → put-elements-lts.Need-put-four-requires-2 (claims t) (put_elements_at t) put-elements.Post
+put_elements_put_four_requires_2 t c κs =
     let r = c.before.before.before.put-elements2 in
     let a = c.before.before.before.before in
     let p = a.before.before.before.put_three in
     let d = a.before.before.before.before.before in
     let e = d.before in
-    close-room (f t e) (g t e) (n t e) (v t e) (old t e) (at t e) (nz t e) d.if2.false p.new.0 p.result p.ensures r.new.1.1.1.1.0 r.result r.ensures (w t e).forest (w t e).linked (w t e).room
+    close_room (f t e) (g t e) (n t e) (v t e) (old t e) (at t e) (nz t e) d.if2.false p.new.0 p.result p.ensures r.new.1.1.1.1.0 r.result r.ensures (w t e).forest (w t e).linked (w t e).room
 
-put-elements-put-elements-requires-3 : (t : ℕ) → put-elements-lts.Need-put-elements-requires-3 (claims t) (put-elements-at t) put-elements.Post
-put-elements-put-elements-requires-3 t c κs =
+put_elements_put_elements_requires_3 : (t : ℕ) → put-elements-lts.Need-put-elements-requires-3 (claims t) (put_elements_at t) put-elements.Post
+put_elements_put_elements_requires_3 t c κs =
     let q = c.before.before.before.put-four2 in
     let b = c.before.before.before.before in
     let r = b.before.before.before.put-elements2 in
@@ -150,16 +150,16 @@ put-elements-put-elements-requires-3 t c κs =
     let p = a.before.before.before.put_three in
     let d = a.before.before.before.before.before in
     let e = d.before in (
-      below-after t e,
-      after-fits (f t e) (g t e) (n t e) (v t e) (old t e) (at t e) (nz t e) d.if2.false p.new.0 p.result p.ensures r.new.1.1.1.1.0 r.result r.ensures
+      below_after t e,
+      after_fits (f t e) (g t e) (n t e) (v t e) (old t e) (at t e) (nz t e) d.if2.false p.new.0 p.result p.ensures r.new.1.1.1.1.0 r.result r.ensures
           q.new.0 q.result q.ensures (w t e).forest (w t e).linked (w t e).room,
     )
 
-put-elements-same-length-2 : (t : ℕ) → put-elements-lts.Need-same-length-2 (claims t) (put-elements-at t) put-elements.Post
-put-elements-same-length-2 t c = search rules
+put_elements_same_length_2 : (t : ℕ) → put-elements-lts.Need-same-length-2 (claims t) (put_elements_at t) put-elements.Post
+put_elements_same_length_2 t c = search rules
 
-put-elements-returns-3 : (t : ℕ) → put-elements-lts.Need-returns-3 (claims t) (put-elements-at t) put-elements.Post
-put-elements-returns-3 t c =
+put_elements_returns_3 : (t : ℕ) → put-elements-lts.Need-returns-3 (claims t) (put_elements_at t) put-elements.Post
+put_elements_returns_3 t c =
     let z = c.before.before.before in
     let q = z.before.before.before.put-four2 in
     let b = z.before.before.before.before in
@@ -168,23 +168,23 @@ put-elements-returns-3 t c =
     let p = a.before.before.before.put_three in
     let d = a.before.before.before.before.before in
     let e = d.before in
-    whole-written (f t e) (g t e) (n t e) (v t e) (old t e) (at t e) (nz t e) d.if2.false p.new.0 p.result p.ensures r.new.1.1.1.1.0 r.result r.ensures
+    whole_written (f t e) (g t e) (n t e) (v t e) (old t e) (at t e) (nz t e) d.if2.false p.new.0 p.result p.ensures r.new.1.1.1.1.0 r.result r.ensures
     q.new.0 q.result q.ensures _ _ c.before.before.put-elements3.ensures
 
-pub +put-elements-spec : {M : Type 1} → statement M
-+put-elements-spec = close μ-put-elements λ t. put-elements-lts.spec (claims t) (put-elements-at t)
+pub +put_elements_spec : {M : Type 1} → statement M
++put_elements_spec = close μ_put_elements λ t. put-elements-lts.spec (claims t) (put_elements_at t)
     put-elements.Post
-    (put-elements-returns t)
-    (put-elements-element-copy-out-name t)
-    (put-elements-element-copy-out-inner t)
-    (put-elements-element-copy-out-after t)
-    (put-elements-put-four-requires t)
-    (put-elements-put-elements-requires t)
-    (put-elements-same-length t)
-    (put-elements-returns-2 t)
-    (put-elements-put-three-requires t)
-    (put-elements-put-elements-requires-2 t)
-    (put-elements-put-four-requires-2 t)
-    (put-elements-put-elements-requires-3 t)
-    (put-elements-same-length-2 t)
-    (put-elements-returns-3 t)
+    (put_elements_returns t)
+    (put_elements_element_copy_out_name t)
+    (put_elements_element_copy_out_inner t)
+    (put_elements_element_copy_out_after t)
+    (put_elements_put_four_requires t)
+    (put_elements_put_elements_requires t)
+    (put_elements_same_length t)
+    (put_elements_returns_2 t)
+    (put_elements_put_three_requires t)
+    (put_elements_put_elements_requires_2 t)
+    (put_elements_put_four_requires_2 t)
+    (put_elements_put_elements_requires_3 t)
+    (put_elements_same_length_2 t)
+    (put_elements_returns_3 t)

@@ -5,14 +5,14 @@ use Prim.Native.Nat.{◌-◌, ◌/◌}
 use lib.ListN.{length, drop}
 use borrow.Author.Tests.{not-true, not-false}
 use Rattle.meaning.specs.Files.{quads, node_of}
-use Rattle.meaning.specs.Xml.{recordsNameable}
-use Rattle.xmlwriter.proofs.Labels.{labels-none, labels-one, labels-stop}
+use Rattle.meaning.specs.Xml.{records_nameable}
+use Rattle.xmlwriter.proofs.Labels.{labels_none, labels_one, labels_stop}
 use borrow.Author.Rules.{rules}
 use Rattle.xmlwriter.proofs.all_nameable.Statement.{statement}
 use Rattle.xmlwriter.proofs.all_nameable.Tie as tie
 
 abbrev invariant-loop : tie.invariant-loop
-invariant-loop nodes i₀ i = recordsNameable (map node_of (drop i (quads nodes))) ≡ recordsNameable (map node_of (quads nodes))
+invariant-loop nodes i₀ i = records_nameable (map node_of (drop i (quads nodes))) ≡ records_nameable (map node_of (quads nodes))
 
 abbrev decreases-loop : tie.decreases-loop
 decreases-loop nodes i₀ i = length nodes / 4 - i
@@ -33,7 +33,7 @@ is-nameable-requires : tie.Need-is-nameable-requires invariant-loop decreases-lo
 is-nameable-requires c κs = search rules
 
 returns : tie.Need-returns invariant-loop decreases-loop
-returns c = sym (labels-stop _ _ c.before.before.before.loop-test.true (sym c.before.is-nameable.ensures ∙ not-true _ c.if1.true)) ∙ c.before.before.before.before.loop.invariant
+returns c = sym (labels_stop _ _ c.before.before.before.loop-test.true (sym c.before.is-nameable.ensures ∙ not-true _ c.if1.true)) ∙ c.before.before.before.before.loop.invariant
 
 add-i : tie.Need-overflow-add-i invariant-loop decreases-loop
 add-i c = search rules
@@ -42,13 +42,13 @@ loop-less : tie.Need-loop-smaller invariant-loop decreases-loop
 loop-less c = search rules
 
 loop-again : tie.Need-loop-preserved invariant-loop decreases-loop
-loop-again c = sym (labels-one _ _ c.before.before.before.loop-test.true (sym c.before.is-nameable.ensures ∙ not-false _ c.if1.false)) ∙ c.before.before.before.before.loop.invariant
+loop-again c = sym (labels_one _ _ c.before.before.before.loop-test.true (sym c.before.is-nameable.ensures ∙ not-false _ c.if1.false)) ∙ c.before.before.before.before.loop.invariant
 
 returns-2 : tie.Need-returns-2 invariant-loop decreases-loop
-returns-2 c = sym (labels-none _ _ c.loop-test.false) ∙ c.before.loop.invariant
+returns-2 c = sym (labels_none _ _ c.loop-test.false) ∙ c.before.loop.invariant
 
-pub all-nameable-spec : {M : Type 1} → statement M
-all-nameable-spec =
+pub all_nameable_spec : {M : Type 1} → statement M
+all_nameable_spec =
     tie.close
     (tie.spec
     invariant-loop

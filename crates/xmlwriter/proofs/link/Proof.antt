@@ -3,7 +3,7 @@ use mathlib.Core.Path.{◌≡◌, ap, ◌∙◌}
 use Prim.Native.Nat.{ℕ, ◌+◌, ◌-◌, ◌*◌, ◌/◌, ◌≤◌}
 use native.Mathlib.Omega.{arith}
 use lib.ListN.{length, length-set, length-replicate}
-use Rattle.xmlwriter.proofs.Linking.{HeldFrom, link_start, up_small, link-step, link-end}
+use Rattle.xmlwriter.proofs.Linking.{HeldFrom, link_start, up_small, link_step, link_end}
 use borrow.Author.Rules.{rules}
 use Rattle.xmlwriter.proofs.link.Statement.{statement}
 use Rattle.xmlwriter.proofs.link.Tie as tie
@@ -83,16 +83,16 @@ loop-again c =
       simp length-set i.2,
       simp length-set i.3,
       simp length-set i.4,
-      link-step s.args.nodes.now l.loop.first l.loop.next l.loop.names l.loop.k c.before.name_of.result s.requires.0 i.2 i.3 i.4 a i.1 c.before.name_of.ensures i.5,
+      link_step s.args.nodes.now l.loop.first l.loop.next l.loop.names l.loop.k c.before.name_of.result s.requires.0 i.2 i.3 i.4 a i.1 c.before.name_of.ensures i.5,
     )
 
 returns : tie.Need-returns invariant-loop decreases-loop
 returns c =
     let l = c.before in
-    link-end l.before.before.args.nodes.now l.loop.first l.loop.next l.loop.names l.loop.k l.loop.invariant.0 c.loop-test.false l.loop.invariant.5
+    link_end l.before.before.args.nodes.now l.loop.first l.loop.next l.loop.names l.loop.k l.loop.invariant.0 c.loop-test.false l.loop.invariant.5
 
-pub link-spec : {M : Type 1} → statement M
-link-spec =
+pub link_spec : {M : Type 1} → statement M
+link_spec =
     tie.close
     (tie.spec
     invariant-loop

@@ -13,5 +13,5 @@ returns-2 : tie.Need-returns-2
 unfolding name_of pick
 returns-2 c = rw (ne_eqb _ _ c.if1.false)
 
-pub name-of-spec : {M : Type 1} → statement M
-name-of-spec = tie.close (tie.spec returns returns-2)
+pub name_of_spec : {M : Type 1} → statement M
+name_of_spec = tie.close (tie.spec returns returns-2)

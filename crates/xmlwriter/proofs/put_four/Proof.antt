@@ -36,8 +36,8 @@ same_length c = simp length-set
 returns : tie.Need-returns
 returns c = put_four c.args.text.now c.args.at c.args.a c.args.b c.args.c c.args.d c.requires
 
-pub put-four-spec : {M : Type 1} → statement M
-put-four-spec =
+pub put_four_spec : {M : Type 1} → statement M
+put_four_spec =
     tie.close
     (tie.spec
     slice-write-text

@@ -30,8 +30,8 @@ same_length c = simp length-set
 returns : tie.Need-returns
 returns c = put_three c.args.text.now c.args.at c.args.a c.args.b c.args.c c.requires
 
-pub put-three-spec : {M : Type 1} → statement M
-put-three-spec =
+pub put_three_spec : {M : Type 1} → statement M
+put_three_spec =
     tie.close
     (tie.spec
     slice-write-text

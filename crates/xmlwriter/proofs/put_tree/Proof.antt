@@ -2,7 +2,7 @@
 use mathlib.Core.Path.{refl}
 use native.Mathlib.Omega.{arith}
 use borrow.Author.Rules.{rules}
-use Rattle.xmlwriter.specs.Links.{forestIn}
+use Rattle.xmlwriter.specs.Links.{forest_in}
 use Rattle.xmlwriter.proofs.put_tree.Statement.{statement}
 use Rattle.xmlwriter.proofs.put_tree.Tie as tie
 
@@ -16,7 +16,7 @@ put-elements-requires : tie.Need-put-elements-requires
 put-elements-requires c κs =
     let l = c.before.before.before.before in
     let s = l.before.before.before.before.before.before in
-    record { forest = forestIn s.args.nodes.now; linked = l.link.ensures; room = omega (arith, s.requires.1) }
+    record { forest = forest_in s.args.nodes.now; linked = l.link.ensures; room = omega (arith, s.requires.1) }
 
 same_length : tie.Need-same-length
 same_length c = search rules
@@ -25,7 +25,7 @@ returns : tie.Need-returns
 returns c =
     let p = c.before.before in
     let l = p.before.before.before.before.before in
-    p.put-elements.ensures (forestIn l.before.before.before.before.before.before.args.nodes.now) l.link.ensures
+    p.put-elements.ensures (forest_in l.before.before.before.before.before.before.args.nodes.now) l.link.ensures
 
-pub put-tree-spec : {M : Type 1} → statement M
-put-tree-spec = tie.close (tie.spec link-requires array-read-outermost put-elements-requires same_length returns)
+pub put_tree_spec : {M : Type 1} → statement M
+put_tree_spec = tie.close (tie.spec link-requires array-read-outermost put-elements-requires same_length returns)

@@ -4,7 +4,7 @@ use mathlib.Core.List.{List}
 use Prim.Native.Nat.{ℕ}
 use borrow.Author.Rules.{rules}
 use borrow.Author.Tests.{not-true, not-false}
-use Rattle.answers.specs.Judgement.{nodesJudgement}
+use Rattle.answers.specs.Judgement.{nodes_judgement}
 use Rattle.answers.specs.declared.Judgement.TheVariants.{Accepted}
 use Rattle.xmlwriter.proofs.Writing.{refused, short, linkable, no_name, room, written}
 use Rattle.xmlwriter.proofs.write.Statement.{statement}
@@ -30,7 +30,7 @@ module _ (e : tie.After-enum-told) where
   abbrev count : ℕ
   count = e.enum_told.given.0.0
 
-  pub judged : nodesJudgement bytes ≡ Accepted count
+  pub judged : nodes_judgement bytes ≡ Accepted count
   judged = sym e.before.before.judge-nodes.ensures ∙ e.enum_told.given.1
 
 returns : tie.Need-returns
@@ -43,14 +43,14 @@ returns-2 : tie.Need-returns-2
 returns-2 c =
     let b = c.before.before in
     let e = b.before in
-    no_name (bytes e) (buffer e) (count e) (judged e) b.if1.false (sym c.before.all-nameable.ensures ∙ not-true _ c.if2.true)
+    no_name (bytes e) (buffer e) (count e) (judged e) b.if1.false (sym c.before.all_nameable_lem.ensures ∙ not-true _ c.if2.true)
 
 put-tree-requires : tie.Need-put-tree-requires
 put-tree-requires c κs =
     let a = c.before.before in
     let b = a.before in
     let e = b.before in
-    (linkable (bytes e) (buffer e) (count e) (judged e), room (bytes e) (buffer e) (count e) (judged e) b.if1.false (sym a.all-nameable.ensures ∙ not-false _ c.before.if2.false))
+    (linkable (bytes e) (buffer e) (count e) (judged e), room (bytes e) (buffer e) (count e) (judged e) b.if1.false (sym a.all_nameable_lem.ensures ∙ not-false _ c.before.if2.false))
 
 returns-3 : tie.Need-returns-3
 returns-3 c =
@@ -68,7 +68,7 @@ returns-4 c =
     let a = d.before in
     let b = a.before in
     let e = b.before in
-    written (bytes e) (buffer e) (count e) (judged e) b.if1.false (sym a.all-nameable.ensures ∙ not-false _ d.if2.false) p.put-tree.ensures
+    written (bytes e) (buffer e) (count e) (judged e) b.if1.false (sym a.all_nameable_lem.ensures ∙ not-false _ d.if2.false) p.put-tree.ensures
 
 pub write_spec : {M : Type 1} → statement M
 write_spec =

@@ -4,7 +4,7 @@ use Prim.Native.Nat.{ℕ, ◌-◌, ◌≤◌, zero-le}
 use native.Mathlib.Nat.{le_antisymm}
 use native.Mathlib.Omega.{arith}
 use lib.ListN.{length, take, drop}
-use Rattle.xpath.proofs.Copying.{copied_more, copied-length}
+use Rattle.xpath.proofs.Copying.{copied_more, copied_length}
 use borrow.Author.Rules.{rules}
 use Rattle.xpath.proofs.copy.Statement.{statement}
 use Rattle.xpath.proofs.copy.Tie as tie
@@ -27,7 +27,7 @@ slice-write-records c =
     let a = c.before.before.before.args in
     let p = c.before.before.before.requires in
     let i = c.before.loop-test.true in
-    let e = ap length l.invariant.1 ∙ copied-length l.i a.sheet.now a.records.now (omega (arith, l.invariant.0, p.1)) (omega (arith, l.invariant.0, p.2)) in
+    let e = ap length l.invariant.1 ∙ copied_length l.i a.sheet.now a.records.now (omega (arith, l.invariant.0, p.1)) (omega (arith, l.invariant.0, p.2)) in
     omega (arith, e, i, p.2)
 
 add-i : tie.Need-overflow-add-i invariant-loop decreases-loop
@@ -49,7 +49,7 @@ same_length c =
     let l = c.before.loop in
     let a = c.before.before.args in
     let p = c.before.before.requires in
-    ap length l.invariant.1 ∙ copied-length l.i a.sheet.now a.records.now (omega (arith, l.invariant.0, p.1)) (omega (arith, l.invariant.0, p.2))
+    ap length l.invariant.1 ∙ copied_length l.i a.sheet.now a.records.now (omega (arith, l.invariant.0, p.1)) (omega (arith, l.invariant.0, p.2))
 
 returns : tie.Need-returns invariant-loop decreases-loop
 returns c =

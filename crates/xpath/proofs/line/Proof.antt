@@ -1,9 +1,9 @@
 use mathlib.Core.Path.{sym, ap, ◌∙◌}
 use native.Mathlib.Omega.{arith}
 use lib.Dec.{lit<}
-use Rattle.meaning.specs.Paths.{isSmall}
+use Rattle.meaning.specs.Paths.{is_small}
 use Rattle.axes.proofs.Moves.{byte_inside}
-use Rattle.xpath.proofs.LineReturns.{line-here, line-alone, line-root}
+use Rattle.xpath.proofs.LineReturns.{line_here, line_alone, line_root}
 use borrow.Author.Rules.{rules}
 use Rattle.xpath.proofs.line.Statement.{statement}
 use Rattle.xpath.proofs.line.Tie as tie
@@ -32,7 +32,7 @@ returns c =
     let b = o.byte_at.ensures in
     let n = c.before.before.number in
     let t = c.end-steps in (
-      line-here s a.at a.sheet.now n.result n.new.0 t.result t.new.1.1.1.0 n.ensures.0 n.ensures.1
+      line_here s a.at a.sheet.now n.result n.new.0 t.result t.new.1.1.1.0 n.ensures.0 n.ensures.1
           (λ h. c.before.before.before.before.if1.true (b ∙ h)) t.ensures.0,
       t.ensures.1,
     )
@@ -89,9 +89,9 @@ returns-2 c =
     let u = sym b ∙ c.before.before.before.before.before.before.before.if1.false in
     let i = byte_inside s a.at 47 (sym u) (lit< tt) in
     let w = c.before.before.before.before.before.rooted in
-    let n = sym (ap isSmall c.before.before.before.before.byte-at2.ensures) ∙ sym c.before.before.before.is-small.ensures ∙ c.before.before.if2.true in
+    let n = sym (ap is_small c.before.before.before.before.byte-at2.ensures) ∙ sym c.before.before.before.is-small.ensures ∙ c.before.before.if2.true in
     let t = c.end-steps2 in (
-      line-root s a.at a.sheet.now w.result w.new.0 w.ensures.0 w.ensures.1 u t.result t.new.1.1.1.0 i n t.ensures.0,
+      line_root s a.at a.sheet.now w.result w.new.0 w.ensures.0 w.ensures.1 u t.result t.new.1.1.1.0 i n t.ensures.0,
       λ h. let k = t.ensures.1 h in (omega (arith, k.0), k.1),
     )
 
@@ -119,14 +119,14 @@ returns-3 c =
     let u = sym b ∙ c.before.before.before.before.before.before.before.if1.false in
     let i = byte_inside s a.at 47 (sym u) (lit< tt) in
     let w = c.before.before.before.before.before.rooted in
-    let n = sym (ap isSmall c.before.before.before.before.byte-at2.ensures) ∙ sym c.before.before.before.is-small.ensures ∙ c.before.before.if2.false in
+    let n = sym (ap is_small c.before.before.before.before.byte-at2.ensures) ∙ sym c.before.before.before.is-small.ensures ∙ c.before.before.if2.false in
     let p = c.put in (
-      line-alone s a.at a.sheet.now w.result w.new.0 w.ensures.0 w.ensures.1 u p.new.1.1.1.1.0 n p.ensures,
+      line_alone s a.at a.sheet.now w.result w.new.0 w.ensures.0 w.ensures.1 u p.new.1.1.1.1.0 n p.ensures,
       λ h. (omega arith, omega (arith, i)),
     )
 
-pub line-spec : {M : Type 1} → statement M
-line-spec =
+pub line_spec : {M : Type 1} → statement M
+line_spec =
     tie.close
     (tie.spec
     byte-at-requires

@@ -8,7 +8,7 @@ use lib.ListN.{length}
 use Rattle.xpath.specs.Reading.{LinesRead}
 use Rattle.axes.proofs.Moves.{byte_inside}
 use Rattle.steps.proofs.Returns.{above}
-use Rattle.xpath.proofs.LineReturns.{other, lines_end, lines-over, lines-bad, lines-open, lines_more}
+use Rattle.xpath.proofs.LineReturns.{other, lines_end, lines_over, lines_bad, lines_open, lines_more}
 use borrow.Author.Rules.{rules}
 use Rattle.xpath.proofs.lines.Statement.{statement}
 use Rattle.xpath.proofs.lines.Tie as tie
@@ -28,7 +28,7 @@ returns c =
     let s = c.before.before.before.before.args.s.now in
     let l = c.before.before.loop in
     let e = other l.i (length s) l.invariant.0 c.before.loop-test.true in
-    l.invariant.1 false l.sheet (lines-over s l.i l.sheet e l.left l.sheet c.if1.true)
+    l.invariant.1 false l.sheet (lines_over s l.i l.sheet e l.left l.sheet c.if1.true)
 
 line-requires : tie.Need-line-requires invariant-loop decreases-loop
 line-requires c κs =
@@ -43,7 +43,7 @@ returns-2 c =
     let e = other l.i (length s) l.invariant.0 c.before.before.before.before.loop-test.true in
     let t = c.before.line in
     let n = c.before.before.before.if1.false in
-    l.invariant.1 false t.new.1.1.0 (lines-bad s l.i l.sheet e t.result t.new.1.1.0 t.ensures.0 l.left n c.if2.true)
+    l.invariant.1 false t.new.1.1.0 (lines_bad s l.i l.sheet e t.result t.new.1.1.0 t.ensures.0 l.left n c.if2.true)
 
 byte-at-requires : tie.Need-byte-at-requires invariant-loop decreases-loop
 byte-at-requires c κs = search rules
@@ -55,7 +55,7 @@ returns-3 c =
     let e = other l.i (length s) l.invariant.0 c.before.before.before.before.before.before.loop-test.true in
     let t = c.before.before.before.line in
     let n = c.before.before.before.before.before.if1.false in
-    l.invariant.1 false t.new.1.1.0 (lines-open s l.i l.sheet e t.result t.new.1.1.0 t.ensures.0 c.before.before.if2.false l.left n (λ h. c.if3.true (c.before.byte_at.ensures ∙ h)))
+    l.invariant.1 false t.new.1.1.0 (lines_open s l.i l.sheet e t.result t.new.1.1.0 t.ensures.0 c.before.before.if2.false l.left n (λ h. c.if3.true (c.before.byte_at.ensures ∙ h)))
 
 add-i : tie.Need-overflow-add-i invariant-loop decreases-loop
 add-i c =
@@ -111,8 +111,8 @@ returns-4 c =
     let l = c.before.loop in
     l.invariant.1 true l.sheet (lines_end s l.i l.sheet l.left c.loop-test.false)
 
-pub lines-spec : {M : Type 1} → statement M
-lines-spec =
+pub lines_spec : {M : Type 1} → statement M
+lines_spec =
     tie.close
     (tie.spec
     invariant-loop

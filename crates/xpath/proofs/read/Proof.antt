@@ -1,6 +1,6 @@
 use native.Mathlib.Omega.{arith}
 use borrow.Author.Tests.{not-true, not-false}
-use Rattle.xpath.proofs.Answering.{short-answer, long-answer, empty-answer, bad-answer, many-answer, room, written-answer}
+use Rattle.xpath.proofs.Answering.{short_answer, long_answer, empty_answer, bad_answer, many_answer, room, written_answer}
 use borrow.Author.Rules.{rules}
 use Rattle.xpath.proofs.read.Statement.{statement}
 use Rattle.xpath.proofs.read.Tie as tie
@@ -8,7 +8,7 @@ use Rattle.xpath.proofs.read.Tie as tie
 returns : tie.Need-returns
 returns c =
     let a = c.before.before.before.args in
-    short-answer a.text.now a.records.now (omega (arith, c.if1.true))
+    short_answer a.text.now a.records.now (omega (arith, c.if1.true))
 
 returns-2 : tie.Need-returns-2
 returns-2 c =
@@ -16,7 +16,7 @@ returns-2 c =
     let a = f.before.before.before.args in
     let s = a.text.now in
     let b = a.records.now in
-    long-answer s b f.if1.false c.if2.true
+    long_answer s b f.if1.false c.if2.true
 
 returns-3 : tie.Need-returns-3
 returns-3 c =
@@ -24,7 +24,7 @@ returns-3 c =
     let a = f.before.before.before.args in
     let s = a.text.now in
     let b = a.records.now in
-    empty-answer s b f.if1.false c.if3.true
+    empty_answer s b f.if1.false c.if3.true
 
 array-write-sheet : tie.Need-array-write-sheet
 array-write-sheet c = search rules
@@ -41,7 +41,7 @@ returns-4 c =
     let t = c.before.lines in
     let few = c.before.before.before.before.if2.false in
     let some = c.before.before.before.if3.false in
-    bad-answer s b f.if1.false few some t.result t.new.1.1.1.0 t.ensures (not-true _ c.if4.true)
+    bad_answer s b f.if1.false few some t.result t.new.1.1.1.0 t.ensures (not-true _ c.if4.true)
 
 array-read-if5 : tie.Need-array-read-if5
 array-read-if5 c = search rules
@@ -55,7 +55,7 @@ returns-5 c =
     let t = c.before.before.lines in
     let few = c.before.before.before.before.before.if2.false in
     let some = c.before.before.before.before.if3.false in
-    many-answer s b f.if1.false few some t.result t.new.1.1.1.0 t.ensures (not-false _ c.before.if4.false) (omega (arith, c.if5.true))
+    many_answer s b f.if1.false few some t.result t.new.1.1.1.0 t.ensures (not-false _ c.before.if4.false) (omega (arith, c.if5.true))
 
 array-read-bytes : tie.Need-array-read-bytes
 array-read-bytes c = search rules
@@ -105,7 +105,7 @@ returns-6 c =
     let few = c.before.before.before.before.before.before.before.before.before.before.if2.false in
     let some = c.before.before.before.before.before.before.before.before.before.if3.false in
     let e = c.before.before.before.before.before in
-    written-answer s b f.if1.false few some t.result t.new.1.1.1.0 t.ensures (not-false _ e.before.if4.false) e.if5.false c.before.before.copy.new.1.1.0 c.before.before.copy.ensures
+    written_answer s b f.if1.false few some t.result t.new.1.1.1.0 t.ensures (not-false _ e.before.if4.false) e.if5.false c.before.before.copy.new.1.1.0 c.before.before.copy.ensures
 
 pub read_spec : {M : Type 1} → statement M
 read_spec =
