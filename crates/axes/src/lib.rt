@@ -1,4 +1,5 @@
 // A step's axis and test at a place in a text of paths: what the axis writes, the byte of the test, and the place behind them.
+#![tactic(auto)]
 ghost use Rattle.std.specs.Prelude.{◌≡◌, true, ◌+◌, ◌<◌, ◌≤◌, length, drop};
 ghost use Rattle.theory.specs.PathReader.{axis_at, move_at};
 ghost use Rattle.theory.specs.Reader.{front};
@@ -18,18 +19,18 @@ const SAME: u8 = 4;
 const BEFORE: u8 = 9;
 
 // What an axis writes: the kind of its record, and whether x is the node reached.
-#[derive(Drop)]
+#[derive(Clone, Copy)]
 pub struct Axis(pub u8, pub bool);
 
 // An axis and the place after its name.
-#[derive(Drop)]
+#[derive(Clone, Copy)]
 pub enum Named {
     Is(Axis, usize),
     Unknown,
 }
 
 // An axis, the byte of a test and the place after it.
-#[derive(Drop)]
+#[derive(Clone, Copy)]
 pub enum Moved {
     Is(Axis, u8, usize),
     Not,

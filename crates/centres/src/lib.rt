@@ -1,4 +1,5 @@
 // Centres draw choices from one session total. Their records lie in one lent list and are changed there.
+#![tactic(auto)]
 ghost use Rattle.std.specs.Prelude.{◌≡◌, ◌+◌, ◌-◌, ◌<◌, ◌^◌, max};
 ghost use Rattle.meaning.specs.Centres.{list_after};
 ghost use Rattle.theory.specs.Centres.{drawing};
@@ -8,7 +9,7 @@ ghost use Rattle.centres.specs.Answers.{answered, answer_of};
 use meaning::Centre;
 
 // What a draw is answered.
-#[derive(Drop)]
+#[derive(Clone, Copy)]
 pub enum Drawn {
     Granted,
     // The number of the first question that says no.

@@ -1,4 +1,5 @@
 // fromxml: reads a tree that was written as XML from standard input and writes its node records, numbered in document order; or `refused` and the number.
+#![tactic(auto)]
 use libc::STDIN_FILENO;
 use reading::Filled;
 use xmltext::{NODES_BYTES, XML_READ};

@@ -1,4 +1,5 @@
 // Variables become one group, by rows. What `merge` uses of it is pub only because crates are split: the caller shows what `unify` requires.
+#![tactic(auto)]
 ghost use Rattle.std.specs.Prelude.{◌≡◌, true};
 ghost use Rattle.tables.specs.Rows.{Union, LabelOf};
 ghost use Rattle.grouping.specs.Rows.{TwoLabels, Painted};
@@ -45,7 +46,7 @@ fn paint(t: [u8; 16], rows: u16, l: u8) -> [u8; 16]
 }
 
 // The tables after a step, the group that was made, and the variables that have yet to become the same: after `unify` the parents of the group.
-#[derive(Drop)]
+#[derive(Clone, Copy)]
 pub struct Round {
     pub clash: bool,
     pub next: u16,

@@ -1,5 +1,6 @@
 // Marks the pairs of files in data/, one of each sort: met, unmet by each kind, refused by each question of the marker, labels in either case,
 // files that fill the reader's buffer many times over, and files that cannot be read, of which standard output says nothing.
+#![tactic(auto)]
 fn mark_sheet(constraints: &[u8]) {
     marking::mark_files(constraints, b"sheet");
 }

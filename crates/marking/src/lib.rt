@@ -1,5 +1,6 @@
 // Reads the two files that are marked and prints the verdict: `met`, `unmet POSITION KIND` or `refused NUMBER`. A verdict is given of
 // whole files only: where one cannot be opened or read to its end, standard error says so and nothing is printed.
+#![tactic(auto)]
 ghost use Rattle.reading.specs.Filling.{Fills};
 ghost use Rattle.marking.specs.Pieces.{FillsWithAnswer};
 

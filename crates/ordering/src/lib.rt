@@ -1,5 +1,6 @@
 // The groups in the order of their nodes: by depth, then siblings in their order and otherwise by lowest variable; the place of each and of the nearest over
 // one, and the node of a place. Functions are `pub` here only because crates are split: each keeps its `requires`, which every caller shows.
+#![tactic(auto)]
 ghost use Rattle.std.specs.Prelude.{◌≡◌, ◌≢◌, ◌++◌, ℕ, ◌+◌, ◌-◌, ◌^◌, ◌<◌, ◌≤◌, eqb, length};
 ghost use Rattle.std.specs.Int.Bits.{bit_and};
 ghost use Rattle.std.specs.Int.Count.{ones};
@@ -14,7 +15,7 @@ ghost use Rattle.ordering.specs.Listing.{groups, Small, Strict, Earliest, in_lin
 use ids::{Node, Var};
 
 // The groups in the order of their nodes, each by its lowest variable.
-#[derive(Drop)]
+#[derive(Clone, Copy)]
 pub struct Order {
     pub group: [Var; 16],
     pub len: usize,

@@ -1,4 +1,5 @@
 // One pass of settling over x, y and z. What `settle` uses of it is pub only because crates are split: each caller shows what a helper requires.
+#![tactic(auto)]
 ghost use Rattle.std.specs.Prelude.{◌≡◌, ◌<◌, ◌≤◌};
 ghost use Rattle.passes.specs.Rows.{first_row, Grouped, ChainOf, Chained, GroupsOf, WholeGroups, JoinedOf};
 ghost use Rattle.passes.specs.Steps.{SteppedOf, PassRules, BareRules};
@@ -60,7 +61,7 @@ pub fn grouped(same: [u16; 16]) -> u16
 }
 
 // The rows of below chained, their columns, the group of each variable, and the variables that are not alone in theirs.
-#[derive(Drop)]
+#[derive(Clone, Copy)]
 struct Groups {
     below: [u16; 16],
     above: [u16; 16],
@@ -90,7 +91,7 @@ fn whole_groups(same: [u16; 16], row: u16) -> u16
     row | tables::meeting(same, row)
 }
 
-#[derive(Drop)]
+#[derive(Clone, Copy)]
 struct Joined {
     more: bool,
     below: [u16; 16],
@@ -125,7 +126,7 @@ fn join_rows(
 }
 
 // What a step of settling answers: a clash, or tables, and whether another round may find more.
-#[derive(Drop)]
+#[derive(Clone, Copy)]
 pub struct Stepped {
     pub clash: bool,
     pub more: bool,

@@ -1,4 +1,5 @@
 // paths: reads a text of paths from standard input and writes the records of its question, for `solve` to read; or `refused` and the number.
+#![tactic(auto)]
 use libc::STDIN_FILENO;
 use reading::{CONSTRAINTS_READ, Filled};
 use text::RECORDS_BYTES;

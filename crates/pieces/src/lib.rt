@@ -1,4 +1,5 @@
 // Reads a file of any length into a buffer of fixed length, where only its records' order and its front matter: an answer file, or node records.
+#![tactic(auto)]
 ghost use Rattle.pieces.specs.Pieces.{FillsInPieces};
 
 use reading::{Filled, fill};

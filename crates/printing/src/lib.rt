@@ -1,4 +1,5 @@
 // What a program says: a verdict on standard output, a wrong use on standard error.
+#![tactic(auto)]
 use libc::{STDERR_FILENO, STDOUT_FILENO};
 
 // Writes a text by one call, so that the texts of programs that run at once stay whole, and goes on only where that took a part of it. A

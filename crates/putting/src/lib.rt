@@ -1,4 +1,5 @@
 // Words, numbers and the lines of records, put into a lent buffer one behind the other.
+#![tactic(auto)]
 ghost use Rattle.std.specs.Prelude.{◌++◌, ◌+◌, ◌*◌, ◌/◌, ◌≤◌, length};
 ghost use Rattle.meaning.specs.Files.{quad, quads};
 ghost use Rattle.meaning.specs.Ascii.{ascii};

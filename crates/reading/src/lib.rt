@@ -1,10 +1,11 @@
 // Reading a file that tells a read that fails from the end of the file.
+#![tactic(auto)]
 ghost use Rattle.reading.specs.Filling.{Fills};
 
 // As much of a constraint file as is read: question 1 refuses more than 1,024 bytes, so one past them is enough.
 pub const CONSTRAINTS_READ: usize = 1025;
 
-#[derive(Drop)]
+#[derive(Clone, Copy)]
 pub enum Filled {
     // So many bytes at the front of the buffer.
     Bytes(usize),

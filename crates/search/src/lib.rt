@@ -1,5 +1,6 @@
 // The fixed search under an allowance: the first alternative of the first join is searched to its end, the second only if that found
 // none. The count of alternatives entered goes through every level.
+#![tactic(auto)]
 ghost use Rattle.std.specs.Prelude.{◌≡◌, List, ◌≤◌};
 ghost use Rattle.meaning.specs.Constraint.{Fact};
 ghost use Rattle.tables.specs.Tables.{Ready};
@@ -9,7 +10,7 @@ use ids::Var;
 use stages::{Found, JoinKind};
 use tables::{Facts, Settled};
 
-#[derive(Drop)]
+#[derive(Clone, Copy)]
 pub enum End {
     Tree,
     None,
@@ -18,7 +19,7 @@ pub enum End {
 
 // How the search ended, after how many choices in all, and of the tables of a tree those that it is read off from. Where it found no
 // tree they are blank. `root` lies where it takes no room.
-#[derive(Drop)]
+#[derive(Clone, Copy)]
 pub struct Searched {
     pub end: End,
     pub root: u16,
@@ -30,13 +31,13 @@ pub struct Searched {
 }
 
 // below(upper, lower)
-#[derive(Drop)]
+#[derive(Clone, Copy)]
 struct Below {
     upper: Var,
     lower: Var,
 }
 
-#[derive(Drop)]
+#[derive(Clone, Copy)]
 enum Step {
     // No join is left.
     Solved,

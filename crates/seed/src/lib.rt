@@ -1,4 +1,5 @@
 // The given facts of an accepted constraint file, as tables to settle from.
+#![tactic(auto)]
 ghost use Rattle.std.specs.Prelude.{◌≡◌, ℕ, ◌%◌, ◌<◌};
 ghost use Rattle.constraints.specs.Judgement.{judgement};
 ghost use Rattle.constraints.specs.declared.Judgement.TheVariants.{Accepted};
@@ -7,7 +8,7 @@ ghost use Rattle.seed.specs.Seeds.{labelled, second_label, no_facts, kind_row, R
 use tables::Facts;
 
 // The tables, or a clash: two labels on one variable, case aside, which no tables hold.
-#[derive(Drop)]
+#[derive(Clone, Copy)]
 pub struct Seeds {
     pub clash: bool,
     pub facts: Facts,

@@ -1,4 +1,5 @@
 // Settling: the tables of rows, closed under the rules of docs/FORMAT.md by passes over x, y and z, and for siblings by rows of before and of child.
+#![tactic(auto)]
 ghost use Rattle.std.specs.Prelude.{List, ◌≤◌};
 ghost use Rattle.meaning.specs.Constraint.{Fact};
 ghost use Rattle.tables.specs.Tables.{Seeded};
@@ -66,7 +67,7 @@ fn differ_rows(differ: [u16; 16], rows: [u16; 16], columns: [u16; 16]) -> [u16; 
 }
 
 // The rows of before, shared and chained, their columns, and whether a sibling is above another one.
-#[derive(Drop)]
+#[derive(Clone, Copy)]
 struct Order {
     clash: bool,
     before: [u16; 16],

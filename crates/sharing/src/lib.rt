@@ -1,4 +1,5 @@
 // Sharing: each variable takes what its group has. `share_rows` is pub only because crates are split: its caller shows what it requires.
+#![tactic(auto)]
 ghost use Rattle.std.specs.Prelude.{◌≡◌, ◌≤◌, eqb};
 ghost use Rattle.meaning.specs.Finite.{pick};
 ghost use Rattle.sharing.specs.Shares.{Clashing, WithRows, WithGroup, SharedOf};
@@ -19,7 +20,7 @@ fn either_label(l: u8, m: u8) -> u8
 }
 
 // What a variable takes from its group.
-#[derive(Drop)]
+#[derive(Clone, Copy)]
 pub struct Share {
     pub child: u16,
     pub parent: u16,
@@ -51,7 +52,7 @@ fn with_group(s: Share, child: bool, parent: bool, group: u16) -> Share
 }
 
 // The tables that a group shares, a row for each variable.
-#[derive(Drop)]
+#[derive(Clone, Copy)]
 pub struct Shares {
     pub child: [u16; 16],
     pub parent: [u16; 16],
@@ -59,7 +60,7 @@ pub struct Shares {
     pub label: [u8; 16],
 }
 
-#[derive(Drop)]
+#[derive(Clone, Copy)]
 pub struct Shared {
     pub clash: bool,
     pub shares: Shares,

@@ -1,5 +1,6 @@
 // solve: solves the constraints of standard input and prints the verdict and its count, or `refused` and the number; then, of a tree, a line
 // for each node and for each variable.
+#![tactic(auto)]
 use libc::STDIN_FILENO;
 use reading::{CONSTRAINTS_READ, Filled};
 use text::TEXT_BYTES;

@@ -1,4 +1,5 @@
 // The solver: the questions, the given facts settled, the fixed search under an allowance, and the tree read off into the lent buffer.
+#![tactic(auto)]
 ghost use Rattle.std.specs.Prelude.{◌≡◌, ◌≤◌, length};
 ghost use Rattle.meaning.specs.Constraint.{facts_of};
 ghost use Rattle.theory.specs.Solve.{solve};
@@ -10,7 +11,7 @@ use constraints::Judgement;
 use search::{End, Searched};
 use tables::Settled;
 
-#[derive(Drop)]
+#[derive(Clone, Copy)]
 pub enum Verdict {
     // How many bytes were written at the front of the buffer, and the count of choices.
     Tree { bytes: usize, count: u32 },
@@ -21,7 +22,7 @@ pub enum Verdict {
 }
 
 // The verdict and the count alone.
-#[derive(Drop)]
+#[derive(Clone, Copy)]
 pub struct Decided {
     pub end: End,
     pub count: u32,

@@ -1,7 +1,8 @@
 // What a stage answers. Each kind of join has a stage, which finds the first of its kind: the smallest first variable, then the second, then the third.
+#![tactic(auto)]
 use ids::Var;
 
-#[derive(Drop)]
+#[derive(Clone, Copy)]
 pub enum JoinKind {
     Parent,
     Chain,
@@ -10,7 +11,7 @@ pub enum JoinKind {
 }
 
 // A join by its kind and its variables, in the order in which they are compared: z, x, y; of siblings y, a, x; of the document node r, y, w.
-#[derive(Drop)]
+#[derive(Clone, Copy)]
 pub enum Found {
     Nothing,
     One(JoinKind, Var, Var, Var),

@@ -1,5 +1,6 @@
 // The facts of a settled set as tables of rows, one row for each variable. A row is a set of variables: bit y of row x of `below` says
 // below(x, y). They go into an alternative by value.
+#![tactic(auto)]
 ghost use Rattle.std.specs.Prelude.{◌≡◌, ◌≢◌, ◌<◌, ◌≤◌, ◌^◌, ◌-◌};
 ghost use Rattle.meaning.specs.Finite.{pick};
 ghost use Rattle.tables.specs.Rows.{gained, meets, gained_one, without, on_document, Gathers, Transposed, Raised, RaisedAlike, United, Common, Lowest, Rest, Union, LabelOf, Crossed, Blank};
@@ -7,7 +8,7 @@ ghost use Rattle.tables.specs.Tables.{row};
 
 // `parent`, `above` and `after` are the columns of `child`, `below` and `before`, kept as rows: bit x of row y. A label of 0 is no label fact.
 // root and leaf lie apart: a compiler that loads two neighbours as one number waits for both to be stored.
-#[derive(Drop)]
+#[derive(Clone, Copy)]
 pub struct Facts {
     pub child: [u16; 16],
     pub parent: [u16; 16],
@@ -22,7 +23,7 @@ pub struct Facts {
 }
 
 // What settling answers: settled tables, or a clash and the tables that came in.
-#[derive(Drop)]
+#[derive(Clone, Copy)]
 pub struct Settled {
     pub clash: bool,
     pub facts: Facts,

@@ -1,4 +1,5 @@
 // toxml: reads node records from standard input, of any length, and writes their tree as XML, with no newline; or `refused` and the number.
+#![tactic(auto)]
 use libc::STDIN_FILENO;
 use reading::Filled;
 use xmltext::XML_BYTES;

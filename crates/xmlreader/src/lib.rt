@@ -1,5 +1,6 @@
 // Reads a tree that was written as XML: the outermost element to the end of the text, the elements inside it, and theirs. Parents and labels are
 // gathered in document order; all of the text is read before a byte is written.
+#![tactic(auto)]
 ghost use Rattle.std.specs.Prelude.{◌≡◌, ◌*◌, ◌≤◌, length};
 ghost use Rattle.meaning.specs.Results.{fill_wrote};
 ghost use Rattle.lent.specs.Filling.{AnswerOf};
@@ -9,7 +10,7 @@ ghost use Rattle.xmlreader.specs.Reading.{opens_at, empty_at, closes_at, Single,
 use lent::{Answer, byte_at};
 
 // How far reading came.
-#[derive(Drop)]
+#[derive(Clone, Copy)]
 enum Step {
     // The place after what was read, and how many nodes there are by then.
     To(usize, usize),

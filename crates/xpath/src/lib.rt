@@ -1,4 +1,5 @@
 // Questions set as paths: a text of 1 to 8 lines is read, its nodes are numbered and its records are gathered on a sheet; then they are written.
+#![tactic(auto)]
 ghost use Rattle.std.specs.Prelude.{◌≡◌, ◌++◌, ◌≤◌, length, take, drop};
 ghost use Rattle.meaning.specs.Results.{fill_wrote};
 ghost use Rattle.theory.specs.PathReader.{read_paths};
