@@ -1,0 +1,8 @@
+-- `answers::parent` meets its contract: it reads the third byte of the node's record.
+use borrow.Author.Rules.{rules}
+use Rattle.answers.specs.Tree.{tree_in}
+use Rattle.answers.proofs.parent.Goals as goal
+
+pub returns : goal.returns
+unfolding tree_in
+returns c = c.byte_at.ensures

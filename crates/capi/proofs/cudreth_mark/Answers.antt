@@ -1,0 +1,46 @@
+-- `capi::cudreth_mark` meets its contract: verdict by verdict, with the promise of `marker::mark`. The sum fits, since a position is below 256 and a kind at most 8.
+use mathlib.Core.Path.{◌≡◌, sym, ap, subst, ◌∙◌}
+use mathlib.Core.List.{List}
+use Prim.Native.Nat.{ℕ}
+use native.Mathlib.Omega.{arith}
+use borrow.Author.Rules.{rules}
+use Rattle.marker.proofs.Position.{position_small, kind_small}
+use Rattle.theory.proofs.ConstraintFile.{bytes}
+use Rattle.marker.specs.Verdict.{marked_of}
+use Rattle.meaning.specs.Results.{Marked, told, marked_number}
+use Rattle.meaning.specs.Promises.{MarkerPromise}
+use Rattle.theory.specs.Programs.{marker}
+use Rattle.capi.specs.Grades.{Grades}
+use Rattle.capi.proofs.cudreth_mark.Goals as goal
+
+-- a marker's answer that is the definition's, and keeps the promise
+grades : {file answer : List ℕ} {m : Marked} {r : ℕ} → m ≡ marker file answer → MarkerPromise file answer m → r ≡ marked_number m → Grades file answer r
+grades {file} {answer} e p d = record { number = d ∙ ap marked_number e; promise = subst (MarkerPromise file answer) e p }
+
+pub overflow_mul-result : goal.overflow_mul-result
+overflow_mul-result c = omega (arith, c.kind_number_lem.ensures, kind_small c.verdict-1.given.0.1.0)
+
+pub overflow_add-result : goal.overflow_add-result
+overflow_add-result c = omega (arith, c.kind_number_lem.ensures, kind_small c.verdict-1.given.0.1.0)
+
+pub overflow_add-result-in-Unmet : goal.overflow_add-result-in-Unmet
+unfolding marked_of
+overflow_add-result-in-Unmet c = let start = c.before.before.before.before.before.before.before in
+    let file = start.args.constraints.now in
+    let small = position_small file start.args.answer.now (bytes file (λ i. omega (arith, c.shared_slice_known-1.given i)))
+    (sym c.mark-verdict.ensures.0 ∙ ap marked_of c.verdict-1.given.1) in
+    omega (arith, c.kind_number_lem.ensures, kind_small c.verdict-1.given.0.1.0)
+
+pub returns-in-Met : goal.returns-in-Met
+unfolding marked_number told marked_of
+returns-in-Met c = grades c.mark-verdict.ensures.0 c.mark-verdict.ensures.1 (rw c.enum_told-1.given.1)
+
+pub returns-in-Unmet : goal.returns-in-Unmet
+unfolding marked_number told marked_of
+returns-in-Unmet c =
+    let w = c.mark-verdict.ensures in
+    grades w.0 w.1 (rw (c.verdict-1.given.1, ← c.kind_number_lem.ensures) (omega arith))
+
+pub returns-in-Refused : goal.returns-in-Refused
+unfolding marked_number told marked_of
+returns-in-Refused c = let w = c.mark-verdict.ensures in grades w.0 w.1 (rw c.verdict-in-Refused-1.given.1 (omega arith))

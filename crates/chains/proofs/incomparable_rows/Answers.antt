@@ -1,0 +1,17 @@
+use mathlib.Core.Path.{refl}
+use Prim.Native.Nat.{◌≤◌, ◌-◌}
+use native.Mathlib.Nat.{le_trans}
+use lib.Bits.{bit_or, bit_xor}
+use borrow.Author.Rules.{rules}
+use Rattle.tables.specs.Tables.{row}
+use Rattle.tables.proofs.Loops.{Rowing, rowing_none, rowing_more}
+use Rattle.chains.proofs.incomparable_rows.Goals as goal
+
+pub loop-x-init : goal.loop-x-init
+loop-x-init c = (search rules, rowing_none _ _ _ (search rules))
+
+pub loop-x-preserved : goal.loop-x-preserved
+loop-x-preserved c = (search rules, rowing_more _ _ _ _ _ _ (search rules) refl c.loop-x.invariant.1)
+
+pub returns : goal.returns
+returns c = λ x h. c.loop-x.invariant.1.done x (le_trans h c.loop-x-test.false)

@@ -1,0 +1,49 @@
+use mathlib.Core.Path.{subst}
+use mathlib.Core.Logic.{⊎_elim}
+use Prim.Native.Nat.{ℕ, ◌≤◌, ◌-◌}
+use native.Mathlib.Nat.{not-suc-le-zero}
+use borrow.Author.Rules.{rules}
+use Rattle.meaning.specs.FixedSearch.{parent-join}
+use Rattle.tables.specs.Rows.{Lowest}
+use Rattle.tables.specs.declared.Facts.{Facts}
+use Rattle.stages.specs.Found.{join_of, with_below}
+use Rattle.chains.specs.Rows.{with_parent}
+use Rattle.stages.proofs.Stage.{NoneBefore, none_more, none_first}
+use Rattle.chains.proofs.First.{none_without_parent, none_without_x, parent_first}
+use Rattle.chains.proofs.parent_join.Goals as goal
+
+pub loop-z-init : goal.loop-z-init
+loop-z-init c = (search rules, λ f S r k x y l. absurd (not-suc-le-zero l))
+
+pub returns-then-x-lt16 : goal.returns-then-x-lt16
+unfolding join_of
+returns-then-x-lt16 c =
+    let t = c.before.before.before in
+    let l = t.before in
+    let i = l.before in
+    let s = i.before.before.before in
+    let x-is = subst (λ (k : ℕ). Lowest k c.lowest-x.result) c.except.ensures c.lowest-x.ensures in
+    λ f.
+    parent_first _ s.requires (with_parent s.args.t1 (with_below s.args.t2 s.args.t3 f)) _ i.all-vars.ensures _ i.loop-z-test.true _ l.lowest-y.ensures
+    t.if-y-lt16.true _ x-is c.if-x-lt16.true (i.loop-z.invariant.1 f)
+
+pub loop-z-preserved : goal.loop-z-preserved
+loop-z-preserved c =
+    let l = c.before in
+    let i = l.before in
+    let s = i.before.before.before in (
+      search rules,
+      λ f.
+          let g = with_parent s.args.t1 (with_below s.args.t2 s.args.t3 f) in
+          none_more parent-join _ g _ (i.loop-z.invariant.1 f)
+          (⊎_elim
+          (λ w. none_without_x _ s.requires g _ i.all-vars.ensures _ i.loop-z-test.true _ l.lowest-y.ensures w.0.taken _
+          (subst (λ (k : ℕ). Lowest k w.2.result) w.1.ensures w.2.ensures) w.3.left)
+          (λ w. none_without_parent _ s.requires g _ i.all-vars.ensures _ i.loop-z-test.true _ l.lowest-y.ensures w.left)
+          c.if-y-lt16.branch),
+    )
+
+pub returns : goal.returns
+returns c = λ f.
+    let s = c.before.before.before in
+    none_first parent-join _ (with_parent s.args.t1 (with_below s.args.t2 s.args.t3 f)) _ c.loop-z-test.false (c.loop-z.invariant.1 f)

@@ -1,0 +1,56 @@
+-- `constraints::room` meets its contract: arm by arm.
+use borrow.Author.Tests.{ne_eqb}
+use Rattle.meaning.specs.Finite.{pick}
+use Rattle.constraints.specs.Judgement.{room_of}
+use Rattle.constraints.proofs.room.Goals as goal
+
+pub returns-in-1 : goal.returns-in-1
+unfolding room_of pick
+returns-in-1 c = rw c.in-1.keys1
+
+pub returns-in-2 : goal.returns-in-2
+unfolding room_of pick
+returns-in-2 c = rw c.in-2.keys2
+
+pub returns-in-3 : goal.returns-in-3
+unfolding room_of pick
+returns-in-3 c = rw c.in-3.keys3
+
+pub returns-in-4 : goal.returns-in-4
+unfolding room_of pick
+returns-in-4 c = rw c.in-4.keys4
+
+pub returns-in-5 : goal.returns-in-5
+unfolding room_of pick
+returns-in-5 c = rw c.in-5.keys5
+
+pub returns-in-6 : goal.returns-in-6
+unfolding room_of pick
+returns-in-6 c = rw c.in-6.keys6
+
+pub returns-in-7 : goal.returns-in-7
+unfolding room_of pick
+returns-in-7 c = rw c.in-7.keys7
+
+pub returns-in-8 : goal.returns-in-8
+unfolding room_of pick
+returns-in-8 c = rw c.in-8.keys8
+
+pub returns-in-9 : goal.returns-in-9
+unfolding room_of pick
+returns-in-9 c = rw c.in-9.keys9
+
+pub returns-in_default : goal.returns-in_default
+unfolding room_of pick
+returns-in_default c = let r = c.in_default.rest in
+    rw (
+      ne_eqb _ _ r.0.0.0.0.0.0.0.0.1,
+      ne_eqb _ _ r.0.0.0.0.0.0.0.1,
+      ne_eqb _ _ r.0.0.0.0.0.0.1,
+      ne_eqb _ _ r.0.0.0.0.0.1,
+      ne_eqb _ _ r.0.0.0.0.1,
+      ne_eqb _ _ r.0.0.0.1,
+      ne_eqb _ _ r.0.0.1,
+      ne_eqb _ _ r.0.1,
+      ne_eqb _ _ r.1,
+    )

@@ -1,0 +1,35 @@
+use Prim.Native.Nat.{◌<◌}
+use Rattle.tables.proofs.Members.{passed_less, next_in_lem}
+use Rattle.grouping.proofs.Loops.{Painting, painting_none, painting_more, was_painted, none_painted}
+use borrow.Author.Rules.{rules}
+use Rattle.grouping.proofs.paint.Goals as goal
+
+variable_in : (c : goal.After-lowest-x) → c.lowest-x.result < 16
+variable_in c = next_in_lem _ _ _ _ c.loop-rest.invariant.passed c.loop-rest-test.true c.lowest-x.ensures
+
+pub returns-then-l-eq0 : goal.returns-then-l-eq0
+returns-then-l-eq0 c = none_painted _ _ _ c.requires c.if-l-eq0.true
+
+pub loop-rest-init : goal.loop-rest-init
+loop-rest-init c = painting_none _ _ _ (search rules) c.ranges.rows.fits
+
+pub bounds-a-x : goal.bounds-a-x
+bounds-a-x c = variable_in c
+
+pub rest-rest-requires : goal.rest-rest-requires
+rest-rest-requires c = c.loop-rest-test.true
+
+pub loop-rest-smaller : goal.loop-rest-smaller
+loop-rest-smaller c =
+    let w = c.before in
+    let l = w.before.before in
+    rw (c.rest-rest.ensures _ w.lowest-x.ensures) (passed_less _ _ _ _ l.loop-rest.invariant.passed w.loop-rest-test.true w.lowest-x.ensures)
+
+pub loop-rest-preserved : goal.loop-rest-preserved
+loop-rest-preserved c =
+    let w = c.before in
+    let l = w.before.before in
+    rw (c.rest-rest.ensures _ w.lowest-x.ensures) (painting_more _ _ _ _ _ _ l.loop-rest.invariant w.loop-rest-test.true w.lowest-x.ensures)
+
+pub returns : goal.returns
+returns c = was_painted _ _ _ _ _ c.loop-rest.invariant c.loop-rest-test.false

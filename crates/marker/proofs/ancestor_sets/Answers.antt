@@ -1,0 +1,78 @@
+use mathlib.Core.Path.{◌≡◌}
+use Prim.Native.Nat.{◌≤◌, ◌<◌, ◌-◌}
+use native.Mathlib.Omega.{arith}
+use lib.ListN.{length, get_or}
+use borrow.Author.Rules.{rules}
+use Rattle.meaning.specs.Tree.{Node}
+use Rattle.rowbits.specs.Bit.{bit}
+use Rattle.theory.specs.Check.{is_above}
+use Rattle.answers.specs.Tree.{tree_in}
+use Rattle.marker.proofs.Sets.{above_first, above_more, set_more}
+use Rattle.marker.proofs.ancestor_sets.Goals as goal
+
+-- the parent of the node at hand has a smaller number
+parent_smaller : (c : goal.After-parent-parent) → c.parent-parent.result.0 < c.loop-i.i
+unfolding tree_in
+parent_smaller c =
+    let l = c.loop-i in
+    omega (arith, c.parent-parent.ensures, c.requires.0.smaller l.i l.invariant.0 c.loop-i-test.true)
+
+pub bounds-above-0 : goal.bounds-above-0
+unfolding tree_in
+bounds-above-0 c = search rules
+
+pub loop-i-init : goal.loop-i-init
+loop-i-init c = (search rules, search rules, search rules, λ u v l. let z : v ≡ 0 = omega arith in rw z (above_first _ c.requires.0 u))
+
+pub overflow_cast-node : goal.overflow_cast-node
+unfolding tree_in
+overflow_cast-node c = search rules
+
+pub overflow_cast-parent : goal.overflow_cast-parent
+unfolding tree_in
+overflow_cast-parent c = search rules
+
+pub offset_bounds-above-parent : goal.offset_bounds-above-parent
+unfolding tree_in
+offset_bounds-above-parent c = search rules
+
+pub bounds-above-parent : goal.bounds-above-parent
+bounds-above-parent c = let s = parent_smaller c.before in
+    let l = c.loop-i.invariant in
+    omega arith
+
+pub with-requires : goal.with-requires
+unfolding tree_in
+with-requires c = search rules
+
+pub offset_bounds-above-i : goal.offset_bounds-above-i
+unfolding tree_in
+offset_bounds-above-i c = search rules
+
+pub bounds-above-i : goal.bounds-above-i
+unfolding tree_in
+bounds-above-i c = search rules
+
+pub overflow_add-i : goal.overflow_add-i
+unfolding tree_in
+overflow_add-i c = search rules
+
+pub loop-i-smaller : goal.loop-i-smaller
+unfolding tree_in
+loop-i-smaller c = search rules
+
+pub loop-i-preserved : goal.loop-i-preserved
+unfolding tree_in
+loop-i-preserved c = let l = c.loop-i in
+    let start = c.before.before.before.before.before.before in (
+      search rules,
+      search rules,
+      search rules,
+      λ u. set_more (λ v a. bit a u ≡ is_above (tree_in start.args.tree.now) u v) l.above l.i c.with.result
+          (omega arith) (λ v h. l.invariant.3 u v h)
+          (rw c.with.ensures (above_more _ start.requires.0 u l.i l.invariant.0 c.loop-i-test.true _ (rw (← c.parent-parent.ensures) (l.invariant.3 u _ (parent_smaller c.before.before))))),
+    )
+
+pub returns : goal.returns
+unfolding tree_in
+returns c = λ u v l. c.loop-i.invariant.3 u v (omega arith)

@@ -1,0 +1,18 @@
+-- `marker::ancestor_sets` meets its contract: the sets of the nodes so far are right.
+use mathlib.Core.Path.{◌≡◌}
+use Prim.Native.Nat.{◌≤◌, ◌<◌, ◌-◌}
+use native.Mathlib.Omega.{arith}
+use lib.ListN.{length, get_or}
+use borrow.Author.Rules.{rules}
+use Rattle.meaning.specs.Tree.{Node}
+use Rattle.rowbits.specs.Bit.{bit}
+use Rattle.theory.specs.Check.{is_above}
+use Rattle.answers.specs.Tree.{tree_in}
+use Rattle.marker.proofs.Sets.{above_first, above_more, set_more}
+use Rattle.marker.proofs.ancestor_sets.Given as goal
+
+abbrev pub invariant-loop-i : goal.invariant-loop-i
+invariant-loop-i l = (1 ≤ l.i) × (l.i ≤ (tree_in l.tree).size) × (length l.above ≡ 64) × ((u v : Node) → v < l.i → bit (get_or l.above v 0) u ≡ is_above (tree_in l.tree) u v)
+
+abbrev pub decreases-loop-i : goal.decreases-loop-i
+decreases-loop-i l = (tree_in l.tree).size - l.i

@@ -1,0 +1,73 @@
+use mathlib.Core.Path.{◌≡◌, sym, subst}
+use mathlib.Core.Logic.{◌≢◌}
+use mathlib.Core.List.{List}
+use Prim.Native.Nat.{ℕ}
+use Rattle.meaning.specs.Constraint.{Fact}
+use Rattle.tables.specs.Rows.{Union}
+use Rattle.grouping.specs.Rows.{Gap}
+use Rattle.grouping.specs.Grouping.{Pending, lacking}
+use Rattle.merge.specs.Merging.{OneElement}
+use Rattle.merge.proofs.Entered.{ready_top, begun, merged_clash, merged_well}
+use borrow.Author.Rules.{rules}
+use Rattle.merge.proofs.enter_same.Goals as goal
+
+union_at : (t : List ℕ) (j k r : ℕ) → j ≡ k → Union t k r → Union t j r
+union_at t j k r e h = subst (λ (i : ℕ). Union t i r) (sym e) h
+
+pub two_with_gap-x-requires : goal.two_with_gap-x-requires
+two_with_gap-x-requires c = (search rules, search rules)
+
+pub union_two-lower-requires : goal.union_two-lower-requires
+union_two-lower-requires c = (search rules, search rules)
+
+pub union_two-upper-requires : goal.union_two-upper-requires
+union_two-upper-requires c = (search rules, search rules)
+
+pub loop-x-init : goal.loop-x-init
+loop-x-init c = (
+  (λ T p. p),
+  (λ _. ready_top _ _ _ c.requires.1.1),
+  λ z. let h = c.two_with_gap-x.ensures.some z in
+      (subst (Gap _) (sym h.0) h.1, union_at _ _ _ _ h.0 c.union_two-lower.ensures, union_at _ _ _ _ h.0 c.union_two-upper.ensures),
+)
+
+pub next_round-r-requires : goal.next_round-r-requires
+next_round-r-requires c = let h = c.loop-x.invariant.2 c.loop-x-test.true in (h.1, h.2)
+
+pub returns-then-r : goal.returns-then-r
+returns-then-r c =
+    let u = c.before in
+    let l = u.before.before in
+    let a = l.before.before.before in
+    let s = a.before.before.before.before.before in
+    merged_clash _ _ _ _ s.requires.0.2 s.requires.0.0 s.requires.0.1 _ a.two_with_gap-x.ensures (λ T p. u.next_round-r.ensures.clashes c.if-r.true _ T (l.loop-x.invariant.0 T p))
+
+pub loop-x-smaller : goal.loop-x-smaller
+loop-x-smaller c =
+    let e = c.before.before.before.before.before in
+    let u = e.before in
+    u.next_round-r.ensures.falls e.if-r.false (u.loop-x.invariant.2 u.loop-x-test.true).0
+
+-- what the round says of its next set it says of pending tables: these are so for the set that the call is about
+pub loop-x-preserved : goal.loop-x-preserved
+loop-x-preserved c =
+    let e = c.before.before.before.before.before in
+    let u = e.before in
+    let r = u.next_round-r.ensures in
+    let l = u.before.before in
+    let a = l.before.before.before in
+    let s = a.before.before.before.before.before in
+    let j = s.requires.1 in
+    let p = l.loop-x.invariant.0 _ (begun _ _ _ _ s.requires.0.2 s.requires.0.0 s.requires.0.1 _ a.two_with_gap-x.ensures j.0 j.1 j.2) in (
+      (λ T p. r.goes_on e.if-r.false _ T (l.loop-x.invariant.0 T p)),
+      r.top e.if-r.false _ _ p,
+      λ z. (r.gap e.if-r.false _ _ p z, c.union_rows-lower.ensures, c.union_rows-upper.ensures),
+    )
+
+pub returns : goal.returns
+returns c =
+    let l = c.before in
+    let a = l.before.before.before in
+    let s = a.before.before.before.before.before in
+    merged_well _ _ _ _ s.requires.0.2 s.requires.0.0 s.requires.0.1 _ a.two_with_gap-x.ensures
+    _ (l.loop-x.invariant.1 c.loop-x-test.false) (λ T p. subst (λ (k : ℕ). Pending s.args.n T k l.loop-x.g) c.loop-x-test.false (l.loop-x.invariant.0 T p))

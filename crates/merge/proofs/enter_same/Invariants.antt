@@ -1,0 +1,20 @@
+-- `merge::enter_same` meets its contract. The invariant: whatever was pending at the start is pending now, and the variables of x are not yet the
+-- same, or x is empty and the children of the document node are the same too. Each round fills a gap of below, so that it ends.
+use mathlib.Core.Path.{◌≡◌, sym, subst}
+use mathlib.Core.Logic.{◌≢◌}
+use mathlib.Core.List.{List}
+use Prim.Native.Nat.{ℕ}
+use Rattle.meaning.specs.Constraint.{Fact}
+use Rattle.tables.specs.Rows.{Union}
+use Rattle.grouping.specs.Rows.{Gap}
+use Rattle.grouping.specs.Grouping.{Pending, lacking}
+use Rattle.merge.specs.Merging.{OneElement}
+use Rattle.merge.proofs.Entered.{ready_top, begun, merged_clash, merged_well}
+use borrow.Author.Rules.{rules}
+use Rattle.merge.proofs.enter_same.Given as goal
+
+abbrev pub invariant-loop-x : goal.invariant-loop-x
+invariant-loop-x l = ((T : List Fact) → Pending l.n T l.initial.x l.initial.g → Pending l.n T l.x l.g) × (l.x ≡ 0 → OneElement l.g) × (l.x ≢ 0 → Gap l.g.below l.x × Union l.g.below l.x l.lower × Union l.g.above l.x l.upper)
+
+abbrev pub decreases-loop-x : goal.decreases-loop-x
+decreases-loop-x l = lacking l.g.below

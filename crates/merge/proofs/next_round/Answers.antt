@@ -1,0 +1,42 @@
+-- `merge::next_round` meets its contract: a group is made, what has siblings passes on what it has, before is tested against below, and what
+-- has to become the same next is left (proofs/Rounds.antt).
+use Prim.Native.Nat.{ℕ, ◌<◌}
+use lib.ListN.{get_or}
+use mir.Val.{Fits}
+use mir.Syntax.{w16}
+use borrow.Author.Rules.{rules}
+use Rattle.merge.proofs.Rounds.{round_refused, round_blank, round_crossed, round_passed}
+use Rattle.merge.proofs.next_round.Goals as goal
+
+group_small : (c : goal.After-unify-r) → c.unify-r.result.group < 65536
+group_small c = let h : Fits w16 c.unify-r.result.group = search rules in h.fits
+
+after_small : (c : goal.Start) (i : ℕ) → get_or c.args.f.after i 0 < 65536
+after_small c i = let h : Fits w16 (get_or c.args.f.after i 0) = search rules in h.fits
+
+pub returns-then-r : goal.returns-then-r
+returns-then-r c = round_refused _ _ _ c.unify-r.ensures c.if-r.true
+
+pub returns-then-blank : goal.returns-then-blank
+returns-then-blank c =
+    let none = c.before.before.before.before in
+    let test = none.before in
+    let made = test.before.before in
+    let u = made.before in
+    round_blank _ _ _ u.unify-r.ensures made.if-r.false (group_small u) (after_small u.before) _ test.blank.ensures none.if-blank.true _ c.next_set.ensures
+
+pub returns-then-crossed : goal.returns-then-crossed
+returns-then-crossed c =
+    let crosses = c.before in
+    let test = crosses.before in
+    let passed = test.before.before.before.before in
+    let made = passed.before.before.before.before.before in
+    round_crossed _ _ _ made.unify-r.ensures made.if-r.false _ passed.pass_on-g.ensures _ test.crossed.ensures crosses.if-crossed.true _ c.refused.ensures
+
+pub returns : goal.returns
+returns c =
+    let clear = c.before.before in
+    let test = clear.before in
+    let passed = test.before.before.before.before in
+    let made = passed.before.before.before.before.before in
+    round_passed _ _ _ made.unify-r.ensures made.if-r.false _ passed.pass_on-g.ensures _ test.crossed.ensures clear.if-crossed.false _ c.next_set-2.ensures

@@ -1,0 +1,40 @@
+-- `merge::with_gap` meets its contract: below chains through the lowest, and what the lowest has not both below and above it shows a gap.
+use mathlib.Core.Path.{sym, ◌∙◌}
+use Prim.Native.Nat.{◌<◌}
+use native.Mathlib.Omega.{arith}
+use Rattle.tables.proofs.Members.{lowest_in}
+use Rattle.merge.proofs.Loops.{none_apart, is_apart, not_apart}
+use borrow.Author.Rules.{rules}
+use Rattle.merge.proofs.with_gap.Goals as goal
+
+variable_in : (c : goal.After-lowest-x) → c.lowest-x.result < 16
+variable_in c = lowest_in _ _ c.ranges.rows.fits c.if-rows-eq0.false c.lowest-x.ensures
+
+pub returns-then-rows-eq0 : goal.returns-then-rows-eq0
+returns-then-rows-eq0 c h = none_apart _ _ c.if-rows-eq0.true
+
+pub offset_bounds-below-x : goal.offset_bounds-below-x
+offset_bounds-below-x c = omega (arith, variable_in c)
+
+pub bounds-below-x : goal.bounds-below-x
+bounds-below-x c = variable_in c
+
+pub offset_bounds-above-x : goal.offset_bounds-above-x
+offset_bounds-above-x c = omega (arith, variable_in c)
+
+pub bounds-above-x : goal.bounds-above-x
+bounds-above-x c = variable_in c
+
+pub returns-then-except-ne0 : goal.returns-then-except-ne0
+returns-then-except-ne0 c h =
+    let e = c.before in
+    let l = e.before in
+    let s = l.before.before in
+    is_apart s.args.t1 s.args.t2 _ _ s.ranges.rows.fits l.if-rows-eq0.false l.lowest-x.ensures h (rw (← e.except.ensures) c.if-except-ne0.true)
+
+pub returns : goal.returns
+returns c h =
+    let e = c.before in
+    let l = e.before in
+    let s = l.before.before in
+    not_apart s.args.t1 s.args.t2 _ _ s.ranges.rows.fits l.if-rows-eq0.false l.lowest-x.ensures h (sym e.except.ensures ∙ c.if-except-ne0.false)

@@ -1,0 +1,26 @@
+use mathlib.Core.Path.{◌≡◌}
+use Prim.Native.Nat.{◌≤◌, ◌-◌}
+use Rattle.ordering.specs.Listing.{listed, Listed}
+use Rattle.ordering.proofs.Listing.{listed_none, listed_room, listed_next}
+use borrow.Author.Rules.{rules}
+use Rattle.ordering.proofs.in_order.Goals as goal
+
+pub loop-d-init : goal.loop-d-init
+loop-d-init c = (search rules, listed_none _ _ _)
+
+pub append-o-requires : goal.append-o-requires
+append-o-requires c =
+    let i = c.before in
+    let s = i.before in
+    (i.loop-d.invariant.1.small, listed_room s.args.after s.args.t1 s.args.n i.loop-d.d s.requires.1 c.loop-d-test.true i.loop-d.o i.loop-d.invariant.1, s.requires.2)
+
+pub loop-d-preserved : goal.loop-d-preserved
+loop-d-preserved c =
+    let i = c.before.before in
+    let s = i.before in (
+      search rules,
+      listed_next s.args.after s.args.t1 s.args.n i.loop-d.d s.requires.1 c.loop-d-test.true i.loop-d.o i.loop-d.invariant.1 c.append-o.result c.append-o.ensures,
+    )
+
+pub returns : goal.returns
+returns c = let e : c.loop-d.d ≡ c.args.n = search rules in rw (← e) c.loop-d.invariant.1

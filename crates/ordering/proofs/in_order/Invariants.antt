@@ -1,0 +1,13 @@
+-- `ordering::in_order` meets its contract: at d the order has the groups of the layers below d.
+use mathlib.Core.Path.{◌≡◌}
+use Prim.Native.Nat.{◌≤◌, ◌-◌}
+use Rattle.ordering.specs.Listing.{listed, Listed}
+use Rattle.ordering.proofs.Listing.{listed_none, listed_room, listed_next}
+use borrow.Author.Rules.{rules}
+use Rattle.ordering.proofs.in_order.Given as goal
+
+abbrev pub invariant-loop-d : goal.invariant-loop-d
+invariant-loop-d l = (l.d ≤ l.n) × Listed (listed l.after l.layer l.d) l.o
+
+abbrev pub decreases-loop-d : goal.decreases-loop-d
+decreases-loop-d l = l.n - l.d

@@ -1,0 +1,6 @@
+-- `ordering::is_low` meets its contract.
+use borrow.Author.Rules.{rules}
+use Rattle.ordering.proofs.is_low.Goals as goal
+
+pub returns : goal.returns
+returns c = rw c.all.ensures

@@ -1,0 +1,48 @@
+use mathlib.Core.Path.{◌≡◌, sym, ◌∙◌}
+use Prim.Native.Nat.{◌<◌, ◌≤◌, ◌+◌, ◌-◌}
+use native.Mathlib.Omega.{arith}
+use lib.ListN.{get_or, drop}
+use Rattle.meaning.specs.Finite.{position}
+use Rattle.ordering.specs.Rows.{near}
+use Rattle.ordering.specs.Listing.{groups}
+use Rattle.ordering.proofs.Listing.{length_mapped, inside_at, scan_here, scan_next, scan_end}
+use borrow.Author.Rules.{rules}
+use Rattle.ordering.proofs.nearest.Goals as goal
+
+-- the group that is looked at is a variable
+variable_in : (c : goal.After-struct_known-1) → let i = c.before.before.before in (get_or i.args.t1.group i.loop-i.i record { 0 = 0 }).0 < 16
+variable_in c = let i = c.before.before.before in inside_at i.args.t1 (search (rules, length_mapped)) i.requires i.loop-i.i (search rules)
+
+pub loop-i-init : goal.loop-i-init
+loop-i-init c = (search rules, omega arith)
+
+pub offset_bounds-below-w : goal.offset_bounds-below-w
+offset_bounds-below-w c = omega (arith, variable_in c)
+
+pub bounds-below-w : goal.bounds-below-w
+bounds-below-w c = variable_in c
+
+pub offset_bounds-above-w : goal.offset_bounds-above-w
+offset_bounds-above-w c = omega (arith, variable_in c)
+
+pub bounds-above-w : goal.bounds-above-w
+bounds-above-w c = variable_in c
+
+pub is_near-requires : goal.is_near-requires
+is_near-requires c = variable_in c
+
+pub returns-then-is_near : goal.returns-then-is_near
+unfolding near
+returns-then-is_near c =
+    let i = c.before.before.before.before.before in
+    scan_here (near i.args.t3 i.args.t4 i.args.over) i.args.t1 (search (rules, length_mapped)) i.requires i.loop-i.i (search rules)
+    (sym c.is_near.ensures ∙ c.if-is_near.true) i.loop-i.invariant.1
+
+pub loop-i-preserved : goal.loop-i-preserved
+unfolding near
+loop-i-preserved c =
+    let i = c.before.before.before.before.before in
+    (search rules, scan_next (near i.args.t3 i.args.t4 i.args.over) i.args.t1 (search (rules, length_mapped)) i.requires i.loop-i.i (search rules) (sym c.is_near.ensures ∙ c.if-is_near.false) i.loop-i.invariant.1)
+
+pub returns : goal.returns
+returns c = let i = c.before in scan_end (near i.args.t3 i.args.t4 i.args.over) i.args.t1 (search (rules, length_mapped)) i.requires i.loop-i.i (search rules) (search rules) i.loop-i.invariant.1

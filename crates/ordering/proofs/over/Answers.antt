@@ -1,0 +1,8 @@
+-- `ordering::over` meets its contract.
+use Rattle.ordering.specs.Rows.{over_row}
+use borrow.Author.Rules.{rules}
+use Rattle.ordering.proofs.over.Goals as goal
+
+pub returns : goal.returns
+unfolding over_row
+returns c = rw (c.except.ensures, c.all.ensures)

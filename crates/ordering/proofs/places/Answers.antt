@@ -1,0 +1,30 @@
+use mathlib.Core.Path.{◌≡◌}
+use Prim.Native.Nat.{◌+◌, ◌-◌, ◌<◌, ◌≤◌}
+use native.Mathlib.Omega.{arith}
+use lib.ListN.{length}
+use Rattle.ordering.specs.Listing.{groups}
+use Rattle.ordering.proofs.Listing.{length_mapped, count_is, member_at, inside_at, Placing, placing_none, placing_more, placing_all}
+use borrow.Author.Rules.{rules}
+use Rattle.ordering.proofs.places.Goals as goal
+
+pub loop-i-init : goal.loop-i-init
+loop-i-init c = (search rules, search rules, placing_none _ _ _ (omega (arith, count_is c.args.t1 (search (rules, length_mapped)) c.requires)))
+
+pub bounds-a-g : goal.bounds-a-g
+bounds-a-g c = let i = c.before.before.before in inside_at i.args.t1 (search (rules, length_mapped)) i.requires (i.loop-i.i - 1) (search rules)
+
+pub loop-i-preserved : goal.loop-i-preserved
+loop-i-preserved c =
+    let i = c.before.before.before in
+    let o = i.args.t1 in
+    let long : length o.group ≡ 16 = search (rules, length_mapped) in
+    let l : i.loop-i.i - 1 < o.len = search rules in
+    let e : i.loop-i.i - 1 + 1 ≡ i.loop-i.i = search rules in (
+      search rules,
+      search rules,
+      placing_more (groups o) (i.loop-i.i - 1) i.loop-i.a _ (omega (arith, l, count_is o long i.requires)) (member_at o long i.requires _ l)
+          (omega (arith, inside_at o long i.requires _ l, i.loop-i.invariant.1)) (rw e i.loop-i.invariant.2),
+    )
+
+pub returns : goal.returns
+returns c = let e : c.loop-i.i ≡ 0 = search rules in placing_all _ _ (rw e at c.loop-i.invariant.2)

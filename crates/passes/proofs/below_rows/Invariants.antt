@@ -1,0 +1,14 @@
+-- `passes::below_rows` meets its contract: the loop applies the rules that look at one row, then the rows are chained.
+use Prim.Native.Nat.{◌≤◌, ◌-◌}
+use borrow.Author.Rules.{rules}
+use Rattle.tables.specs.Tables.{row}
+use Rattle.tables.proofs.Loops.{Rowing, rowing_none, rowing_more}
+use Rattle.passes.specs.Rows.{first_row}
+use Rattle.passes.proofs.Chain.{chained_rows}
+use Rattle.passes.proofs.below_rows.Given as goal
+
+abbrev pub invariant-loop-x : goal.invariant-loop-x
+invariant-loop-x l = (l.x ≤ l.n) × Rowing (λ k v. first_row v (row l.child k) l.root k l.n) l.n l.initial.a l.x l.a
+
+abbrev pub decreases-loop-x : goal.decreases-loop-x
+decreases-loop-x l = l.n - l.x

@@ -1,0 +1,12 @@
+-- `passes::join_rows` meets its contract: the loop has joined the rows below x.
+use Prim.Native.Nat.{◌≤◌, ◌-◌}
+use native.Mathlib.Numerals.{add-one-le}
+use borrow.Author.Rules.{rules}
+use Rattle.passes.proofs.Joining.{Joining, joining_none, joining_more, joining_all}
+use Rattle.passes.proofs.join_rows.Given as goal
+
+abbrev pub invariant-loop-x : goal.invariant-loop-x
+invariant-loop-x l = (l.x ≤ l.n) × Joining l.initial.a l.above l.leaf l.root l.child l.parent l.x l.a l.more
+
+abbrev pub decreases-loop-x : goal.decreases-loop-x
+decreases-loop-x l = l.n - l.x

@@ -1,0 +1,84 @@
+use mathlib.Core.Path.{◌≡◌, sym, ap, ◌∙◌}
+use mathlib.Core.List.{List}
+use Prim.Native.Nat.{ℕ, ◌≤◌, ◌-◌}
+use lib.Bits.{bit_and}
+use lib.ListN.{length}
+use Rattle.meaning.specs.Finite.{Yes, tab, position}
+use Rattle.meaning.proofs.Tests.{not_yes, yes_not}
+use Rattle.rowbits.specs.Bit.{bit}
+use Rattle.tables.specs.Tables.{row}
+use Rattle.ordering.specs.Numbering.{numbered}
+use Rattle.ordering.specs.Listing.{groups, Placed}
+use Rattle.readoff.specs.Nodes.{Led, node_numbers, place_in}
+use Rattle.ordering.proofs.Listing.{length_mapped}
+use Rattle.readoff.proofs.Places.{place_most, place_led}
+use Rattle.readoff.proofs.Numbering.{numbered_fits}
+use Rattle.tables.proofs.Helpers.{pick_on, pick_off}
+use Rattle.readoff.proofs.Written.{assigned_none, assigned_more}
+use borrow.Author.Rules.{rules}
+use Rattle.readoff.proofs.assign.Goals as goal
+
+-- it is not on the document node
+under : (c : goal.Else-has) → let i = c.before.before.before in ¬ Yes (bit i.args.root i.loop-x.x)
+under c = not_yes (sym c.has.ensures ∙ c.if-has.false)
+
+-- the place that is read is that of the variable's group
+place_read : (c : goal.After-lowest-low) → let i = c.before.before.before.before in let s = i.before.before in (gs : List ℕ)
+    → Placed gs i.places-at.result → Led s.args.t2 s.args.t3 s.args.root s.args.n gs
+    → row i.places-at.result c.lowest-low.result ≡ position (bit (bit_and (row s.args.t3 i.loop-x.x) (row s.args.t2 i.loop-x.x))) gs
+place_read c gs p w =
+    let i = c.before.before.before.before in
+    let s = i.before.before in
+    place_led s.args.t2 s.args.t3 _ _ gs i.places-at.result w p i.loop-x.x _ (search rules) (under c.before) c.lowest-low.ensures
+
+-- it is a place of the order
+place_small : (c : goal.After-lowest-low) → let p = c.before.before.before.before.before in row p.places-at.result c.lowest-low.result ≤ p.args.order.len
+place_small c =
+    let i = c.before.before.before.before in
+    let s = i.before.before in
+    rw (place_read c (groups s.args.order) i.places-at.ensures s.requires.3)
+    (place_most (bit (bit_and (row s.args.t3 i.loop-x.x) (row s.args.t2 i.loop-x.x))) s.args.order (search (rules, length_mapped)) s.requires.0)
+
+pub places-at-requires : goal.places-at-requires
+places-at-requires c = c.requires.0
+
+pub loop-x-init : goal.loop-x-init
+loop-x-init c = (search rules, search rules, λ gs p w. assigned_none _ _)
+
+pub loop-x-preserved-then-has : goal.loop-x-preserved-then-has
+unfolding place_in
+loop-x-preserved-then-has c =
+    let i = c.before.before.before in
+    let s = i.before.before in (
+      search rules,
+      search rules,
+      λ gs p v. assigned_more i.loop-x.nodes i.loop-x.x _ (place_in s.args.t2 s.args.t3 s.args.root s.args.element gs) (search rules)
+          (pick_on _ _ _ (sym c.has.ensures ∙ c.if-has.true)) (i.loop-x.invariant.2 gs p v),
+    )
+
+pub bounds-at-low : goal.bounds-at-low
+bounds-at-low c =
+    let i = c.before.before.before.before in
+    let s = i.before.before in
+    s.requires.0.inside _ (s.requires.3 i.loop-x.x _ (search rules) (under c.before) c.lowest-low.ensures).0
+
+pub node_at-requires : goal.node_at-requires
+node_at-requires c = numbered_fits _ _ _ (place_small c) c.requires.1
+
+pub loop-x-preserved : goal.loop-x-preserved
+unfolding place_in
+loop-x-preserved c =
+    let w = c.before in
+    let i = w.before.before.before.before in
+    let s = i.before.before in (
+      search rules,
+      search rules,
+      λ gs p v. assigned_more i.loop-x.nodes i.loop-x.x _ (place_in s.args.t2 s.args.t3 s.args.root s.args.element gs) (search rules)
+          (c.node_at.ensures ∙ ap (numbered s.args.element) (place_read w gs p v) ∙ pick_off _ _ _ (yes_not (under w.before))) (i.loop-x.invariant.2 gs p v),
+    )
+
+pub returns : goal.returns
+returns c =
+    let p = c.before.before in
+    let e : c.loop-x.x ≡ p.args.n = search rules in
+    rw (← e) (c.loop-x.invariant.2 (groups p.args.order) p.places-at.ensures p.requires.3)

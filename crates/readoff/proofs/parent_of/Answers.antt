@@ -1,0 +1,34 @@
+-- `readoff::parent_of` meets its contract.
+use mathlib.Core.Path.{◌≡◌, ap, ◌∙◌}
+use lib.Bits.{bit_and}
+use Rattle.meaning.proofs.Tests.{eq_yes, is_eq, yes_not}
+use Rattle.ordering.specs.Rows.{near}
+use Rattle.ordering.specs.Numbering.{numbered}
+use Rattle.ordering.specs.Listing.{groups}
+use Rattle.readoff.specs.Nodes.{parent_in}
+use Rattle.readoff.proofs.Numbering.{numbered_fits}
+use Rattle.tables.proofs.Helpers.{pick_on, pick_off}
+use Rattle.ordering.proofs.Listing.{length_mapped}
+use Rattle.readoff.proofs.Places.{place_most}
+use borrow.Author.Rules.{rules}
+use Rattle.readoff.proofs.parent_of.Goals as goal
+
+-- where no group is over, the parent is the blank element, if it stands
+on_top : (s : goal.Start) → bit_and s.args.over s.args.lows ≡ 0
+    → s.args.element ≡ parent_in s.args.below s.args.above s.args.lows s.args.element (groups s.args.order) s.args.over
+unfolding parent_in
+on_top s none = pick_on _ _ _ (eq_yes none)
+
+pub returns-then-over-lows-eq0 : goal.returns-then-over-lows-eq0
+returns-then-over-lows-eq0 c = on_top c.before c.if-over-lows-eq0.true
+
+pub node_at-requires : goal.node_at-requires
+node_at-requires c =
+    let s = c.before.before in
+    numbered_fits _ _ _ (rw c.nearest.ensures (place_most (near s.args.below s.args.above s.args.over) s.args.order (search (rules, length_mapped)) s.requires.0)) s.requires.1
+
+pub returns : goal.returns
+unfolding parent_in
+returns c =
+    let n = c.before in
+    c.node_at.ensures ∙ ap (numbered n.args.element) n.nearest.ensures ∙ pick_off _ _ _ (yes_not (λ y. n.if-over-lows-eq0.false (is_eq y)))

@@ -1,0 +1,33 @@
+use mathlib.Core.Path.{refl, ap}
+use mathlib.Core.List.{[], ◌∷◌}
+use Prim.Native.Nat.{ℕ, ◌+◌, ◌≤◌, ◌-◌}
+use native.Mathlib.Omega.{arith}
+use Rattle.meaning.specs.ReadOff.{place_bytes}
+use Rattle.readoff.specs.Nodes.{node_numbers}
+use Rattle.readoff.specs.Written.{Recorded, place_record}
+use Rattle.readoff.proofs.Written.{recorded_none, recorded_more, recorded_all, number_at}
+use borrow.Author.Rules.{rules}
+use Rattle.readoff.proofs.put_places.Goals as goal
+
+pub loop-x-init : goal.loop-x-init
+loop-x-init c = (search rules, recorded_none _ _ _)
+
+pub put_place-requires : goal.put_place-requires
+put_place-requires c = let i = c.before.before.before in omega (arith, i.requires, i.loop-x.invariant.1.long)
+
+pub loop-x-preserved : goal.loop-x-preserved
+unfolding place_bytes
+loop-x-preserved c =
+    let l = c.before.before.before.before.before in
+    let i = l.before in
+    let s = i.before.before in (
+      search rules,
+      recorded_more _ _ (λ j k m. omega arith) i.loop-x.x (s.args.first + i.loop-x.x) _ s.args.answer.now i.loop-x.answer c.put_place.new.answer refl
+          (ap (λ (v : ℕ). 2 ∷ i.loop-x.x ∷ v ∷ 0 ∷ []) (number_at s.args.n s.args.t3 i.loop-x.x l.loop-x-test.true)) i.loop-x.invariant.1 c.put_place.ensures,
+    )
+
+pub shape_of-answer : goal.shape_of-answer
+shape_of-answer c = c.loop-x.invariant.1.long
+
+pub returns : goal.returns
+returns c = recorded_all _ _ _ _ _ _ (search rules) c.loop-x.invariant.1

@@ -1,0 +1,16 @@
+use mathlib.Core.Path.{refl}
+use Prim.Native.Nat.{◌≤◌, ◌-◌}
+use borrow.Author.Rules.{rules}
+use Rattle.tables.proofs.Loops.{Rowing, rowing_none, rowing_more}
+use Rattle.seed.specs.Seeds.{kind_row}
+use Rattle.seed.proofs.Parts.{rows_of}
+use Rattle.seed.proofs.table.Goals as goal
+
+pub loop-x-init : goal.loop-x-init
+loop-x-init c = (search rules, rowing_none _ _ _ (search rules))
+
+pub loop-x-preserved : goal.loop-x-preserved
+loop-x-preserved c = (search rules, rowing_more _ _ _ _ _ _ (search rules) refl c.loop-x.invariant.1)
+
+pub returns : goal.returns
+returns c = rows_of _ _ _ (search rules) c.loop-x.invariant.0 c.loop-x.invariant.1

@@ -1,0 +1,6 @@
+use borrow.Author.Rules.{rules}
+use Rattle.settle.proofs.Reaching.{parted}
+use Rattle.settle.proofs.differ_rows.Goals as goal
+
+pub returns : goal.returns
+returns c = parted c.either.ensures c.either-2.ensures

@@ -1,0 +1,26 @@
+use mathlib.Core.Path.{sym, ◌∙◌}
+use Prim.Native.Nat.{◌-◌}
+use borrow.Author.Rules.{rules}
+use Rattle.siblings.proofs.Loops.{Relating, relating_none, relating_more, relating_less, related}
+use Rattle.siblings.proofs.family.Goals as goal
+
+pub loop-before-init : goal.loop-before-init
+loop-before-init c = relating_none _ _ _ c.ranges.group.fits
+
+pub returns-then-more-eq0 : goal.returns-then-more-eq0
+returns-then-more-eq0 c =
+    let e = c.before in
+    let u = e.before in
+    related _ _ _ _ _ _ u.loop-before.invariant u.union_rows-later.ensures u.union_rows-earlier.ensures (sym e.except-more.ensures ∙ c.if-more-eq0.true)
+
+pub loop-before-smaller : goal.loop-before-smaller
+loop-before-smaller c =
+    let e = c.before in
+    let u = e.before in
+    rw e.except-more.ensures (relating_less _ _ _ _ _ _ u.loop-before.invariant u.union_rows-later.ensures u.union_rows-earlier.ensures (rw (← e.except-more.ensures) c.if-more-eq0.false))
+
+pub loop-before-preserved : goal.loop-before-preserved
+loop-before-preserved c =
+    let e = c.before in
+    let u = e.before in
+    rw e.except-more.ensures (relating_more _ _ _ _ _ _ u.loop-before.invariant u.union_rows-later.ensures u.union_rows-earlier.ensures)

@@ -1,0 +1,9 @@
+-- `siblings::spread` meets its contract: a table raised twice (proofs/Loops.antt).
+use borrow.Author.Rules.{rules}
+use Rattle.grouping.proofs.Loops.{was_spread}
+use Rattle.siblings.proofs.spread.Goals as goal
+
+pub returns : goal.returns
+returns c =
+    let s = c.before.before in
+    was_spread s.ranges.group.fits s.ranges.across.fits (record { half = _; first = c.raise.ensures; last = c.raise-2.ensures })

@@ -1,0 +1,13 @@
+-- `tables::all` meets its contract: a power of two less one, which fits since n is at most 16.
+use borrow.Author.Rules.{rules}
+use Rattle.tables.proofs.Helpers.{all_positive, all_fits, power32}
+use Rattle.tables.proofs.all.Goals as goal
+
+pub overflow_sub-result : goal.overflow_sub-result
+overflow_sub-result c = all_positive _ c.requires
+
+pub overflow_cast-result : goal.overflow_cast-result
+overflow_cast-result c = all_fits _ c.requires
+
+pub returns : goal.returns
+returns c = rw (power32 _ c.requires)

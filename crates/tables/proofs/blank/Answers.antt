@@ -1,0 +1,7 @@
+-- `tables::blank` meets its contract.
+use borrow.Author.Rules.{rules}
+use Rattle.tables.proofs.Loops.{is_blank}
+use Rattle.tables.proofs.blank.Goals as goal
+
+pub returns : goal.returns
+returns c = is_blank _ _ c.crossed.ensures

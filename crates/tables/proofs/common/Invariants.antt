@@ -1,0 +1,14 @@
+-- `tables::common` meets its contract: the loop has changed the rows below x.
+use mathlib.Core.Path.{refl}
+use Prim.Native.Nat.{◌≤◌, ◌-◌}
+use lib.Bits.{bit_and}
+use borrow.Author.Rules.{rules}
+use Rattle.tables.specs.Tables.{row}
+use Rattle.tables.proofs.Loops.{Rowing, rowing_none, rowing_more, combined}
+use Rattle.tables.proofs.common.Given as goal
+
+abbrev pub invariant-loop-x : goal.invariant-loop-x
+invariant-loop-x l = (l.x ≤ 16) × Rowing (λ k v. bit_and v (row l.u k)) 16 l.initial.a l.x l.a
+
+abbrev pub decreases-loop-x : goal.decreases-loop-x
+decreases-loop-x l = 16 - l.x

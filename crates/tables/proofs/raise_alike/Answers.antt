@@ -1,0 +1,16 @@
+use Prim.Native.Nat.{◌≤◌, ◌-◌}
+use borrow.Author.Rules.{rules}
+use lib.Dec.{eqb}
+use Rattle.tables.specs.Tables.{row}
+use Rattle.tables.specs.Rows.{gained}
+use Rattle.tables.proofs.Loops.{Rowing, rowing_none, rowing_more, was_raised}
+use Rattle.tables.proofs.raise_alike.Goals as goal
+
+pub loop-x-init : goal.loop-x-init
+loop-x-init c = (search rules, rowing_none _ _ _ (search rules))
+
+pub loop-x-preserved : goal.loop-x-preserved
+loop-x-preserved c = (search rules, rowing_more _ _ _ _ _ _ (search rules) c.gain.ensures c.loop-x.invariant.1)
+
+pub returns : goal.returns
+returns c = was_raised _ _ _ _ _ (search rules) c.loop-x.invariant.0 c.loop-x.invariant.1
