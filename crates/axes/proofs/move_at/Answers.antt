@@ -18,7 +18,7 @@ returns-then-not-starts c =
     let e = g.0.1.0 in
     let h = axis_some t a.at (axis_at (drop a.at t)) o.axis_at-named.result b e o.axis_at-named.ensures g.1 in
     let f = c.starts.ensures in
-    no_colons t a.at h.0 b h.1 e h.2 (sym f.0 ∙ not-true _ c.if-not-starts.true)
+    no_colons t a.at h.0 b h.1 e h.2 (sym f.0 ∙ c.if-not-starts.true)
 
 pub overflow_add-end : goal.overflow_add-end
 overflow_add-end c =
@@ -30,7 +30,7 @@ overflow_add-end c =
     let e = g.0.1.0 in
     let h = axis_some t a.at (axis_at (drop a.at t)) o.axis_at-named.result b e o.axis_at-named.ensures g.1 in
     let f = c.starts.ensures in
-    omega (arith, f.1 (not-false _ c.if-not-starts.false))
+    omega (arith, f.1 c.if-not-starts.false)
 
 pub overflow_add-result : goal.overflow_add-result
 overflow_add-result c =
@@ -54,7 +54,7 @@ returns-then-is_letter c =
     let e = g.0.1.0 in
     let h = axis_some t a.at (axis_at (drop a.at t)) o.axis_at-named.result b e o.axis_at-named.ensures g.1 in
     let f = c.starts.ensures in
-    let r = c.byte_at-test in let y = not-false _ c.if-not-starts.false in let l = sym c.is_letter.ensures ∙ c.if-is_letter.true in
+    let r = c.byte_at-test in let y = c.if-not-starts.false in let l = sym c.is_letter.ensures ∙ c.if-is_letter.true in
     a_letter t a.at h.0 b h.1 e h.2 (sym f.0 ∙ y) h.3 (f.1 y) r.result r.ensures l (let i = letter_inside t (e + 2) r.result r.ensures l in omega arith)
 
 pub overflow_add-result-then-test-eq42 : goal.overflow_add-result-then-test-eq42
@@ -79,7 +79,7 @@ returns-then-test-eq42 c =
     let e = g.0.1.0 in
     let h = axis_some t a.at (axis_at (drop a.at t)) o.axis_at-named.result b e o.axis_at-named.ensures g.1 in
     let f = c.starts.ensures in
-    let r = c.byte_at-test in let y = not-false _ c.if-not-starts.false in let l = sym c.is_letter.ensures ∙ c.if-is_letter.false in
+    let r = c.byte_at-test in let y = c.if-not-starts.false in let l = sym c.is_letter.ensures ∙ c.if-is_letter.false in
     a_star t a.at h.0 b h.1 e h.2 (sym f.0 ∙ y) h.3 (f.1 y) r.result r.ensures l c.if-test-eq42.true (let q = c.if-test-eq42.true in let i = byte_inside t (e + 2) r.result r.ensures (omega arith) in omega arith)
 
 pub returns-in-Unknown : goal.returns-in-Unknown
@@ -99,5 +99,5 @@ returns-else-test-eq42 c =
     let e = g.0.1.0 in
     let h = axis_some t a.at (axis_at (drop a.at t)) o.axis_at-named.result b e o.axis_at-named.ensures g.1 in
     let f = c.starts.ensures in
-    let r = c.byte_at-test in let y = not-false _ c.if-not-starts.false in let l = sym c.is_letter.ensures ∙ c.if-is_letter.false in
+    let r = c.byte_at-test in let y = c.if-not-starts.false in let l = sym c.is_letter.ensures ∙ c.if-is_letter.false in
     no_test t a.at h.0 b h.1 e h.2 (sym f.0 ∙ y) h.3 (f.1 y) r.result r.ensures l c.if-test-eq42.false

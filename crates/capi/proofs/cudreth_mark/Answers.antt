@@ -18,10 +18,10 @@ grades : {file answer : List ℕ} {m : Marked} {r : ℕ} → m ≡ marker file a
 grades {file} {answer} e p d = record { number = d ∙ ap marked_number e; promise = subst (MarkerPromise file answer) e p }
 
 pub overflow_mul-result : goal.overflow_mul-result
-overflow_mul-result c = omega (arith, c.kind_number_lem.ensures, kind_small c.verdict-1.given.0.1.0)
+overflow_mul-result c = omega (arith, c.kind_number.ensures, kind_small c.verdict-1.given.0.1.0)
 
 pub overflow_add-result : goal.overflow_add-result
-overflow_add-result c = omega (arith, c.kind_number_lem.ensures, kind_small c.verdict-1.given.0.1.0)
+overflow_add-result c = omega (arith, c.kind_number.ensures, kind_small c.verdict-1.given.0.1.0)
 
 pub overflow_add-result-in-Unmet : goal.overflow_add-result-in-Unmet
 unfolding marked_of
@@ -29,7 +29,7 @@ overflow_add-result-in-Unmet c = let start = c.before.before.before.before.befor
     let file = start.args.constraints.now in
     let small = position_small file start.args.answer.now (bytes file (λ i. omega (arith, c.shared_slice_known-1.given i)))
     (sym c.mark-verdict.ensures.0 ∙ ap marked_of c.verdict-1.given.1) in
-    omega (arith, c.kind_number_lem.ensures, kind_small c.verdict-1.given.0.1.0)
+    omega (arith, c.kind_number.ensures, kind_small c.verdict-1.given.0.1.0)
 
 pub returns-in-Met : goal.returns-in-Met
 unfolding marked_number told marked_of
@@ -39,7 +39,7 @@ pub returns-in-Unmet : goal.returns-in-Unmet
 unfolding marked_number told marked_of
 returns-in-Unmet c =
     let w = c.mark-verdict.ensures in
-    grades w.0 w.1 (rw (c.verdict-1.given.1, ← c.kind_number_lem.ensures) (omega arith))
+    grades w.0 w.1 (rw (c.verdict-1.given.1, ← c.kind_number.ensures) (omega arith))
 
 pub returns-in-Refused : goal.returns-in-Refused
 unfolding marked_number told marked_of

@@ -35,7 +35,7 @@ pub bounds-file-at-in-loop-at-3 : goal.bounds-file-at-in-loop-at-3
 bounds-file-at-in-loop-at-3 c = omega arith
 
 pub question-requires : goal.question-requires
-question-requires c = sym c.passes.ensures ∙ not-true _ c.if-not-passes.true
+question-requires c = sym c.passes.ensures ∙ c.if-not-passes.true
 
 pub returns-then-not-passes : goal.returns-then-not-passes
 returns-then-not-passes c = let file = c.args.file.now in
@@ -52,7 +52,7 @@ loop-at-preserved c = let file = c.args.file.now in
       omega arith,
       omega arith,
       rw c.higher-highest.ensures
-          (one_read file short whole l.at l.highest (omega arith) l.invariant.1 l.invariant.2 (sym c.passes.ensures ∙ not-false _ c.if-not-passes.false)),
+          (one_read file short whole l.at l.highest (omega arith) l.invariant.1 l.invariant.2 (sym c.passes.ensures ∙ c.if-not-passes.false)),
     )
 
 pub overflow_add-result : goal.overflow_add-result

@@ -6,37 +6,37 @@ use Rattle.constraints.proofs.kind_of.Goals as goal
 
 pub returns-in-1 : goal.returns-in-1
 unfolding kind_of pick
-returns-in-1 c = rw c.in-1.keys1
+returns-in-1 c = rw c.in-1.is
 
 pub returns-in-2 : goal.returns-in-2
 unfolding kind_of pick
-returns-in-2 c = rw c.in-2.keys2
+returns-in-2 c = rw c.in-2.is
 
 pub returns-in-3 : goal.returns-in-3
 unfolding kind_of pick
-returns-in-3 c = rw c.in-3.keys3
+returns-in-3 c = rw c.in-3.is
 
 pub returns-in-4 : goal.returns-in-4
 unfolding kind_of pick
-returns-in-4 c = rw c.in-4.keys4
+returns-in-4 c = rw c.in-4.is
 
 pub returns-in-5 : goal.returns-in-5
 unfolding kind_of pick
-returns-in-5 c = rw c.in-5.keys5
+returns-in-5 c = rw c.in-5.is
 
 pub returns-in-6 : goal.returns-in-6
 unfolding kind_of pick
-returns-in-6 c = rw c.in-6.keys6
+returns-in-6 c = rw c.in-6.is
 
 pub returns-in-7 : goal.returns-in-7
 unfolding kind_of pick
-returns-in-7 c = rw c.in-7.keys7
+returns-in-7 c = rw c.in-7.is
 
 pub returns-in-8 : goal.returns-in-8
 unfolding kind_of pick
-returns-in-8 c = rw c.in-8.keys8
+returns-in-8 c = rw c.in-8.is
 
 pub returns-in_default : goal.returns-in_default
 unfolding kind_of pick
-returns-in_default c = let r = c.in_default.rest in
+returns-in_default c = let r = c.in_default-own.rest in
     rw (ne_eqb _ _ r.0.0.0.0.0.0.0.1, ne_eqb _ _ r.0.0.0.0.0.0.1, ne_eqb _ _ r.0.0.0.0.0.1, ne_eqb _ _ r.0.0.0.0.1, ne_eqb _ _ r.0.0.0.1, ne_eqb _ _ r.0.0.1, ne_eqb _ _ r.0.1, ne_eqb _ _ r.1)

@@ -12,18 +12,3 @@ returns-then-position-file c = rw (lt-ltb _ _ c.if-position-file.true, ← c.kin
 pub returns-else-position-file : goal.returns-else-position-file
 unfolding record_at record_of pick
 returns-else-position-file c = rw (le-ltb _ _ c.if-position-file.false)
-
-record_at_spec =
-    goal.UNKNOWN_close
-    (goal.UNKNOWN_spec
-    mul_at
-    shared-slice-read-kind-of
-    kind-of-requires
-    add-t11
-    shared-slice-read-t13
-    add-t15
-    shared-slice-read-t17
-    add-t19
-    shared-slice-read-t21
-    returns
-    returns-2)

@@ -92,7 +92,7 @@ returns-else-not-has c =
     let s = m.before.before.before.before.before.before in
     let o = or_no _ _ apart.if-has-meet.false in
     entered_as _ _ flag.if-apart.true (entered_well _ _ _ _ (λ S q. raised_ready _ s.requires.0.2 _ _ _ _ s.requires.0.0 s.requires.0.1
-    (differ_known _ S _ _ _ q (sym c.has-then-apart.ensures ∙ not-false _ c.if-not-has.false))
+    (differ_known _ S _ _ _ q (sym c.has-then-apart.ensures ∙ c.if-not-has.false))
     (above_small s _) (below_small s _) _ _ below.raise-below.ensures above.raise-above.ensures
     (λ u. false≢true (sym o.0 ∙ m.has.ensures ∙ u))
     (λ k u v. false≢true (sym o.1 ∙ m.meet.ensures ∙ meets_in _ _ k u v)) false (uncrossed rows) refl))

@@ -23,8 +23,8 @@ leaf_small c = let h : Fits w16 c.args.f.leaf = search rules in h.fits
 document_seen : (c : goal.After-on_document) → let shown = c.before.before.before in
     let far = shown.before.before.before.before in
     let s = far.args in
-    c.on_document_lem.result ≡ on_document s.f.root s.f.leaf (bit_and (bit_or (bit_or s.x s.upper) far.union_rows-far.result) (bit_or s.x s.lower)) shown.label_of-shown.result
-document_seen c = c.on_document_lem.ensures
+    c.on_document.result ≡ on_document s.f.root s.f.leaf (bit_and (bit_or (bit_or s.x s.upper) far.union_rows-far.result) (bit_or s.x s.lower)) shown.label_of-shown.result
+document_seen c = c.on_document.ensures
 
 pub returns-then-meet : goal.returns-then-meet
 returns-then-meet c =

@@ -67,11 +67,11 @@ pub returns-then-not-is_met : goal.returns-then-not-is_met
 unfolding marked_of
 returns-then-not-is_met c = let at = c.before.before.before.before in
     ap (λ (k : ℕ). marker_answers (unmet (position at) k)) (record_kind at.found-1.given.0.0)
-    ∙ ap marker_answers (sym (marked_unmet _ _ _ _ _ (spells at) (sym c.is_met.ensures ∙ not-true _ c.if-not-is_met.true)) ∙ at.loop-left.invariant.1)
+    ∙ ap marker_answers (sym (marked_unmet _ _ _ _ _ (spells at) (sym c.is_met.ensures ∙ c.if-not-is_met.true)) ∙ at.loop-left.invariant.1)
 
 pub loop-left-preserved : goal.loop-left-preserved
 loop-left-preserved c = let at = c.before.before.before.before in
-    (search rules, rw (next at) (sym (marked_met _ _ _ _ _ (spells at) (sym c.is_met.ensures ∙ not-false _ c.if-not-is_met.false)) ∙ at.loop-left.invariant.1))
+    (search rules, rw (next at) (sym (marked_met _ _ _ _ _ (spells at) (sym c.is_met.ensures ∙ c.if-not-is_met.false)) ∙ at.loop-left.invariant.1))
 
 pub returns : goal.returns
 unfolding marked_of

@@ -13,4 +13,4 @@ pub returns : goal.returns
 returns c =
     let d = c.before in
     let l = d.before in
-    pass_looked l.pass-p.ensures _ l.label_of-l.ensures (leaf_small l.before.before) _ d.on_document_lem.ensures
+    pass_looked l.pass-p.ensures _ l.label_of-l.ensures (leaf_small l.before.before) _ d.on_document.ensures

@@ -112,7 +112,7 @@ returns-then-not-unlike c =
           let g = seeds m.before.before S s in
           let a = (closes m S s).passed in
           ready _ S _ (ordered_seeded o S g d) (ordered_passed o S g d h.if-o.false a) (ordered_bare o S g d (closes m S s).bare)
-          (ordered_closed o S g d h.if-o.false a u.child_rows-child.ensures u.unlike.ensures (not-true _ c.if-not-unlike.true));
+          (ordered_closed o S g d h.if-o.false a u.child_rows-child.ensures u.unlike.ensures c.if-not-unlike.true);
     }
 
 parent_long : (c : goal.After-transpose-parent) → length c.transpose-parent.result ≡ 16
@@ -131,7 +131,7 @@ loop-p-smaller c =
     let e = (ends h).before.before in
     let t = differing u in
     let l = no_less (p e).pass_bare-p.ensures e.if-p.false in
-    let a = both_grew (rowed h) t.differ_rows-differ.ensures u.child_rows-child.ensures c.transpose-parent.result c.differ_rows-apart.result u.unlike.ensures (not-false _ c.if-not-unlike.false) in
+    let a = both_grew (rowed h) t.differ_rows-differ.ensures u.child_rows-child.ensures c.transpose-parent.result c.differ_rows-apart.result u.unlike.ensures c.if-not-unlike.false in
     let b = weight_most (passing (ordering (p e).pass_bare-p.result.facts h.find_order-o.result t.differ_rows-differ.result) u.child_rows-child.result c.transpose-parent.result c.differ_rows-apart.result)
     (below_small (p e)) (child_small_2 u.before) (before_small_2 h) in
     omega (arith, l, a, b)

@@ -6,7 +6,7 @@ use Rattle.tables.proofs.Loops.{Gathering, gather_none, gather_more, gather_all,
 use Rattle.tables.proofs.meeting.Goals as goal
 
 pub returns-then-c-eq0 : goal.returns-then-c-eq0
-returns-then-c-eq0 c = rw c.if-c-eq0.true (none_meet c.args.t1)
+returns-then-c-eq0 c = rw c.if-c-eq0.true (none_meet c.args.t)
 
 pub loop-y-init : goal.loop-y-init
 loop-y-init c = (search rules, gather_none _)

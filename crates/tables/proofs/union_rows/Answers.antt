@@ -32,7 +32,7 @@ pub loop-left-preserved : goal.loop-left-preserved
 loop-left-preserved c =
     let w = c.before in
     let l = w.before.before in
-    let v : Fits w16 (row l.args.t1 w.lowest-x.result) = search rules in
+    let v : Fits w16 (row l.args.t w.lowest-x.result) = search rules in
     rw (c.rest-left.ensures _ w.lowest-x.ensures) (uniting_more _ _ _ _ _ l.loop-left.invariant w.loop-left-test.true w.lowest-x.ensures v.fits)
 
 pub returns : goal.returns

@@ -30,14 +30,14 @@ pub returns-then-not-all_nameable : goal.returns-then-not-all_nameable
 returns-then-not-all_nameable c =
     let b = c.before.before in
     let e = b.before in
-    no_name (bytes e) (buffer e) (count e) (judged e) b.if-text-lt512.false (sym c.before.all_nameable_lem.ensures ∙ not-true _ c.if-not-all_nameable.true)
+    no_name (bytes e) (buffer e) (count e) (judged e) b.if-text-lt512.false (sym c.before.all_nameable.ensures ∙ c.if-not-all_nameable.true)
 
 pub put_tree-bytes-requires : goal.put_tree-bytes-requires
 put_tree-bytes-requires c =
     let a = c.before.before in
     let b = a.before in
     let e = b.before in
-    (linkable (bytes e) (buffer e) (count e) (judged e), room (bytes e) (buffer e) (count e) (judged e) b.if-text-lt512.false (sym a.all_nameable_lem.ensures ∙ not-false _ c.if-not-all_nameable.false))
+    (linkable (bytes e) (buffer e) (count e) (judged e), room (bytes e) (buffer e) (count e) (judged e) b.if-text-lt512.false (sym a.all_nameable.ensures ∙ c.if-not-all_nameable.false))
 
 pub returns-in-Refused : goal.returns-in-Refused
 returns-in-Refused c =
@@ -52,4 +52,4 @@ returns-else-not-all_nameable c =
     let a = d.before in
     let b = a.before in
     let e = b.before in
-    written (bytes e) (buffer e) (count e) (judged e) b.if-text-lt512.false (sym a.all_nameable_lem.ensures ∙ not-false _ d.if-not-all_nameable.false) p.put_tree-bytes.ensures
+    written (bytes e) (buffer e) (count e) (judged e) b.if-text-lt512.false (sym a.all_nameable.ensures ∙ d.if-not-all_nameable.false) p.put_tree-bytes.ensures

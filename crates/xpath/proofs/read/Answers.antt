@@ -34,7 +34,7 @@ returns-then-not-lines c =
     let t = c.lines in
     let few = c.if-text-gt1024.false in
     let some = c.if-text-eq0.false in
-    bad_answer s b f.if-records-lt1024.false few some t.result t.new.1.1.1.0 t.ensures (not-true _ c.if-not-lines.true)
+    bad_answer s b f.if-records-lt1024.false few some t.result t.new.1.1.1.0 t.ensures c.if-not-lines.true
 
 pub returns-then-sheet-gt16 : goal.returns-then-sheet-gt16
 returns-then-sheet-gt16 c =
@@ -45,7 +45,7 @@ returns-then-sheet-gt16 c =
     let t = c.lines in
     let few = c.if-text-gt1024.false in
     let some = c.if-text-eq0.false in
-    many_answer s b f.if-records-lt1024.false few some t.result t.new.1.1.1.0 t.ensures (not-false _ c.if-not-lines.false) (omega (arith, c.if-sheet-gt16.true))
+    many_answer s b f.if-records-lt1024.false few some t.result t.new.1.1.1.0 t.ensures c.if-not-lines.false (omega (arith, c.if-sheet-gt16.true))
 
 pub overflow_cast-bytes : goal.overflow_cast-bytes
 overflow_cast-bytes c =
@@ -56,7 +56,7 @@ overflow_cast-bytes c =
     let t = c.lines in
     let few = c.if-text-gt1024.false in
     let some = c.if-text-eq0.false in
-    omega (arith, (room s b f.if-records-lt1024.false few some t.result t.new.1.1.1.0 t.ensures (not-false _ c.if-not-lines.false) c.if-sheet-gt16.false).0)
+    omega (arith, (room s b f.if-records-lt1024.false few some t.result t.new.1.1.1.0 t.ensures c.if-not-lines.false c.if-sheet-gt16.false).0)
 
 pub copy-requires : goal.copy-requires
 copy-requires c =
@@ -68,7 +68,7 @@ copy-requires c =
     let few = c.if-text-gt1024.false in
     let some = c.if-text-eq0.false in
     let e = c.before.before in
-    let m = room s b f.if-records-lt1024.false few some t.result t.new.1.1.1.0 t.ensures (not-false _ e.if-not-lines.false) e.if-sheet-gt16.false in
+    let m = room s b f.if-records-lt1024.false few some t.result t.new.1.1.1.0 t.ensures e.if-not-lines.false e.if-sheet-gt16.false in
     (omega (arith, m.0), omega (arith, m.0, m.1), omega (arith, m.0, f.if-records-lt1024.false))
 
 pub shape_of-records : goal.shape_of-records
@@ -92,4 +92,4 @@ returns c =
     let few = c.if-text-gt1024.false in
     let some = c.if-text-eq0.false in
     let e = c.before.before.before.before.before in
-    written_answer s b f.if-records-lt1024.false few some t.result t.new.1.1.1.0 t.ensures (not-false _ e.if-not-lines.false) e.if-sheet-gt16.false c.copy.new.1.1.0 c.copy.ensures
+    written_answer s b f.if-records-lt1024.false few some t.result t.new.1.1.1.0 t.ensures e.if-not-lines.false e.if-sheet-gt16.false c.copy.new.1.1.0 c.copy.ensures
