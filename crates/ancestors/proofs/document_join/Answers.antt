@@ -12,26 +12,42 @@ use Rattle.stages.specs.Found.{join_of, with_below}
 use Rattle.ancestors.specs.Rows.{with_document}
 use Rattle.stages.proofs.Stage.{none_first}
 use Rattle.ancestors.proofs.Document.{none_without_root, none_without_child, none_left, document_first}
+use Rattle.ancestors.proofs.document_join.Lts
+use Rattle.ancestors.proofs.document_join.Tie
+use Rattle.ancestors.proofs.document_join.Reads
 use Rattle.ancestors.proofs.document_join.Goals as goal
+
+-- places of the code, by the names that Rattle gives them
+abbrev After-lowest-r : Type 0
+After-lowest-r = Lts.After-lowest Tie.the-claims Reads.Pre Reads.Post
+
+abbrev After-lowest-y : Type 0
+After-lowest-y = Lts.After-lowest2 Tie.the-claims Reads.Pre Reads.Post
+
+abbrev After-lowest-w : Type 0
+After-lowest-w = Lts.After-lowest3 Tie.the-claims Reads.Pre Reads.Post
+
+abbrev Start : Type 0
+Start = Lts.Start Tie.the-claims Reads.Pre Reads.Post
 
 pub overflow_cast-result-then-w-lt16-2 : goal.overflow_cast-result-then-w-lt16-2
 overflow_cast-result-then-w-lt16-2 c = search rules
 
 -- ---- what each lowest is the lowest of
 
-root : (p : goal.After-lowest-r) → Lowest (bit_and p.args.root p.all-vars.result) p.lowest-r.result
+root : (p : After-lowest-r) → Lowest (bit_and p.args.root p.all-vars.result) p.lowest-r.result
 root p = p.lowest-r.ensures
 
-element : (y : goal.After-lowest-y) → let p = y.before.before in
+element : (y : After-lowest-y) → let p = y.before.before in
     Lowest (bit_and (row p.args.t1 p.lowest-r.result) p.all-vars.result) y.lowest-y.result
 element y = y.lowest-y.ensures
 
-left : (w : goal.After-lowest-w) → let y = w.before.before.before in let a = y.before.before.before in
+left : (w : After-lowest-w) → let y = w.before.before.before in let a = y.before.before.before in
     Lowest (without a.all-vars.result (bit_or a.args.root (row a.args.t2 y.lowest-y.result))) w.lowest-w.result
 left w = subst (λ (k : ℕ). Lowest k w.lowest-w.result) w.except.ensures w.lowest-w.ensures
 
 -- whatever else the tables hold
-abbrev tables : goal.Start → Facts → Facts
+abbrev tables : Start → Facts → Facts
 tables s f = with_document s.args.t1 s.args.root (with_below s.args.t2 f.above f)
 
 pub returns-then-w-lt16 : goal.returns-then-w-lt16

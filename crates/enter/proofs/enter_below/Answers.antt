@@ -15,12 +15,22 @@ use Rattle.tables.proofs.Clashes.{blank_crossed}
 use Rattle.enter.proofs.Apart.{differ_ready, differ_known}
 use Rattle.enter.proofs.Enter.{raised_ready, raised_clash, entered_well, entered_clash, entered_as, clash_entering, follows, entered_same}
 use Rattle.tables.proofs.Tested.{or_no}
+use Rattle.enter.proofs.enter_below.Lts
+use Rattle.enter.proofs.enter_below.Tie
+use Rattle.enter.proofs.enter_below.Reads
 use Rattle.enter.proofs.enter_below.Goals as goal
 
-above_small : (c : goal.Start) (i : ℕ) → get_or c.args.f.above i 0 < 65536
+-- places of the code, by the names that Rattle gives them
+abbrev Start : Type 0
+Start = Lts.Start Tie.the-claims Reads.Pre Reads.Post Tie.handed_clauses
+
+abbrev Joined-not-blank : Type 0
+Joined-not-blank = Lts.Joined2 Tie.the-claims Reads.Pre Reads.Post Tie.handed_clauses
+
+above_small : (c : Start) (i : ℕ) → get_or c.args.f.above i 0 < 65536
 above_small c i = let h : Fits w16 (get_or c.args.f.above i 0) = search rules in h.fits
 
-below_small : (c : goal.Start) (i : ℕ) → get_or c.args.f.below i 0 < 65536
+below_small : (c : Start) (i : ℕ) → get_or c.args.f.below i 0 < 65536
 below_small c i = let h : Fits w16 (get_or c.args.f.below i 0) = search rules in h.fits
 
 pub enter_same-requires : goal.enter_same-requires
@@ -53,7 +63,7 @@ returns-then-crossed c =
     (λ k u v. false≢true (sym o.1 ∙ m.meet.ensures ∙ meets_in _ _ k u v)) _ test.crossed.ensures c.if-crossed.true))
 
 -- before is blank, or was tested
-uncrossed : (c : goal.Joined-not-blank) →
+uncrossed : (c : Joined-not-blank) →
     let above = c.before.before.before in
     Crossed above.args.f.before above.raise-below.result above.raise-above.result false
 uncrossed c =

@@ -8,19 +8,29 @@ use Rattle.meaning.proofs.Tests.{not_yes}
 use Rattle.tables.specs.Rows.{on_document}
 use Rattle.grouping.proofs.Making.{unify_differs, unify_labels, unify_document, unify_well}
 use borrow.Author.Rules.{rules}
+use Rattle.grouping.proofs.unify.Lts
+use Rattle.grouping.proofs.unify.Tie
+use Rattle.grouping.proofs.unify.Reads
 use Rattle.grouping.proofs.unify.Goals as goal
 
-x_small : (c : goal.Start) → c.args.x < 65536
+-- places of the code, by the names that Rattle gives them
+abbrev Start : Type 0
+Start = Lts.Start Tie.the-claims Reads.Pre Reads.Post
+
+abbrev After-on_document : Type 0
+After-on_document = Lts.After-on_document Tie.the-claims Reads.Pre Reads.Post
+
+x_small : (c : Start) → c.args.x < 65536
 x_small c = let h : Fits w16 c.args.x = search rules in h.fits
 
-root_small : (c : goal.Start) → c.args.f.root < 65536
+root_small : (c : Start) → c.args.f.root < 65536
 root_small c = let h : Fits w16 c.args.f.root = search rules in h.fits
 
-leaf_small : (c : goal.Start) → c.args.f.leaf < 65536
+leaf_small : (c : Start) → c.args.f.leaf < 65536
 leaf_small c = let h : Fits w16 c.args.f.leaf = search rules in h.fits
 
 -- the group is tested for a leaf and for a label beside a root
-document_seen : (c : goal.After-on_document) → let shown = c.before.before.before in
+document_seen : (c : After-on_document) → let shown = c.before.before.before in
     let far = shown.before.before.before.before in
     let s = far.args in
     c.on_document.result ≡ on_document s.f.root s.f.leaf (bit_and (bit_or (bit_or s.x s.upper) far.union_rows-far.result) (bit_or s.x s.lower)) shown.label_of-shown.result

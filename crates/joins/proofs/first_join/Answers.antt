@@ -6,28 +6,44 @@ use Rattle.meaning.specs.Constraint.{Fact}
 use Rattle.theory.specs.Search.{first_join}
 use Rattle.tables.specs.Tables.{has, Ready}
 use Rattle.joins.proofs.Stages.{FirstIn, no_kind, next_kind, other_kind}
+use Rattle.joins.proofs.first_join.Lts
+use Rattle.joins.proofs.first_join.Tie
+use Rattle.joins.proofs.first_join.Reads
 use Rattle.joins.proofs.first_join.Goals as goal
+
+-- places of the code, by the names that Rattle gives them
+abbrev After-parent_join-first : Type 0
+After-parent_join-first = Lts.After-parent_join Tie.the-claims Reads.Pre Reads.Post Tie.handed_clauses
+
+abbrev Start : Type 0
+Start = Lts.Start Tie.the-claims Reads.Pre Reads.Post Tie.handed_clauses
+
+abbrev After-chain_join-second : Type 0
+After-chain_join-second = Lts.After-chain_join Tie.the-claims Reads.Pre Reads.Post Tie.handed_clauses
+
+abbrev After-sibling_join-third : Type 0
+After-sibling_join-third = Lts.After-sibling_join Tie.the-claims Reads.Pre Reads.Post Tie.handed_clauses
 
 -- ---- what is found of the kinds that were asked, at the start s
 
-abbrev parents-from : goal.After-parent_join-first → goal.Start
+abbrev parents-from : After-parent_join-first → Start
 parents-from a = a.before.before.before.before
 
-abbrev chains-from : goal.After-chain_join-second → goal.Start
+abbrev chains-from : After-chain_join-second → Start
 chains-from b = parents-from b.before.before.before
 
-abbrev siblings-from : goal.After-sibling_join-third → goal.Start
+abbrev siblings-from : After-sibling_join-third → Start
 siblings-from d = chains-from d.before.before.before.before.before
 
-parents : (a : goal.After-parent_join-first) → let s = parents-from a in
+parents : (a : After-parent_join-first) → let s = parents-from a in
     (S : List Fact) → Ready s.args.n S s.args.f → FirstIn s.args.n (has s.args.f) 1 a.parent_join-first.result
 parents a S w = next_kind _ _ 0 _ _ (no_kind _ _) refl (a.parent_join-first.ensures (parents-from a).args.f S w)
 
-chains : (b : goal.After-chain_join-second) → let s = chains-from b in
+chains : (b : After-chain_join-second) → let s = chains-from b in
     (S : List Fact) → Ready s.args.n S s.args.f → FirstIn s.args.n (has s.args.f) 2 b.chain_join-second.result
 chains b S w = next_kind _ _ 1 _ _ (parents b.before.before.before S w) b.enum_told-1.given.1 (b.chain_join-second.ensures (chains-from b).args.f S w)
 
-siblings : (d : goal.After-sibling_join-third) → let s = siblings-from d in
+siblings : (d : After-sibling_join-third) → let s = siblings-from d in
     (S : List Fact) → Ready s.args.n S s.args.f → FirstIn s.args.n (has s.args.f) 3 d.sibling_join-third.result
 siblings d S w =
     let e = d.before.before.before in

@@ -15,10 +15,17 @@ use Rattle.constraints.specs.Record.{constraint_of}
 use Rattle.answers.specs.Tree.{tree_in, places_in}
 use Rattle.marker.proofs.First.{ahead, ahead_none, marked_end, marked_met, marked_unmet, names_variable, record_kind}
 use Rattle.marker.specs.Verdict.{marked_of}
+use Rattle.marker.proofs.first_unmet.Lts
+use Rattle.marker.proofs.first_unmet.Tie
+use Rattle.marker.proofs.first_unmet.Reads
 use Rattle.marker.proofs.first_unmet.Goals as goal
 
+-- places of the code, by the names that Rattle gives them
+abbrev In-Found-2 : Type 0
+In-Found-2 = Lts.After-found Tie.the-claims Reads.Pre Reads.Post goal.the-invariant-loop-left goal.the-decreases-loop-left Tie.handed_clauses
+
 -- at the record that is found
-module _ (c : goal.In-Found-2) where
+module _ (c : In-Found-2) where
   abbrev file : List ℕ
   file = c.args.constraints.now
 
@@ -53,7 +60,7 @@ returns-in_default c = let l = c.loop-left in
     ap marker_answers (sym (marked_end _ _ _ _ (ended _ _ c.requires.is_accepted _ (omega arith) (sym c.record_at-found.ensures ∙ c.enum_told-1.given.1))) ∙ l.invariant.1)
 
 pub is_met-requires : goal.is_met-requires
-is_met-requires c = let at = c.before.before in
+is_met-requires c = let at = c.before.before.before in
     let sets = at.before.before.before.before.before in
     let p = at.requires in
     record {
@@ -65,17 +72,17 @@ is_met-requires c = let at = c.before.before in
 
 pub returns-then-not-is_met : goal.returns-then-not-is_met
 unfolding marked_of
-returns-then-not-is_met c = let at = c.before.before.before.before in
+returns-then-not-is_met c = let at = c.before.before.before.before.before in
     ap (λ (k : ℕ). marker_answers (unmet (position at) k)) (record_kind at.found-1.given.0.0)
     ∙ ap marker_answers (sym (marked_unmet _ _ _ _ _ (spells at) (sym c.is_met.ensures ∙ c.if-not-is_met.true)) ∙ at.loop-left.invariant.1)
 
 pub loop-left-preserved : goal.loop-left-preserved
-loop-left-preserved c = let at = c.before.before.before.before in
+loop-left-preserved c = let at = c.before.before.before.before.before in
     (search rules, rw (next at) (sym (marked_met _ _ _ _ _ (spells at) (sym c.is_met.ensures ∙ c.if-not-is_met.false)) ∙ at.loop-left.invariant.1))
 
 pub returns : goal.returns
 unfolding marked_of
 returns c = let l = c.loop-left in
     let e = c.loop-left-test.false in
-    let start = c.before.before.before.before.before.before.before in
+    let start = c.before.before.before.before.before.before.before.before in
     ap marker_answers (sym (marked_end _ _ _ _ (no_more _ _ start.requires.is_accepted (length start.args.constraints.now / 4 - l.left) (omega arith))) ∙ l.invariant.1)

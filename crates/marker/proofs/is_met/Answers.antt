@@ -15,10 +15,17 @@ use Rattle.constraints.specs.declared.Kind.{Kind}
 use Rattle.constraints.specs.declared.Kind.TheVariants.{Child, Below, StrictlyBelow, Before}
 use Rattle.marker.proofs.Named.{x_named, y_named}
 use Rattle.marker.proofs.Tests.{not_neg, and_neg_true, and_neg_false}
+use Rattle.marker.proofs.is_met.Lts
+use Rattle.marker.proofs.is_met.Tie
+use Rattle.marker.proofs.is_met.Reads
 use Rattle.marker.proofs.is_met.Goals as goal
 
+-- places of the code, by the names that Rattle gives them
+abbrev After-node_of-y : Type 0
+After-node_of-y = Lts.After-node_of2 Tie.the-claims Reads.Pre Reads.Post Tie.handed_clauses
+
 -- the nodes of the variables that the constraint names are in the tree
-module _ (c : goal.After-node_of-y) where
+module _ (c : After-node_of-y) where
   abbrev constraint : Record
   constraint = c.args.constraint
 
@@ -40,22 +47,22 @@ module _ (c : goal.After-node_of-y) where
 
 pub is_parent-requires : goal.is_parent-requires
 unfolding named constraint_as
-is_parent-requires c = y_inside c.before.before Child c.enum_told-1.given.1 (omega arith)
+is_parent-requires c = y_inside c.before.before.before Child c.enum_told-1.given.1 (omega arith)
 
 pub at_or_above-requires : goal.at_or_above-requires
 unfolding named constraint_as
-at_or_above-requires c = both_small c.before.before Below c.enum_told-in-Below-1.given.1 (omega arith)
+at_or_above-requires c = both_small c.before.before.before Below c.enum_told-in-Below-1.given.1 (omega arith)
 
 pub at_or_above-requires-else-same_node : goal.at_or_above-requires-else-same_node
 unfolding named constraint_as
-at_or_above-requires-else-same_node c = both_small c.before.before.before.before StrictlyBelow c.enum_told-in-StrictlyBelow-1.given.1 (omega arith)
+at_or_above-requires-else-same_node c = both_small c.before.before.before.before.before StrictlyBelow c.enum_told-in-StrictlyBelow-1.given.1 (omega arith)
 
 pub has-requires : goal.has-requires
-has-requires c = x_small c.before.before
+has-requires c = x_small c.before.before.before
 
 pub earlier_sibling-requires : goal.earlier_sibling-requires
 unfolding named constraint_as
-earlier_sibling-requires c = (x_inside c.before.before, y_inside c.before.before Before c.enum_told-in-Before-1.given.1 (omega arith))
+earlier_sibling-requires c = (x_inside c.before.before.before, y_inside c.before.before.before Before c.enum_told-in-Before-1.given.1 (omega arith))
 
 pub returns-in-Child : goal.returns-in-Child
 unfolding meetsb constraint_of constraint_as
@@ -63,7 +70,7 @@ returns-in-Child c = rw (c.enum_told-1.given.1, ← c.node_of-x.ensures, ← c.n
 
 pub returns-in-Below : goal.returns-in-Below
 unfolding meetsb constraint_of constraint_as named
-returns-in-Below c = rw (c.enum_told-in-Below-1.given.1, ← c.node_of-x.ensures, ← c.node_of-y.ensures) (c.at_or_above.ensures ∙ c.requires.ancestors _ _ (y_inside c.before.before.before Below c.enum_told-in-Below-1.given.1 (omega arith)))
+returns-in-Below c = rw (c.enum_told-in-Below-1.given.1, ← c.node_of-x.ensures, ← c.node_of-y.ensures) (c.at_or_above.ensures ∙ c.requires.ancestors _ _ (y_inside c.before.before.before.before Below c.enum_told-in-Below-1.given.1 (omega arith)))
 
 pub returns-then-same_node : goal.returns-then-same_node
 unfolding meetsb constraint_of constraint_as
@@ -71,7 +78,7 @@ returns-then-same_node c = rw (c.enum_told-in-StrictlyBelow-1.given.1, ← c.nod
 
 pub returns-else-same_node : goal.returns-else-same_node
 unfolding meetsb constraint_of constraint_as named
-returns-else-same_node c = rw (c.enum_told-in-StrictlyBelow-1.given.1, ← c.node_of-x.ensures, ← c.node_of-y.ensures) (c.at_or_above-else-same_node.ensures ∙ c.requires.ancestors _ _ (y_inside c.before.before.before.before.before StrictlyBelow c.enum_told-in-StrictlyBelow-1.given.1 (omega arith)) ∙ and_neg_false _ _ (sym c.same_node.ensures ∙ c.if-same_node.false))
+returns-else-same_node c = rw (c.enum_told-in-StrictlyBelow-1.given.1, ← c.node_of-x.ensures, ← c.node_of-y.ensures) (c.at_or_above-else-same_node.ensures ∙ c.requires.ancestors _ _ (y_inside c.before.before.before.before.before.before StrictlyBelow c.enum_told-in-StrictlyBelow-1.given.1 (omega arith)) ∙ and_neg_false _ _ (sym c.same_node.ensures ∙ c.if-same_node.false))
 
 pub returns-in-Same : goal.returns-in-Same
 unfolding meetsb constraint_of constraint_as

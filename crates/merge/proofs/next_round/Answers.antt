@@ -6,12 +6,22 @@ use mir.Val.{Fits}
 use mir.Syntax.{w16}
 use borrow.Author.Rules.{rules}
 use Rattle.merge.proofs.Rounds.{round_refused, round_blank, round_crossed, round_passed}
+use Rattle.merge.proofs.next_round.Lts
+use Rattle.merge.proofs.next_round.Tie
+use Rattle.merge.proofs.next_round.Reads
 use Rattle.merge.proofs.next_round.Goals as goal
 
-group_small : (c : goal.After-unify-r) → c.unify-r.result.group < 65536
+-- places of the code, by the names that Rattle gives them
+abbrev After-unify-r : Type 0
+After-unify-r = Lts.After-unify Tie.the-claims Reads.Pre Reads.Post
+
+abbrev Start : Type 0
+Start = Lts.Start Tie.the-claims Reads.Pre Reads.Post
+
+group_small : (c : After-unify-r) → c.unify-r.result.group < 65536
 group_small c = let h : Fits w16 c.unify-r.result.group = search rules in h.fits
 
-after_small : (c : goal.Start) (i : ℕ) → get_or c.args.f.after i 0 < 65536
+after_small : (c : Start) (i : ℕ) → get_or c.args.f.after i 0 < 65536
 after_small c i = let h : Fits w16 (get_or c.args.f.after i 0) = search rules in h.fits
 
 pub returns-then-r : goal.returns-then-r

@@ -11,21 +11,34 @@ use Rattle.tables.proofs.Members.{lowest_in}
 use Rattle.merge.specs.Rows.{Chained, WithGap}
 use Rattle.merge.proofs.Loops.{none_apart, none_union, one_union}
 use borrow.Author.Rules.{rules}
+use Rattle.merge.proofs.next_set.Lts
+use Rattle.merge.proofs.next_set.Tie
+use Rattle.merge.proofs.next_set.Reads
 use Rattle.merge.proofs.next_set.Goals as goal
 
+-- places of the code, by the names that Rattle gives them
+abbrev After-with_gap-next : Type 0
+After-with_gap-next = Lts.After-with_gap Tie.the-claims Reads.Pre Reads.Post
+
+abbrev After-with_gap : Type 0
+After-with_gap = Lts.After-with_gap2 Tie.the-claims Reads.Pre Reads.Post
+
+abbrev After-lowest-x : Type 0
+After-lowest-x = Lts.After-lowest Tie.the-claims Reads.Pre Reads.Post
+
 -- the parents are looked at, and where they are the same the children of the lowest root
-parents_seen : (c : goal.After-with_gap-next) → let s = c.args in Chained s.below s.above → WithGap s.below s.parents c.with_gap-next.result
+parents_seen : (c : After-with_gap-next) → let s = c.args in Chained s.below s.above → WithGap s.below s.parents c.with_gap-next.result
 parents_seen c h = c.with_gap-next.ensures h
 
-elements_seen : (c : goal.After-with_gap) → let l = c.before in
+elements_seen : (c : After-with_gap) → let l = c.before in
     let s = l.args in
     Chained s.below s.above → WithGap s.below (row s.t3 l.lowest-x.result) c.with_gap.result
 elements_seen c h = c.with_gap.ensures h
 
-variable_in : (c : goal.After-lowest-x) → c.lowest-x.result < 16
+variable_in : (c : After-lowest-x) → c.lowest-x.result < 16
 variable_in c = lowest_in _ _ c.ranges.root.fits c.if-root-eq0.false c.lowest-x.ensures
 
-row_small : (c : goal.After-lowest-x) → row c.args.t3 c.lowest-x.result < 65536
+row_small : (c : After-lowest-x) → row c.args.t3 c.lowest-x.result < 65536
 row_small c = let h : Fits w16 (get_or c.args.t3 c.lowest-x.result 0) = search rules in h.fits
 
 pub returns-then-next-ne0 : goal.returns-then-next-ne0

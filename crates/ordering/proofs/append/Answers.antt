@@ -5,14 +5,30 @@ use Rattle.tables.specs.Rows.{without}
 use Rattle.ordering.specs.Listing.{groups, Earliest}
 use Rattle.ordering.proofs.Listing.{length_mapped, Appending, next_in_lem, rest_less, appending_room, appending_more, appending_all}
 use borrow.Author.Rules.{rules}
+use Rattle.ordering.proofs.append.Lts
+use Rattle.ordering.proofs.append.Tie
+use Rattle.ordering.proofs.append.Reads
 use Rattle.ordering.proofs.append.Goals as goal
 
+-- places of the code, by the names that Rattle gives them
+abbrev After-earliest-x : Type 0
+After-earliest-x = Lts.After-earliest Tie.the-claims Reads.Pre Reads.Post goal.the-invariant-loop-rest goal.the-decreases-loop-rest
+
+abbrev At-loop-rest : Type 0
+At-loop-rest = Lts.At-loop Tie.the-claims Reads.Pre Reads.Post goal.the-invariant-loop-rest goal.the-decreases-loop-rest
+
+abbrev Start : Type 0
+Start = Lts.Start Tie.the-claims Reads.Pre Reads.Post goal.the-invariant-loop-rest goal.the-decreases-loop-rest
+
+abbrev After-except-rest : Type 0
+After-except-rest = Lts.After-except Tie.the-claims Reads.Pre Reads.Post goal.the-invariant-loop-rest goal.the-decreases-loop-rest
+
 -- a turn: the earliest number of the rest is a variable, and there is room for it
-module _ (c : goal.After-earliest-x) where
-  abbrev i : goal.At-loop-rest
+module _ (c : After-earliest-x) where
+  abbrev i : At-loop-rest
   i = c.before.before
 
-  abbrev s : goal.Start
+  abbrev s : Start
   s = i.before
 
   next : Earliest s.args.after i.loop-rest.rest c.earliest-x.result
@@ -24,7 +40,7 @@ module _ (c : goal.After-earliest-x) where
   room : i.loop-rest.o.len < 16
   room = appending_room i.loop-rest.invariant s.requires.1 _ next
 
-left_is : (c : goal.After-except-rest) → c.except-rest.result ≡ without (i c.before.before).loop-rest.rest (2 ^ c.earliest-x.result)
+left_is : (c : After-except-rest) → c.except-rest.result ≡ without (i c.before.before).loop-rest.rest (2 ^ c.earliest-x.result)
 left_is c = c.except-rest.ensures ∙ ap (without (i c.before.before).loop-rest.rest) c.one.ensures
 
 pub loop-rest-init : goal.loop-rest-init

@@ -4,9 +4,16 @@ use mir.Val.{Fits}
 use mir.Syntax.{w16}
 use borrow.Author.Rules.{rules}
 use Rattle.passes.proofs.Final.{Start, ended_well, ended_clash}
+use Rattle.passes.proofs.pass.Lts
+use Rattle.passes.proofs.pass.Tie
+use Rattle.passes.proofs.pass.Reads
 use Rattle.passes.proofs.pass.Goals as goal
 
-started : (c : goal.After-find_groups-groups) → let a = c.before.before.before.before.before.before.before.before in Start a.args.n a.args.f c.find_groups-groups.result
+-- places of the code, by the names that Rattle gives them
+abbrev After-find_groups-groups : Type 0
+After-find_groups-groups = Lts.After-find_groups Tie.the-claims Reads.Pre Reads.Post
+
+started : (c : After-find_groups-groups) → let a = c.before.before.before.before.before.before.before.before in Start a.args.n a.args.f c.find_groups-groups.result
 started c =
     let a = c.before.before.before.before.before.before.before.before in
     record {

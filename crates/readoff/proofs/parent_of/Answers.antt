@@ -11,10 +11,17 @@ use Rattle.tables.proofs.Helpers.{pick_on, pick_off}
 use Rattle.ordering.proofs.Listing.{length_mapped}
 use Rattle.readoff.proofs.Places.{place_most}
 use borrow.Author.Rules.{rules}
+use Rattle.readoff.proofs.parent_of.Lts
+use Rattle.readoff.proofs.parent_of.Tie
+use Rattle.readoff.proofs.parent_of.Reads
 use Rattle.readoff.proofs.parent_of.Goals as goal
 
+-- places of the code, by the names that Rattle gives them
+abbrev Start : Type 0
+Start = Lts.Start Tie.the-claims Reads.Pre Reads.Post
+
 -- where no group is over, the parent is the blank element, if it stands
-on_top : (s : goal.Start) → bit_and s.args.over s.args.lows ≡ 0
+on_top : (s : Start) → bit_and s.args.over s.args.lows ≡ 0
     → s.args.element ≡ parent_in s.args.below s.args.above s.args.lows s.args.element (groups s.args.order) s.args.over
 unfolding parent_in
 on_top s none = pick_on _ _ _ (eq_yes none)

@@ -11,13 +11,23 @@ use Rattle.ordering.proofs.Listing.{length_mapped, inside_at}
 use Rattle.readoff.proofs.Numbering.{numbered_later, numbered_fits}
 use Rattle.readoff.proofs.Written.{recorded_none, recorded_more, recorded_all, group_record_lem}
 use borrow.Author.Rules.{rules}
+use Rattle.readoff.proofs.put_nodes.Lts
+use Rattle.readoff.proofs.put_nodes.Tie
+use Rattle.readoff.proofs.put_nodes.Reads
 use Rattle.readoff.proofs.put_nodes.Goals as goal
 
-order_long : (s : goal.Start) → length s.args.t2.group ≡ 16
+-- places of the code, by the names that Rattle gives them
+abbrev Start : Type 0
+Start = Lts.Start Tie.the-claims Reads.Pre Reads.Post goal.the-invariant-loop-i goal.the-decreases-loop-i
+
+abbrev After-struct_known-1 : Type 0
+After-struct_known-1 = Lts.After-struct_known Tie.the-claims Reads.Pre Reads.Post goal.the-invariant-loop-i goal.the-decreases-loop-i
+
+order_long : (s : Start) → length s.args.t2.group ≡ 16
 order_long s = search (rules, length_mapped)
 
 -- the group that is looked at is a variable
-variable_in : (c : goal.After-struct_known-1) → let i = c.before.before.before in (get_or i.args.t2.group i.loop-i.i record { 0 = 0 }).0 < 16
+variable_in : (c : After-struct_known-1) → let i = c.before.before.before in (get_or i.args.t2.group i.loop-i.i record { 0 = 0 }).0 < 16
 variable_in c =
     let i = c.before.before.before in
     let s = i.before.before in
@@ -60,7 +70,7 @@ put_node-requires c =
 
 pub loop-i-preserved : goal.loop-i-preserved
 loop-i-preserved c =
-    let a = c.before.before.before in
+    let a = c.before.before.before.before in
     let p = a.before.before in
     let l = p.before.before.before.before in
     let i = l.before in

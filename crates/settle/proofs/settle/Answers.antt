@@ -13,24 +13,61 @@ use Rattle.tables.specs.Tables.{row, Seeded}
 use Rattle.passes.specs.Steps.{weight, BareRules}
 use Rattle.settle.proofs.Sibling.{Rowed, ordering, passing, ordered_clash, ordered_seeded, ordered_passed, ordered_bare, ordered_closed, both_seeded, both_grew, no_siblings}
 use Rattle.settle.proofs.Ending.{ready, grew, no_less, weight_most}
+use Rattle.settle.proofs.settle.Lts
+use Rattle.settle.proofs.settle.Tie
+use Rattle.settle.proofs.settle.Reads
 use Rattle.settle.proofs.settle.Goals as goal
 
+-- places of the code, by the names that Rattle gives them
+abbrev Else-p : Type 0
+Else-p = Lts.Else1 Tie.the-claims Reads.Pre Reads.Post goal.the-invariant-loop-p goal.the-decreases-loop-p Tie.handed_clauses
+
+abbrev After-pass_bare-p : Type 0
+After-pass_bare-p = Lts.After-pass_bare Tie.the-claims Reads.Pre Reads.Post goal.the-invariant-loop-p goal.the-decreases-loop-p Tie.handed_clauses
+
+abbrev Start : Type 0
+Start = Lts.Start Tie.the-claims Reads.Pre Reads.Post goal.the-invariant-loop-p goal.the-decreases-loop-p Tie.handed_clauses
+
+abbrev After-blank : Type 0
+After-blank = Lts.After-blank Tie.the-claims Reads.Pre Reads.Post goal.the-invariant-loop-p goal.the-decreases-loop-p Tie.handed_clauses
+
+abbrev Else-p-2 : Type 0
+Else-p-2 = Lts.Else2 Tie.the-claims Reads.Pre Reads.Post goal.the-invariant-loop-p goal.the-decreases-loop-p Tie.handed_clauses
+
+abbrev After-find_order-o : Type 0
+After-find_order-o = Lts.After-find_order Tie.the-claims Reads.Pre Reads.Post goal.the-invariant-loop-p goal.the-decreases-loop-p Tie.handed_clauses
+
+abbrev After-unlike : Type 0
+After-unlike = Lts.After-unlike Tie.the-claims Reads.Pre Reads.Post goal.the-invariant-loop-p goal.the-decreases-loop-p Tie.handed_clauses
+
+abbrev After-differ_rows-differ : Type 0
+After-differ_rows-differ = Lts.After-differ_rows Tie.the-claims Reads.Pre Reads.Post goal.the-invariant-loop-p goal.the-decreases-loop-p Tie.handed_clauses
+
+abbrev Else-o : Type 0
+Else-o = Lts.Else4 Tie.the-claims Reads.Pre Reads.Post goal.the-invariant-loop-p goal.the-decreases-loop-p Tie.handed_clauses
+
+abbrev After-transpose-parent : Type 0
+After-transpose-parent = Lts.After-transpose Tie.the-claims Reads.Pre Reads.Post goal.the-invariant-loop-p goal.the-decreases-loop-p Tie.handed_clauses
+
+abbrev After-child_rows-child : Type 0
+After-child_rows-child = Lts.After-child_rows Tie.the-claims Reads.Pre Reads.Post goal.the-invariant-loop-p goal.the-decreases-loop-p Tie.handed_clauses
+
 -- after a pass without a clash
-module _ (c : goal.Else-p) where
-  abbrev p : goal.After-pass_bare-p
+module _ (c : Else-p) where
+  abbrev p : After-pass_bare-p
   p = c.before
 
-  abbrev start : goal.Start
+  abbrev start : Start
   start = p.before.before
 
   pub seeds : (S : List Fact) → Seeded start.args.n S start.args.f → Seeded start.args.n S p.pass_bare-p.result.facts
   seeds S s = p.pass_bare-p.ensures.seeded c.if-p.false S (p.loop-p.invariant S s)
 
 -- and with no more
-abbrev passed : goal.After-blank → goal.Else-p-2
+abbrev passed : After-blank → Else-p-2
 passed c = c.before.before
 
-closes : (c : goal.Else-p-2) (S : List Fact) → let e = c.before.before in Seeded (start e).args.n S (start e).args.f → BareRules (start e).args.n (p e).pass_bare-p.result.facts
+closes : (c : Else-p-2) (S : List Fact) → let e = c.before.before in Seeded (start e).args.n S (start e).args.f → BareRules (start e).args.n (p e).pass_bare-p.result.facts
 closes c S s = let e = c.before.before in (p e).pass_bare-p.ensures.closed e.if-p.false c.if-p-2.false S ((p e).loop-p.invariant S s)
 
 pub loop-p-init : goal.loop-p-init
@@ -43,13 +80,13 @@ returns-then-p c = record {
   settles = λ e. absurd (false≢true (sym e));
 }
 
-below_small : (c : goal.After-pass_bare-p) (i : ℕ) → row c.pass_bare-p.result.facts.below i < 65536
+below_small : (c : After-pass_bare-p) (i : ℕ) → row c.pass_bare-p.result.facts.below i < 65536
 below_small c i = let h : Fits w16 (get_or c.pass_bare-p.result.facts.below i 0) = search rules in h.fits
 
-child_small : (c : goal.After-pass_bare-p) (i : ℕ) → row c.pass_bare-p.result.facts.child i < 65536
+child_small : (c : After-pass_bare-p) (i : ℕ) → row c.pass_bare-p.result.facts.child i < 65536
 child_small c i = let h : Fits w16 (get_or c.pass_bare-p.result.facts.child i 0) = search rules in h.fits
 
-before_small : (c : goal.After-pass_bare-p) (i : ℕ) → row c.pass_bare-p.result.facts.before i < 65536
+before_small : (c : After-pass_bare-p) (i : ℕ) → row c.pass_bare-p.result.facts.before i < 65536
 before_small c i = let h : Fits w16 (get_or c.pass_bare-p.result.facts.before i 0) = search rules in h.fits
 
 pub loop-p-smaller-then-p-2 : goal.loop-p-smaller-then-p-2
@@ -75,10 +112,10 @@ returns-then-blank c =
     }
 
 -- where before was shared and chained
-abbrev ends : goal.After-find_order-o → goal.Else-p-2
+abbrev ends : After-find_order-o → Else-p-2
 ends c = passed c.before.before.before.before
 
-rowed : (c : goal.After-find_order-o) → let e = (ends c).before.before in Rowed (start e).args.n (p e).pass_bare-p.result.facts c.find_order-o.result
+rowed : (c : After-find_order-o) → let e = (ends c).before.before in Rowed (start e).args.n (p e).pass_bare-p.result.facts c.find_order-o.result
 rowed c =
     let m = ends c in
     let s = (start m.before.before).requires in
@@ -92,10 +129,10 @@ returns-then-o c = record {
 }
 
 -- and child passed along it
-abbrev differing : goal.After-unlike → goal.After-differ_rows-differ
+abbrev differing : After-unlike → After-differ_rows-differ
 differing c = c.before.before.before
 
-abbrev free : goal.After-unlike → goal.Else-o
+abbrev free : After-unlike → Else-o
 free c = (differing c).before.before.before.before
 
 pub returns-then-not-unlike : goal.returns-then-not-unlike
@@ -115,13 +152,13 @@ returns-then-not-unlike c =
           (ordered_closed o S g d h.if-o.false a u.child_rows-child.ensures u.unlike.ensures c.if-not-unlike.true);
     }
 
-parent_long : (c : goal.After-transpose-parent) → length c.transpose-parent.result ≡ 16
+parent_long : (c : After-transpose-parent) → length c.transpose-parent.result ≡ 16
 parent_long c = search rules
 
-child_small_2 : (c : goal.After-child_rows-child) (i : ℕ) → row c.child_rows-child.result i < 65536
+child_small_2 : (c : After-child_rows-child) (i : ℕ) → row c.child_rows-child.result i < 65536
 child_small_2 c i = let h : Fits w16 (get_or c.child_rows-child.result i 0) = search rules in h.fits
 
-before_small_2 : (c : goal.After-find_order-o) (i : ℕ) → row c.find_order-o.result.before i < 65536
+before_small_2 : (c : After-find_order-o) (i : ℕ) → row c.find_order-o.result.before i < 65536
 before_small_2 c i = let h : Fits w16 (get_or c.find_order-o.result.before i 0) = search rules in h.fits
 
 pub loop-p-smaller : goal.loop-p-smaller

@@ -15,24 +15,46 @@ use Rattle.tables.proofs.Members.{passed_none, passed_less, next_in_lem, next_na
 use Rattle.sharing.specs.Shares.{Clashing, two_labels, apart}
 use Rattle.sharing.proofs.Taking.{Zs, Ys, grown_none, taking_none, added, z_step, y_step}
 use Rattle.sharing.proofs.Passing.{Passing, passing_none, passing_more, share_of, shared_rows, shared_clash}
+use Rattle.sharing.proofs.share_rows.Lts
+use Rattle.sharing.proofs.share_rows.Tie
+use Rattle.sharing.proofs.share_rows.Reads
 use Rattle.sharing.proofs.share_rows.Goals as goal
 
-y_small : (c : goal.After-lowest-y) → c.lowest-y.result < 16
+-- places of the code, by the names that Rattle gives them
+abbrev After-lowest-y : Type 0
+After-lowest-y = Lts.After-lowest Tie.the-claims Reads.Pre Reads.Post goal.the-invariant-loop-zs goal.the-decreases-loop-zs goal.the-invariant-loop-ys goal.the-decreases-loop-ys goal.the-invariant-pass goal.the-decreases-pass
+
+abbrev At-loop-zs : Type 0
+At-loop-zs = Lts.At-loop2 Tie.the-claims Reads.Pre Reads.Post goal.the-invariant-loop-zs goal.the-decreases-loop-zs goal.the-invariant-loop-ys goal.the-decreases-loop-ys goal.the-invariant-pass goal.the-decreases-pass
+
+abbrev After-lowest-z : Type 0
+After-lowest-z = Lts.After-lowest2 Tie.the-claims Reads.Pre Reads.Post goal.the-invariant-loop-zs goal.the-decreases-loop-zs goal.the-invariant-loop-ys goal.the-decreases-loop-ys goal.the-invariant-pass goal.the-decreases-pass
+
+abbrev At-loop-ys : Type 0
+At-loop-ys = Lts.At-loop Tie.the-claims Reads.Pre Reads.Post goal.the-invariant-loop-zs goal.the-decreases-loop-zs goal.the-invariant-loop-ys goal.the-decreases-loop-ys goal.the-invariant-pass goal.the-decreases-pass
+
+abbrev In-pass : Type 0
+In-pass = Lts.In-pass Tie.the-claims Reads.Pre Reads.Post goal.the-invariant-loop-zs goal.the-decreases-loop-zs goal.the-invariant-loop-ys goal.the-decreases-loop-ys goal.the-invariant-pass goal.the-decreases-pass
+
+abbrev Start : Type 0
+Start = Lts.Start Tie.the-claims Reads.Pre Reads.Post goal.the-invariant-loop-zs goal.the-decreases-loop-zs goal.the-invariant-loop-ys goal.the-decreases-loop-ys goal.the-invariant-pass goal.the-decreases-pass
+
+y_small : (c : After-lowest-y) → c.lowest-y.result < 16
 y_small c = next_in_lem _ _ _ _ c.loop-ys.invariant.1.1 c.loop-ys-test.true c.lowest-y.ensures
 
-abbrev at_y : goal.At-loop-zs → goal.After-lowest-y
+abbrev at_y : At-loop-zs → After-lowest-y
 at_y c = c.before.before.before.before.before.before.before.before
 
-z_small : (c : goal.After-lowest-z) → c.lowest-z.result < 16
+z_small : (c : After-lowest-z) → c.lowest-z.result < 16
 z_small c = next_in_lem _ _ _ _ c.loop-zs.invariant.1.1 c.loop-zs-test.true c.lowest-z.ensures
 
-abbrev at_x : goal.At-loop-ys → goal.In-pass
+abbrev at_x : At-loop-ys → In-pass
 at_x c = c.before.before
 
-x_small : (c : goal.In-pass) → c.pass.x < 16
+x_small : (c : In-pass) → c.pass.x < 16
 x_small c = omega (arith, c.pass-test.true, c.requires)
 
-visits_small : (c : goal.Start) (i v : ℕ) → bit_and (row c.args.t1.differ i) v < 65536
+visits_small : (c : Start) (i v : ℕ) → bit_and (row c.args.t1.differ i) v < 65536
 visits_small c i v =
     let h : Fits w16 (get_or c.args.t1.differ i 0) = search rules in
     omega (arith, h.fits, and_le_l (row c.args.t1.differ i) v)
