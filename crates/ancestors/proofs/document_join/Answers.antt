@@ -39,16 +39,16 @@ root : (p : After-lowest-r) → Lowest (bit_and p.args.root p.all-vars.result) p
 root p = p.lowest-r.ensures
 
 element : (y : After-lowest-y) → let p = y.before.before in
-    Lowest (bit_and (row p.args.t1 p.lowest-r.result) p.all-vars.result) y.lowest-y.result
+    Lowest (bit_and (row p.args.child p.lowest-r.result) p.all-vars.result) y.lowest-y.result
 element y = y.lowest-y.ensures
 
 left : (w : After-lowest-w) → let y = w.before.before.before in let a = y.before.before.before in
-    Lowest (without a.all-vars.result (bit_or a.args.root (row a.args.t2 y.lowest-y.result))) w.lowest-w.result
+    Lowest (without a.all-vars.result (bit_or a.args.root (row a.args.below y.lowest-y.result))) w.lowest-w.result
 left w = subst (λ (k : ℕ). Lowest k w.lowest-w.result) w.except.ensures w.lowest-w.ensures
 
 -- whatever else the tables hold
 abbrev tables : Start → Facts → Facts
-tables s f = with_document s.args.t1 s.args.root (with_below s.args.t2 f.above f)
+tables s f = with_document s.args.child s.args.root (with_below s.args.below f.above f)
 
 pub returns-then-w-lt16 : goal.returns-then-w-lt16
 unfolding join_of

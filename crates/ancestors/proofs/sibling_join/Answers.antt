@@ -16,7 +16,7 @@ pub returns-then-blank : goal.returns-then-blank
 returns-then-blank c = λ f.
     let b = c.before in
     let s = b.before in
-    none_ordered _ s.requires (with_before s.args.t1 s.args.t2 (with_below s.args.t3 s.args.t4 f)) _ b.blank.ensures c.if-blank.true
+    none_ordered _ s.requires (with_before s.args.before s.args.after (with_below s.args.below s.args.above f)) _ b.blank.ensures c.if-blank.true
 
 pub loop-y-init : goal.loop-y-init
 loop-y-init c = (search rules, λ f S r k x y l. absurd (not-suc-le-zero l))
@@ -31,7 +31,7 @@ returns-then-a-lt16 c =
     let s = m.before.before.before in
     let x-is = subst (λ (k : ℕ). Lowest k c.lowest-x.result) c.except-then-a-lt16.ensures c.lowest-x.ensures in
     λ f.
-    sibling_first _ s.requires (with_before s.args.t1 s.args.t2 (with_below s.args.t3 s.args.t4 f)) _ m.all-vars.ensures _ i.loop-y-test.true
+    sibling_first _ s.requires (with_before s.args.before s.args.after (with_below s.args.below s.args.above f)) _ m.all-vars.ensures _ i.loop-y-test.true
     _ l.except.ensures _ l.missing.ensures _ l.lowest-a.ensures t.if-a-lt16.true _ x-is (i.loop-y.invariant.1 f)
 
 pub loop-y-preserved : goal.loop-y-preserved
@@ -41,7 +41,7 @@ loop-y-preserved c =
     let s = m.before.before.before in (
       search rules,
       λ f.
-          let g = with_before s.args.t1 s.args.t2 (with_below s.args.t3 s.args.t4 f) in
+          let g = with_before s.args.before s.args.after (with_below s.args.below s.args.above f) in
           none_more sibling-join _ g _ (i.loop-y.invariant.1 f)
           (⊎_elim
           (λ w. none_missing _ s.requires g _ m.all-vars.ensures _ i.loop-y-test.true _ w.1.ensures _ w.2.ensures _ w.3.ensures w.4.left)
@@ -52,4 +52,4 @@ loop-y-preserved c =
 pub returns : goal.returns
 returns c = λ f.
     let s = c.before.before.before.before.before in
-    none_first sibling-join _ (with_before s.args.t1 s.args.t2 (with_below s.args.t3 s.args.t4 f)) _ c.loop-y-test.false (c.loop-y.invariant.1 f)
+    none_first sibling-join _ (with_before s.args.before s.args.after (with_below s.args.below s.args.above f)) _ c.loop-y-test.false (c.loop-y.invariant.1 f)

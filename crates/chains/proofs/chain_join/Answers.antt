@@ -26,7 +26,7 @@ returns-then-x-lt16 c =
     let s = r.before in
     let h : Fits w16 (get_or r.incomparable_rows-apart.result l.lowest-x.result 0) = search rules in
     λ f.
-    chain_first _ s.requires (with_below s.args.t1 s.args.t2 f) _ s.all-vars.ensures r.incomparable_rows-apart.result r.incomparable_rows-apart.ensures _ i.loop-z-test.true _ m.meeting.ensures
+    chain_first _ s.requires (with_below s.args.below s.args.above f) _ s.all-vars.ensures r.incomparable_rows-apart.result r.incomparable_rows-apart.ensures _ i.loop-z-test.true _ m.meeting.ensures
     _ l.lowest-x.ensures c.if-x-lt16.true h.fits _ c.lowest-y.ensures (i.loop-z.invariant.1 f)
 
 pub loop-z-preserved : goal.loop-z-preserved
@@ -38,7 +38,7 @@ loop-z-preserved c =
     let s = r.before in (
       search rules,
       λ f.
-          let t = with_below s.args.t1 s.args.t2 f in
+          let t = with_below s.args.below s.args.above f in
           none_more chain-join _ t _ (i.loop-z.invariant.1 f)
           (⊎_elim
           (λ w. none_apart _ s.requires t _ s.all-vars.ensures r.incomparable_rows-apart.result r.incomparable_rows-apart.ensures _ i.loop-z-test.true _ w.1.ensures _ w.2.ensures w.3.left)
@@ -49,4 +49,4 @@ loop-z-preserved c =
 pub returns : goal.returns
 returns c = λ f.
     let s = c.before.before.before.before.before in
-    none_first chain-join _ (with_below s.args.t1 s.args.t2 f) _ c.loop-z-test.false (c.loop-z.invariant.1 f)
+    none_first chain-join _ (with_below s.args.below s.args.above f) _ c.loop-z-test.false (c.loop-z.invariant.1 f)

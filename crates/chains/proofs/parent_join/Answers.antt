@@ -24,7 +24,7 @@ returns-then-x-lt16 c =
     let s = i.before.before.before in
     let x-is = subst (λ (k : ℕ). Lowest k c.lowest-x.result) c.except.ensures c.lowest-x.ensures in
     λ f.
-    parent_first _ s.requires (with_parent s.args.t1 (with_below s.args.t2 s.args.t3 f)) _ i.all-vars.ensures _ i.loop-z-test.true _ l.lowest-y.ensures
+    parent_first _ s.requires (with_parent s.args.parent (with_below s.args.below s.args.above f)) _ i.all-vars.ensures _ i.loop-z-test.true _ l.lowest-y.ensures
     t.if-y-lt16.true _ x-is c.if-x-lt16.true (i.loop-z.invariant.1 f)
 
 pub loop-z-preserved : goal.loop-z-preserved
@@ -34,7 +34,7 @@ loop-z-preserved c =
     let s = i.before.before.before in (
       search rules,
       λ f.
-          let g = with_parent s.args.t1 (with_below s.args.t2 s.args.t3 f) in
+          let g = with_parent s.args.parent (with_below s.args.below s.args.above f) in
           none_more parent-join _ g _ (i.loop-z.invariant.1 f)
           (⊎_elim
           (λ w. none_without_x _ s.requires g _ i.all-vars.ensures _ i.loop-z-test.true _ l.lowest-y.ensures w.0.taken _
@@ -46,4 +46,4 @@ loop-z-preserved c =
 pub returns : goal.returns
 returns c = λ f.
     let s = c.before.before.before in
-    none_first parent-join _ (with_parent s.args.t1 (with_below s.args.t2 s.args.t3 f)) _ c.loop-z-test.false (c.loop-z.invariant.1 f)
+    none_first parent-join _ (with_parent s.args.parent (with_below s.args.below s.args.above f)) _ c.loop-z-test.false (c.loop-z.invariant.1 f)

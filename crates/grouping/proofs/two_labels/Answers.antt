@@ -37,7 +37,7 @@ loop-rest-preserved c =
     let w = t.before in
     let l = w.before.before in
     rw (c.rest-rest.ensures _ w.lowest-x.ensures) (passed_more _ _ _ _ l.loop-rest.invariant w.loop-rest-test.true w.lowest-x.ensures _ (λ i p. p)
-    (only_one l.args.t1 l.args.l w.lowest-x.result t.if-v-l.false))
+    (only_one l.args.t l.args.l w.lowest-x.result t.if-v-l.false))
 
 pub returns : goal.returns
 returns c = is_one _ _ _ _ c.loop-rest.invariant c.loop-rest-test.false

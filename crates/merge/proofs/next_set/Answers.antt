@@ -38,8 +38,8 @@ elements_seen c h = c.with_gap.ensures h
 variable_in : (c : After-lowest-x) → c.lowest-x.result < 16
 variable_in c = lowest_in _ _ c.ranges.root.fits c.if-root-eq0.false c.lowest-x.ensures
 
-row_small : (c : After-lowest-x) → row c.args.t3 c.lowest-x.result < 65536
-row_small c = let h : Fits w16 (get_or c.args.t3 c.lowest-x.result 0) = search rules in h.fits
+row_small : (c : After-lowest-x) → row c.args.child c.lowest-x.result < 65536
+row_small c = let h : Fits w16 (get_or c.args.child c.lowest-x.result 0) = search rules in h.fits
 
 pub returns-then-next-ne0 : goal.returns-then-next-ne0
 returns-then-next-ne0 c h a = inl (parents_seen c.before h, c.if-next-ne0.true)

@@ -7,11 +7,11 @@ pub returns-then-except-eq0 : goal.returns-then-except-eq0
 returns-then-except-eq0 c =
     let e = c.before in
     let s = e.before.before.before in
-    not_apart_two s.args.t1 s.args.a s.args.b s.requires.0 s.requires.1 (rw (← e.one.ensures, ← e.one-2.ensures) (rw (← e.except.ensures) c.if-except-eq0.true))
+    not_apart_two s.args.t s.args.a s.args.b s.requires.0 s.requires.1 (rw (← e.one.ensures, ← e.one-2.ensures) (rw (← e.except.ensures) c.if-except-eq0.true))
 
 pub returns : goal.returns
 returns c =
     let e = c.before in
     let s = e.before.before.before in
     rw (e.one.ensures, e.one-2.ensures)
-    (is_apart_two s.args.t1 s.args.a s.args.b s.requires.0 s.requires.1 (rw (← e.one.ensures, ← e.one-2.ensures) (rw (← e.except.ensures) c.if-except-eq0.false)))
+    (is_apart_two s.args.t s.args.a s.args.b s.requires.0 s.requires.1 (rw (← e.one.ensures, ← e.one-2.ensures) (rw (← e.except.ensures) c.if-except-eq0.false)))

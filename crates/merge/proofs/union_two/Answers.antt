@@ -8,6 +8,6 @@ use Rattle.merge.proofs.union_two.Goals as goal
 
 pub returns : goal.returns
 returns c =
-    let v : Fits w16 (row c.args.t1 c.args.a) = search rules in
-    let w : Fits w16 (row c.args.t1 c.args.b) = search rules in
-    is_union_two c.args.t1 c.args.a c.args.b c.requires.0 c.requires.1 v.fits w.fits
+    let v : Fits w16 (row c.args.t c.args.a) = search rules in
+    let w : Fits w16 (row c.args.t c.args.b) = search rules in
+    is_union_two c.args.t c.args.a c.args.b c.requires.0 c.requires.1 v.fits w.fits

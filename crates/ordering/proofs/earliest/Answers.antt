@@ -12,7 +12,7 @@ variable_in : (c : goal.After-lowest-x) → c.lowest-x.result < 16
 variable_in c = next_in_lem _ _ _ _ c.loop-left.invariant c.loop-left-test.true c.lowest-x.ensures
 
 -- a member that is passed has one that goes before it
-not_free : (c : goal.Else-row-earlier-eq0) → let w = c.before in let s = w.before.before.before in bit_and s.args.row (row s.args.t1 w.lowest-x.result) ≢ 0
+not_free : (c : goal.Else-row-earlier-eq0) → let w = c.before in let s = w.before.before.before in bit_and s.args.row (row s.args.after w.lowest-x.result) ≢ 0
 not_free c = c.if-row-earlier-eq0.false
 
 pub loop-left-init : goal.loop-left-init
@@ -28,7 +28,7 @@ pub returns-then-row-earlier-eq0 : goal.returns-then-row-earlier-eq0
 returns-then-row-earlier-eq0 c =
     let w = c.before in
     let i = w.before.before in
-    found_earliest i.args.t1 i.args.row _ _ i.loop-left.invariant (variable_in w) w.lowest-x.ensures c.if-row-earlier-eq0.true
+    found_earliest i.args.after i.args.row _ _ i.loop-left.invariant (variable_in w) w.lowest-x.ensures c.if-row-earlier-eq0.true
 
 pub rest-left-requires : goal.rest-left-requires
 rest-left-requires c = c.loop-left-test.true
@@ -48,4 +48,4 @@ pub returns : goal.returns
 returns c =
     let i = c.before in
     let s = i.before in
-    absurd (some_earliest s.args.t1 s.args.row s.ranges.row.fits s.requires.0 s.requires.1 (passed_all _ _ _ i.loop-left.invariant c.loop-left-test.false))
+    absurd (some_earliest s.args.after s.args.row s.ranges.row.fits s.requires.0 s.requires.1 (passed_all _ _ _ i.loop-left.invariant c.loop-left-test.false))

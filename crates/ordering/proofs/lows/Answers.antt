@@ -18,4 +18,4 @@ returns c =
     let i = c.before.before in
     let s = i.before in
     let e : i.loop-x.x ≡ s.args.n = search rules in
-    gather_except (is_low s.args.t1 s.args.t2) _ i.loop-x.a s.args.root _ s.requires c.except.ensures (rw (← e) i.loop-x.invariant.1)
+    gather_except (is_low s.args.below s.args.above) _ i.loop-x.a s.args.root _ s.requires c.except.ensures (rw (← e) i.loop-x.invariant.1)

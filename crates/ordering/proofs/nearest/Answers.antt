@@ -10,8 +10,8 @@ use borrow.Author.Rules.{rules}
 use Rattle.ordering.proofs.nearest.Goals as goal
 
 -- the group that is looked at is a variable
-variable_in : (c : goal.After-struct_known-1) → let i = c.before.before.before in (get_or i.args.t1.group i.loop-i.i record { 0 = 0 }).0 < 16
-variable_in c = let i = c.before.before.before in inside_at i.args.t1 (search (rules, length_mapped)) i.requires i.loop-i.i (search rules)
+variable_in : (c : goal.In-loop-i) → (get_or c.args.order.group c.loop-i.i record { 0 = 0 }).0 < 16
+variable_in c = inside_at c.args.order (search (rules, length_mapped)) c.requires c.loop-i.i (search rules)
 
 pub loop-i-init : goal.loop-i-init
 loop-i-init c = (search rules, omega arith)
@@ -35,14 +35,14 @@ pub returns-then-is_near : goal.returns-then-is_near
 unfolding near
 returns-then-is_near c =
     let i = c.before.before.before.before.before in
-    scan_here (near i.args.t3 i.args.t4 i.args.over) i.args.t1 (search (rules, length_mapped)) i.requires i.loop-i.i (search rules)
+    scan_here (near i.args.below i.args.above i.args.over) i.args.order (search (rules, length_mapped)) i.requires i.loop-i.i (search rules)
     (sym c.is_near.ensures ∙ c.if-is_near.true) i.loop-i.invariant.1
 
 pub loop-i-preserved : goal.loop-i-preserved
 unfolding near
 loop-i-preserved c =
     let i = c.before.before.before.before.before in
-    (search rules, scan_next (near i.args.t3 i.args.t4 i.args.over) i.args.t1 (search (rules, length_mapped)) i.requires i.loop-i.i (search rules) (sym c.is_near.ensures ∙ c.if-is_near.false) i.loop-i.invariant.1)
+    (search rules, scan_next (near i.args.below i.args.above i.args.over) i.args.order (search (rules, length_mapped)) i.requires i.loop-i.i (search rules) (sym c.is_near.ensures ∙ c.if-is_near.false) i.loop-i.invariant.1)
 
 pub returns : goal.returns
-returns c = let i = c.before in scan_end (near i.args.t3 i.args.t4 i.args.over) i.args.t1 (search (rules, length_mapped)) i.requires i.loop-i.i (search rules) (search rules) i.loop-i.invariant.1
+returns c = let i = c.before in scan_end (near i.args.below i.args.above i.args.over) i.args.order (search (rules, length_mapped)) i.requires i.loop-i.i (search rules) (search rules) i.loop-i.invariant.1

@@ -8,15 +8,15 @@ use borrow.Author.Rules.{rules}
 use Rattle.ordering.proofs.places.Goals as goal
 
 pub loop-i-init : goal.loop-i-init
-loop-i-init c = (search rules, search rules, placing_none _ _ _ (omega (arith, count_is c.args.t1 (search (rules, length_mapped)) c.requires)))
+loop-i-init c = (search rules, search rules, placing_none _ _ _ (omega (arith, count_is c.args.order (search (rules, length_mapped)) c.requires)))
 
 pub bounds-a-g : goal.bounds-a-g
-bounds-a-g c = let i = c.before.before.before in inside_at i.args.t1 (search (rules, length_mapped)) i.requires (i.loop-i.i - 1) (search rules)
+bounds-a-g c = let i = c.before.before.before in inside_at i.args.order (search (rules, length_mapped)) i.requires (i.loop-i.i - 1) (search rules)
 
 pub loop-i-preserved : goal.loop-i-preserved
 loop-i-preserved c =
     let i = c.before.before.before in
-    let o = i.args.t1 in
+    let o = i.args.order in
     let long : length o.group ≡ 16 = search (rules, length_mapped) in
     let l : i.loop-i.i - 1 < o.len = search rules in
     let e : i.loop-i.i - 1 + 1 ≡ i.loop-i.i = search rules in (

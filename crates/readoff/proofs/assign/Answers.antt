@@ -24,12 +24,12 @@ under c = not_yes (sym c.has.ensures ∙ c.if-has.false)
 
 -- the place that is read is that of the variable's group
 place_read : (c : goal.After-lowest-low) → let i = c.before.before.before.before in let s = i.before.before in (gs : List ℕ)
-    → Placed gs i.places-at.result → Led s.args.t2 s.args.t3 s.args.root s.args.n gs
-    → row i.places-at.result c.lowest-low.result ≡ position (bit (bit_and (row s.args.t3 i.loop-x.x) (row s.args.t2 i.loop-x.x))) gs
+    → Placed gs i.places-at.result → Led s.args.below s.args.above s.args.root s.args.n gs
+    → row i.places-at.result c.lowest-low.result ≡ position (bit (bit_and (row s.args.above i.loop-x.x) (row s.args.below i.loop-x.x))) gs
 place_read c gs p w =
     let i = c.before.before.before.before in
     let s = i.before.before in
-    place_led s.args.t2 s.args.t3 _ _ gs i.places-at.result w p i.loop-x.x _ (search rules) (under c.before) c.lowest-low.ensures
+    place_led s.args.below s.args.above _ _ gs i.places-at.result w p i.loop-x.x _ (search rules) (under c.before) c.lowest-low.ensures
 
 -- it is a place of the order
 place_small : (c : goal.After-lowest-low) → let p = c.before.before.before.before.before in row p.places-at.result c.lowest-low.result ≤ p.args.order.len
@@ -37,7 +37,7 @@ place_small c =
     let i = c.before.before.before.before in
     let s = i.before.before in
     rw (place_read c (groups s.args.order) i.places-at.ensures s.requires.3)
-    (place_most (bit (bit_and (row s.args.t3 i.loop-x.x) (row s.args.t2 i.loop-x.x))) s.args.order (search (rules, length_mapped)) s.requires.0)
+    (place_most (bit (bit_and (row s.args.above i.loop-x.x) (row s.args.below i.loop-x.x))) s.args.order (search (rules, length_mapped)) s.requires.0)
 
 pub places-at-requires : goal.places-at-requires
 places-at-requires c = c.requires.0
@@ -52,7 +52,7 @@ loop-x-preserved-then-has c =
     let s = i.before.before in (
       search rules,
       search rules,
-      λ gs p v. assigned_more i.loop-x.nodes i.loop-x.x _ (place_in s.args.t2 s.args.t3 s.args.root s.args.element gs) (search rules)
+      λ gs p v. assigned_more i.loop-x.nodes i.loop-x.x _ (place_in s.args.below s.args.above s.args.root s.args.element gs) (search rules)
           (pick_on _ _ _ (sym c.has.ensures ∙ c.if-has.true)) (i.loop-x.invariant.2 gs p v),
     )
 
@@ -73,7 +73,7 @@ loop-x-preserved c =
     let s = i.before.before in (
       search rules,
       search rules,
-      λ gs p v. assigned_more i.loop-x.nodes i.loop-x.x _ (place_in s.args.t2 s.args.t3 s.args.root s.args.element gs) (search rules)
+      λ gs p v. assigned_more i.loop-x.nodes i.loop-x.x _ (place_in s.args.below s.args.above s.args.root s.args.element gs) (search rules)
           (c.node_at.ensures ∙ ap (numbered s.args.element) (place_read w gs p v) ∙ pick_off _ _ _ (yes_not (under w.before))) (i.loop-x.invariant.2 gs p v),
     )
 

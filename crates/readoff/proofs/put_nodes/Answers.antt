@@ -23,15 +23,15 @@ Start = Lts.Start Tie.the-claims Reads.Pre Reads.Post goal.the-invariant-loop-i 
 abbrev After-struct_known-1 : Type 0
 After-struct_known-1 = Lts.After-struct_known Tie.the-claims Reads.Pre Reads.Post goal.the-invariant-loop-i goal.the-decreases-loop-i
 
-order_long : (s : Start) → length s.args.t2.group ≡ 16
+order_long : (s : Start) → length s.args.order.group ≡ 16
 order_long s = search (rules, length_mapped)
 
 -- the group that is looked at is a variable
-variable_in : (c : After-struct_known-1) → let i = c.before.before.before in (get_or i.args.t2.group i.loop-i.i record { 0 = 0 }).0 < 16
+variable_in : (c : After-struct_known-1) → let i = c.before.before.before in (get_or i.args.order.group i.loop-i.i record { 0 = 0 }).0 < 16
 variable_in c =
     let i = c.before.before.before in
     let s = i.before.before in
-    inside_at s.args.t2 (order_long s) s.requires.0 i.loop-i.i (search rules)
+    inside_at s.args.order (order_long s) s.requires.0 i.loop-i.i (search rules)
 
 pub loop-i-init : goal.loop-i-init
 loop-i-init c = (search rules, recorded_none _ _ _)

@@ -23,7 +23,7 @@ loop-x-preserved c =
     let s = i.before.before in (
       search rules,
       recorded_more _ _ (λ j k m. omega arith) i.loop-x.x (s.args.first + i.loop-x.x) _ s.args.answer.now i.loop-x.answer c.put_place.new.answer refl
-          (ap (λ (v : ℕ). 2 ∷ i.loop-x.x ∷ v ∷ 0 ∷ []) (number_at s.args.n s.args.t3 i.loop-x.x l.loop-x-test.true)) i.loop-x.invariant.1 c.put_place.ensures,
+          (ap (λ (v : ℕ). 2 ∷ i.loop-x.x ∷ v ∷ 0 ∷ []) (number_at s.args.n s.args.nodes i.loop-x.x l.loop-x-test.true)) i.loop-x.invariant.1 c.put_place.ensures,
     )
 
 pub shape_of-answer : goal.shape_of-answer

@@ -23,4 +23,4 @@ pub loop-z-preserved : goal.loop-z-preserved
 loop-z-preserved c = (search rules, reaching_more _ _ _ _ _ _ _ (search rules) c.loop-x.invariant.0 c.loop-x.invariant.1 c.loop-z.invariant.1)
 
 pub returns : goal.returns
-returns c = reached _ _ _ _ _ (search rules) (λ i. let h : Fits w16 (get_or c.args.t2 i 0) = search rules in h.fits) c.loop-z.invariant.1
+returns c = reached _ _ _ _ _ (search rules) (λ i. let h : Fits w16 (get_or c.args.a i 0) = search rules in h.fits) c.loop-z.invariant.1

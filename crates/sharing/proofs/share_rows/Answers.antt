@@ -54,10 +54,10 @@ at_x c = c.before.before
 x_small : (c : In-pass) → c.pass.x < 16
 x_small c = omega (arith, c.pass-test.true, c.requires)
 
-visits_small : (c : Start) (i v : ℕ) → bit_and (row c.args.t1.differ i) v < 65536
+visits_small : (c : Start) (i v : ℕ) → bit_and (row c.args.t.differ i) v < 65536
 visits_small c i v =
-    let h : Fits w16 (get_or c.args.t1.differ i 0) = search rules in
-    omega (arith, h.fits, and_le_l (row c.args.t1.differ i) v)
+    let h : Fits w16 (get_or c.args.t.differ i 0) = search rules in
+    omega (arith, h.fits, and_le_l (row c.args.t.differ i) v)
 
 pub pass-init : goal.pass-init
 pass-init c = (
@@ -69,7 +69,7 @@ pass-init c = (
 pub loop-ys-init : goal.loop-ys-init
 loop-ys-init c =
     let a = c.before.before in
-    let h : Fits w16 (get_or a.args.t2 a.pass.x 0) = search rules in
+    let h : Fits w16 (get_or a.args.same a.pass.x 0) = search rules in
     (a.pass.invariant.1, (taking_none _ _ _, passed_none _ _ h.fits))
 
 pub bounds-t-y : goal.bounds-t-y
@@ -178,7 +178,7 @@ pass-preserved c =
     let r = at_x l in (
       add-one-le r.pass-test.true,
       l.loop-ys.invariant.0,
-      passing_more _ _ _ _ _ _ (x_small r) r.pass.inv.2
+      passing_more _ _ _ _ _ _ (x_small r) r.pass.invariant.2
           (share_of _ _ _ _ _ _ _ c.loop-ys-test.false l.loop-ys.invariant.1.0 (ap (bit_or r.args.several) l.one.ensures) l.loop-ys.invariant.1.1),
     )
 
