@@ -16,6 +16,8 @@ import sys
 
 WORD = r"[^\s(){}.;,@\"«»\[\]\\]+"
 DECLARED = re.compile(r"^( *)((?:abbrev |unfoldable |pub )*)(" + WORD + r") :(?: |$)(.*)")
+# Constructors of one type stand on one line.
+SEVERAL = re.compile(r"^ +((?:[a-z]" + WORD + r" +)+): (.*)")
 USED = re.compile(r"^\s*(?:pub |ghost )*use ([^{;]*?)(?:\.\{([^}]*)\})?;?\s*$")
 CAMEL = re.compile(r"(?<=[a-z0-9])(?=[A-Z])")
 
@@ -24,6 +26,8 @@ APART = {
     "bit-and": "bit-bit_and",
     "bit-or": "bit-bit_or",
     "isJoin": "is_a_join",
+    # what port.py made of `is-leaf`
+    "is_IsLeaf": "is_leaf",
     "path-text": "path_text_lem",
     "quad_at": "quad_at_lem",
     "test-by": "test_by_lem",
@@ -74,17 +78,26 @@ def read(path):
         return f.read()
 
 
+def declared(line):
+    """Returns the names that the line declares, each with the type that follows."""
+    m = DECLARED.match(line)
+    if m:
+        return [(m[3], m[4])]
+    m = SEVERAL.match(line)
+    return [(name, m[2]) for name in m[1].split()] if m else []
+
+
 def renamed(root):
     """Returns what each own name becomes."""
     out = {}
     for path in files(root, ".antt"):
         for line in read(path).split("\n"):
-            m = DECLARED.match(line)
-            if not m or m[4].startswith("tie.") or m[3][0].isupper() or m[3] in ("λ", ":"):
-                continue
-            new = APART.get(m[3]) or snake(m[3])
-            if new != m[3]:
-                out[m[3]] = new
+            for name, of in declared(line):
+                if re.match(r"tie\.(Need-|invariant-|decreases-)", of) or of == "goal." + name or name[0].isupper() or name in ("λ", ":"):
+                    continue
+                new = APART.get(name) or snake(name)
+                if new != name:
+                    out[name] = new
     taken = {new for old, new in out.items() if "-" not in old}
     # A lemma that would have its function's name gets `_lem`.
     return {old: new + "_lem" if "-" in old and new in taken and old not in APART else new for old, new in out.items()}

@@ -13,7 +13,7 @@ use Rattle.meaning.specs.Constraint.{Fact, child, below, root}
 use Rattle.meaning.specs.Settled.{Settled, chain, root_below, one_element, same_parent, same_root}
 use Rattle.meaning.specs.Finite.{Yes}
 use Rattle.meaning.specs.ReadOff.{same}
-use Rattle.meaning.specs.FixedSearch.{document-join, join}
+use Rattle.meaning.specs.FixedSearch.{document_join, join}
 use Rattle.meaning.proofs.Tests.{clash, and_left, and_right, and_both, no_neg}
 use Rattle.theory.specs.Search.{is_a_join, first_of}
 use Rattle.rowbits.specs.Bit.{bit}
@@ -39,7 +39,7 @@ module _ (n : ℕ) (S : List Fact) (f : Facts) (g : Ready n S f) where
       not_under : ¬ Yes (bit (row f.below y) w)
 
     -- a root is the same as r, and what is the same as r is a root
-    document_parts : Yes (is_a_join (has f) document-join r y w) → DocumentParts
+    document_parts : Yes (is_a_join (has f) document_join r y w) → DocumentParts
     unfolding is_a_join same has
     document_parts u =
         let v = and_right _ u in
@@ -51,7 +51,7 @@ module _ (n : ℕ) (S : List Fact) (f : Facts) (g : Ready n S f) where
           not_under = λ t. clash t (and_right _ (and_right _ v));
         }
 
-    parts_document : DocumentParts → Yes (is_a_join (has f) document-join r y w)
+    parts_document : DocumentParts → Yes (is_a_join (has f) document_join r y w)
     unfolding is_a_join same has
     parts_document p =
         and_both p.document (and_both p.element
@@ -71,10 +71,10 @@ module _ (n : ℕ) (S : List Fact) (f : Facts) (g : Ready n S f) where
 -- ---- from the lowest root, its lowest child and the lowest w that these leave
 
 module _ (n : ℕ) (small : n ≤ 16) (f : Facts) (vars : ℕ) (ev : vars ≡ 2 ^ n - 1) (r : ℕ) (lr : Lowest (bit_and f.root vars) r) where
-  passed_root : (S : List Fact) (g : Ready n S f) (i k l : Var) → i < n → l < n → Yes (is_a_join (has f) document-join i k l) → Yes (bit (bit_and f.root vars) i)
+  passed_root : (S : List Fact) (g : Ready n S f) (i k l : Var) → i < n → l < n → Yes (is_a_join (has f) document_join i k l) → Yes (bit (bit_and f.root vars) i)
   passed_root S g i k l hi hl u = vars_in _ vars n i ev hi (document_parts n S f g i k l hi hl u).document
 
-  pub none_without_root : 16 ≤ r → NoneBefore document-join n f n
+  pub none_without_root : 16 ≤ r → NoneBefore document_join n f n
   none_without_root m S g i k l hi hk hl u = lr.none i (omega arith) (passed_root S g i k l hi hl u)
 
   module _ (mr : r < 16) (y : ℕ) (ly : Lowest (bit_and (row f.child r) vars) y) where
@@ -82,27 +82,27 @@ module _ (n : ℕ) (small : n ≤ 16) (f : Facts) (vars : ℕ) (ev : vars ≡ 2 
     r_in = vars_out _ vars n r ev (lr.this mr)
 
     -- the child of another root's join
-    moved : (S : List Fact) (g : Ready n S f) (i k l : Var) → i < n → l < n → Yes (is_a_join (has f) document-join i k l) → Yes (bit (row f.child r) k)
+    moved : (S : List Fact) (g : Ready n S f) (i k l : Var) → i < n → l < n → Yes (is_a_join (has f) document_join i k l) → Yes (bit (row f.child r) k)
     moved S g i k l hi hl u = let p = document_parts n S f g i k l hi hl u in any_root n S f g i r k hi r_in.1 p.document r_in.0 p.element
 
-    passed_child : (S : List Fact) (g : Ready n S f) (i k l : Var) → i < n → k < n → l < n → Yes (is_a_join (has f) document-join i k l) → Yes (bit (bit_and (row f.child r) vars) k)
+    passed_child : (S : List Fact) (g : Ready n S f) (i k l : Var) → i < n → k < n → l < n → Yes (is_a_join (has f) document_join i k l) → Yes (bit (bit_and (row f.child r) vars) k)
     passed_child S g i k l hi hk hl u = vars_in _ vars n k ev hk (moved S g i k l hi hl u)
 
-    pub none_without_child : 16 ≤ y → NoneBefore document-join n f n
+    pub none_without_child : 16 ≤ y → NoneBefore document_join n f n
     none_without_child m S g i k l hi hk hl u = ly.none k (omega arith) (passed_child S g i k l hi hk hl u)
 
     module _ (my : y < 16) (w : ℕ) (lw : Lowest (without vars (bit_or f.root (row f.below y))) w) where
       y_in : Yes (bit (row f.child r) y) × (y < n)
       y_in = vars_out _ vars n y ev (ly.this my)
 
-      passed_w : (S : List Fact) (g : Ready n S f) (i k l : Var) → i < n → l < n → Yes (is_a_join (has f) document-join i k l)
+      passed_w : (S : List Fact) (g : Ready n S f) (i k l : Var) → i < n → l < n → Yes (is_a_join (has f) document_join i k l)
           → Yes (bit (without vars (bit_or f.root (row f.below y))) l)
       passed_w S g i k l hi hl u =
           let p = document_parts n S f g i k l hi hl u in
           without_in vars (bit_or f.root (row f.below y)) l (le_trans hl small) (var_in vars n l ev hl)
           (λ t. ⊎_elim p.not_root (λ b. p.not_under (any_child n S f g r y k l r_in.0 y_in.0 (moved S g i k l hi hl u) b)) (or_case _ _ l t))
 
-      pub none_left : 16 ≤ w → NoneBefore document-join n f n
+      pub none_left : 16 ≤ w → NoneBefore document_join n f n
       none_left m S g i k l hi hk hl u = lw.none l (omega arith) (passed_w S g i k l hi hl u)
 
       module _ (mw : w < 16) where
@@ -112,9 +112,9 @@ module _ (n : ℕ) (small : n ≤ 16) (f : Facts) (vars : ℕ) (ev : vars ≡ 2 
         w_n : w < n
         w_n = var_out vars n w ev w_out.0
 
-        pub document_first : (S : List Fact) → Ready n S f → some (join document-join r y w) ≡ first_of n (is_a_join (has f) document-join) (join document-join)
+        pub document_first : (S : List Fact) → Ready n S f → some (join document_join r y w) ≡ first_of n (is_a_join (has f) document_join) (join document_join)
         document_first S g =
-            sym (first_of_is_some n (is_a_join (has f) document-join) (join document-join) r y w r_in.1 y_in.1 w_n
+            sym (first_of_is_some n (is_a_join (has f) document_join) (join document_join) r y w r_in.1 y_in.1 w_n
             (parts_document n S f g r y w r_in.1 w_n record {
               document = r_in.0;
               element = y_in.0;

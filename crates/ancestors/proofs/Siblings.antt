@@ -13,7 +13,7 @@ use Rattle.meaning.specs.Tree.{Var}
 use Rattle.meaning.specs.Constraint.{Fact, before}
 use Rattle.meaning.specs.Finite.{Yes}
 use Rattle.meaning.specs.ReadOff.{same}
-use Rattle.meaning.specs.FixedSearch.{sibling-join, join}
+use Rattle.meaning.specs.FixedSearch.{sibling_join, join}
 use Rattle.meaning.proofs.Tests.{clash, and_left, and_right, and_both, or_left, or_right, or_cases, no_neg}
 use Rattle.theory.specs.Search.{is_a_join, first_of}
 use Rattle.rowbits.specs.Bit.{bit}
@@ -43,7 +43,7 @@ module _ (n : ℕ) (small : n ≤ 16) (S : List Fact) (f : Facts) (r : Ready n S
       not_below : ¬ Yes (bit (row f.below y) a)
       not_above : ¬ Yes (bit (row f.below a) x)
 
-    sibling_parts : Yes (is_a_join (has f) sibling-join y a x) → SiblingParts
+    sibling_parts : Yes (is_a_join (has f) sibling_join y a x) → SiblingParts
     unfolding is_a_join same
     sibling_parts u =
         let v = and_right _ u in
@@ -55,7 +55,7 @@ module _ (n : ℕ) (small : n ≤ 16) (S : List Fact) (f : Facts) (r : Ready n S
           not_above = λ t. clash (sym (below_is n small S f r a x) ∙ t) (and_right _ (and_right _ v));
         }
 
-    parts_sibling : SiblingParts → Yes (is_a_join (has f) sibling-join y a x)
+    parts_sibling : SiblingParts → Yes (is_a_join (has f) sibling_join y a x)
     unfolding is_a_join same
     parts_sibling p =
         and_both (⊎_elim (λ b. or_right _ (sym (before_is y x) ∙ b)) (λ b. or_left _ (sym (after_is x y hx hy) ∙ b)) (or_case _ _ x p.sibling))
@@ -77,10 +77,10 @@ module _ (n : ℕ) (small : n ≤ 16) (f : Facts) (vars : ℕ) (ev : vars ≡ 2 
   abbrev s : ℕ
   s = siblings f vars y
 
-  passed_x : (S : List Fact) (r : Ready n S f) (i k : Var) → i < n → k < n → Yes (is_a_join (has f) sibling-join y i k) → Yes (bit s k)
+  passed_x : (S : List Fact) (r : Ready n S f) (i k : Var) → i < n → k < n → Yes (is_a_join (has f) sibling_join y i k) → Yes (bit s k)
   passed_x S r i k hi hk u = vars_in _ vars n k ev hk (sibling_parts n small S f r y i k hy hi hk u).sibling
 
-  pub none_alone : s ≡ 0 → (S : List Fact) → Ready n S f → (i k : Var) → i < n → k < n → ¬ Yes (is_a_join (has f) sibling-join y i k)
+  pub none_alone : s ≡ 0 → (S : List Fact) → Ready n S f → (i k : Var) → i < n → k < n → ¬ Yes (is_a_join (has f) sibling_join y i k)
   none_alone e S r i k hi hk u = none_in k (subst (λ (j : ℕ). Yes (bit j k)) e (passed_x S r i k hi hk u))
 
   abbrev over : ℕ
@@ -90,13 +90,13 @@ module _ (n : ℕ) (small : n ≤ 16) (f : Facts) (vars : ℕ) (ev : vars ≡ 2 
     gp : Missing f.above s over g
     gp = subst (λ (k : ℕ). Missing f.above s k g) is_over lacking
 
-    passed_a : (S : List Fact) (r : Ready n S f) (i k : Var) → i < n → k < n → Yes (is_a_join (has f) sibling-join y i k) → Yes (bit g i)
+    passed_a : (S : List Fact) (r : Ready n S f) (i k : Var) → i < n → k < n → Yes (is_a_join (has f) sibling_join y i k) → Yes (bit g i)
     passed_a S r i k hi hk u =
         let p = sibling_parts n small S f r y i k hy hi hk u in
         gp.to k i (passed_x S r i k hi hk u) (without_in _ _ i (le_trans hi small) (vars_in _ vars n i ev hi p.above) p.not_below)
         (above_not n small S f r y i k hy hi hk p.not_above)
 
-    pub none_missing : 16 ≤ a → (S : List Fact) → Ready n S f → (i k : Var) → i < n → k < n → ¬ Yes (is_a_join (has f) sibling-join y i k)
+    pub none_missing : 16 ≤ a → (S : List Fact) → Ready n S f → (i k : Var) → i < n → k < n → ¬ Yes (is_a_join (has f) sibling_join y i k)
     none_missing l S r i k hi hk u = la.none i (omega arith) (passed_a S r i k hi hk u)
 
     module _ (m : a < 16) (x : ℕ) (lx : Lowest (without s (row f.below a)) x) where
@@ -123,25 +123,25 @@ module _ (n : ℕ) (small : n ≤ 16) (f : Facts) (vars : ℕ) (ev : vars ≡ 2 
         x_n : Yes (bit (bit_or (row f.before y) (row f.after y)) x) × (x < n)
         x_n = vars_out _ vars n x ev x_out.0
 
-        sibling_at : Yes (is_a_join (has f) sibling-join y a x)
+        sibling_at : Yes (is_a_join (has f) sibling_join y a x)
         sibling_at = parts_sibling n small S f r y a x hy a_n.1 x_n.1 record { sibling = x_n.0; above = a_n.0; not_below = a_out.1; not_above = x_out.1 }
 
-        passed_lower : (k : Var) → k < x → ¬ Yes (is_a_join (has f) sibling-join y a k)
+        passed_lower : (k : Var) → k < x → ¬ Yes (is_a_join (has f) sibling_join y a k)
         passed_lower k l t =
             let hk = le_trans l (le_of_lt x_n.1) in
             let p = sibling_parts n small S f r y a k hy a_n.1 hk t in
             lx.none k l (without_in s (row f.below a) k (le_trans hk small) (passed_x S r a k a_n.1 hk t) p.not_above)
 
-      pub sibling_first : NoneBefore sibling-join n f y → (S : List Fact) → Ready n S f → some (join sibling-join y a x) ≡ first_of n (is_a_join (has f) sibling-join) (join sibling-join)
+      pub sibling_first : NoneBefore sibling_join n f y → (S : List Fact) → Ready n S f → some (join sibling_join y a x) ≡ first_of n (is_a_join (has f) sibling_join) (join sibling_join)
       sibling_first early S r =
-          sym (first_of_is_some n (is_a_join (has f) sibling-join) (join sibling-join) y a x hy a_n.1 (x_n S r).1 (sibling_at S r) (early S r)
+          sym (first_of_is_some n (is_a_join (has f) sibling_join) (join sibling_join) y a x hy a_n.1 (x_n S r).1 (sibling_at S r) (early S r)
           (λ i k l hk t. la.none i l (passed_a S r i k (le_trans l (le_of_lt a_n.1)) hk t)) (passed_lower S r))
 
 -- nothing is before anything
-pub none_ordered : (n : ℕ) → n ≤ 16 → (f : Facts) (b : Bool) → Blank f.before b → b ≡ true → StageOf sibling-join n f Nothing
+pub none_ordered : (n : ℕ) → n ≤ 16 → (f : Facts) (b : Bool) → Blank f.before b → b ≡ true → StageOf sibling_join n f Nothing
 unfolding join_of is_a_join
 none_ordered n small f b blank e S r =
-    sym (first_of_is_none n (is_a_join (has f) sibling-join) (join sibling-join)
+    sym (first_of_is_none n (is_a_join (has f) sibling_join) (join sibling_join)
     (λ y a x hy ha hx t. ⊎_elim
     (λ u. blank.none e x y (le_trans hx small) (before_is n small S f r x y ∙ u))
     (λ u. blank.none e y x (le_trans hy small) (before_is n small S f r y x ∙ u)) (or_cases _ _ (and_left _ t))))

@@ -1,7 +1,7 @@
 -- What the stages of joins of siblings and of the document node answer, said of the rows alone, whatever else the tables hold.
 use Rattle.std.specs.Prelude.{List, ℕ}
 use Rattle.meaning.specs.Finite.{Yes}
-use Rattle.meaning.specs.FixedSearch.{sibling-join, document-join}
+use Rattle.meaning.specs.FixedSearch.{sibling_join, document_join}
 use Rattle.rowbits.specs.Bit.{bit}
 use Rattle.tables.specs.Tables.{row}
 use Rattle.tables.specs.declared.Facts.{Facts}
@@ -20,7 +20,7 @@ abbrev pub with_document : List ℕ → ℕ → Facts → Facts
 with_document c r f = record { child = c; parent = f.parent; below = f.below; above = f.above; differ = f.differ; before = f.before; after = f.after; root = r; label = f.label; leaf = f.leaf }
 
 abbrev pub SiblingIn : ℕ → List ℕ → List ℕ → List ℕ → List ℕ → Found → Type 0
-SiblingIn n before after below above r = (f : Facts) → StageOf sibling-join n (with_before before after (with_below below above f)) r
+SiblingIn n before after below above r = (f : Facts) → StageOf sibling_join n (with_before before after (with_below below above f)) r
 
 abbrev pub DocumentIn : ℕ → List ℕ → List ℕ → ℕ → Found → Type 0
-DocumentIn n child below root r = (f : Facts) → StageOf document-join n (with_document child root (with_below below f.above f)) r
+DocumentIn n child below root r = (f : Facts) → StageOf document_join n (with_document child root (with_below below f.above f)) r

@@ -12,7 +12,7 @@ use lib.Dec.{eqb}
 use borrow.Author.Tests.{ne_eqb}
 use Rattle.meaning.specs.Finite.{Yes, pick, ◌and◌}
 use Rattle.meaning.specs.Ascii.{ascii}
-use Rattle.meaning.specs.Paths.{Axis, to-self, to_child, to_parent, to-descendant, to-ancestor, to-descendant-or-self, to-ancestor-or-self, to-following-sibling, to-preceding-sibling, is_letter, Test, letter, any, Step, move, axis_text, test_byte}
+use Rattle.meaning.specs.Paths.{Axis, to_self, to_child, to_parent, to_descendant, to_ancestor, to_descendant_or_self, to_ancestor_or_self, to_following_sibling, to_preceding_sibling, is_letter, Test, letter, any, Step, move, axis_text, test_byte}
 use Rattle.meaning.proofs.Tests.{pick_yes, pick_no, eq_yes, is_eq, not_yes}
 use Rattle.theory.specs.PathReader.{after_name, axis_at, test_by, test_at, move_at}
 use Rattle.theory.specs.Reader.{Got, nothing, got, and_then, byte, front}
@@ -24,15 +24,15 @@ use Rattle.axes.specs.Moving.{axis_for, AxisRead, MoveRead}
 
 name_long : (a : Axis) → 0 < length (axis_text a)
 unfolding axis_text ascii
-name_long to-self = omega arith
+name_long to_self = omega arith
 name_long to_child = omega arith
 name_long to_parent = omega arith
-name_long to-descendant = omega arith
-name_long to-ancestor = omega arith
-name_long to-descendant-or-self = omega arith
-name_long to-ancestor-or-self = omega arith
-name_long to-following-sibling = omega arith
-name_long to-preceding-sibling = omega arith
+name_long to_descendant = omega arith
+name_long to_ancestor = omega arith
+name_long to_descendant_or_self = omega arith
+name_long to_ancestor_or_self = omega arith
+name_long to_following_sibling = omega arith
+name_long to_preceding_sibling = omega arith
 
 -- a name stands there, or it does not
 pub name_hit : (s : List ℕ) (at : ℕ) (a : Axis) (g : Got Axis) → Yes (front (drop at s) (axis_text a)) → at + length (axis_text a) ≤ length s
@@ -64,7 +64,7 @@ module _ (s : List ℕ) (at : ℕ) where
   skip a c w e n g r h = name_miss s at a g r (ap (front (drop at s)) e ∙ other_first (drop at s) c w (λ d. n (sym byte_here ∙ d))) h
 
   abbrev from_self : Got Axis
-  from_self = after_name to-self (drop at s) nothing
+  from_self = after_name to_self (drop at s) nothing
 
   abbrev from_child : Got Axis
   from_child = after_name to_child (drop at s) from_self
@@ -73,24 +73,24 @@ module _ (s : List ℕ) (at : ℕ) where
   from_parent = after_name to_parent (drop at s) from_child
 
   abbrev from_ancestor : Got Axis
-  from_ancestor = after_name to-ancestor (drop at s) from_parent
+  from_ancestor = after_name to_ancestor (drop at s) from_parent
 
   abbrev from_descendant : Got Axis
-  from_descendant = after_name to-descendant (drop at s) from_ancestor
+  from_descendant = after_name to_descendant (drop at s) from_ancestor
 
   abbrev from_ancestor_or_self : Got Axis
-  from_ancestor_or_self = after_name to-ancestor-or-self (drop at s) from_descendant
+  from_ancestor_or_self = after_name to_ancestor_or_self (drop at s) from_descendant
 
   abbrev from_preceding : Got Axis
-  from_preceding = after_name to-preceding-sibling (drop at s) from_ancestor_or_self
+  from_preceding = after_name to_preceding_sibling (drop at s) from_ancestor_or_self
 
   abbrev from_following : Got Axis
-  from_following = after_name to-following-sibling (drop at s) from_preceding
+  from_following = after_name to_following_sibling (drop at s) from_preceding
 
   module _ (r : Named) where
     past_two : (get_or s at 0 ≡ 99 → ⊥) → (get_or s at 0 ≡ 115 → ⊥) → AxisRead s at nothing r → AxisRead s at from_child r
     unfolding axis_text ascii
-    past_two c f h = skip to_child 99 _ refl c from_self r (skip to-self 115 _ refl f nothing r h)
+    past_two c f h = skip to_child 99 _ refl c from_self r (skip to_self 115 _ refl f nothing r h)
 
     past_three : (get_or s at 0 ≡ 112 → ⊥) → (get_or s at 0 ≡ 99 → ⊥) → (get_or s at 0 ≡ 115 → ⊥) → AxisRead s at nothing r → AxisRead s at from_parent r
     unfolding axis_text ascii
@@ -100,22 +100,22 @@ module _ (s : List ℕ) (at : ℕ) where
     past_d_and_a : (get_or s at 0 ≡ 100 → ⊥) → (get_or s at 0 ≡ 97 → ⊥) → AxisRead s at from_parent r → AxisRead s at from_ancestor_or_self r
     unfolding axis_text ascii
     past_d_and_a m n h =
-        skip to-ancestor-or-self 97 _ refl n from_descendant r (skip to-descendant 100 _ refl m from_ancestor r (skip to-ancestor 97 _ refl n from_parent r h))
+        skip to_ancestor_or_self 97 _ refl n from_descendant r (skip to_descendant 100 _ refl m from_ancestor r (skip to_ancestor 97 _ refl n from_parent r h))
 
     -- the first byte is d
-    module _ (e : get_or s at 0 ≡ 100) (n : front (drop at s) (axis_text to-descendant-or-self) ≡ false) where
+    module _ (e : get_or s at 0 ≡ 100) (n : front (drop at s) (axis_text to_descendant_or_self) ≡ false) where
       pub d_second : AxisRead s at from_descendant r → AxisRead s at (axis_at (drop at s)) r
       unfolding axis_at axis_text ascii
       d_second h =
-          name_miss s at to-descendant-or-self from_following r n
-          (skip to-following-sibling 102 _ refl (λ d. omega (arith, e, d)) from_preceding r
-          (skip to-preceding-sibling 112 _ refl (λ d. omega (arith, e, d)) from_ancestor_or_self r
-          (skip to-ancestor-or-self 97 _ refl (λ d. omega (arith, e, d)) from_descendant r h)))
+          name_miss s at to_descendant_or_self from_following r n
+          (skip to_following_sibling 102 _ refl (λ d. omega (arith, e, d)) from_preceding r
+          (skip to_preceding_sibling 112 _ refl (λ d. omega (arith, e, d)) from_ancestor_or_self r
+          (skip to_ancestor_or_self 97 _ refl (λ d. omega (arith, e, d)) from_descendant r h)))
 
-      pub d_none : front (drop at s) (axis_text to-descendant) ≡ false → AxisRead s at nothing r → AxisRead s at (axis_at (drop at s)) r
+      pub d_none : front (drop at s) (axis_text to_descendant) ≡ false → AxisRead s at nothing r → AxisRead s at (axis_at (drop at s)) r
       unfolding axis_text ascii
       d_none m h =
-          d_second (name_miss s at to-descendant from_ancestor r m (skip to-ancestor 97 _ refl (λ d. omega (arith, e, d)) from_parent r
+          d_second (name_miss s at to_descendant from_ancestor r m (skip to_ancestor 97 _ refl (λ d. omega (arith, e, d)) from_parent r
           (past_three (λ d. omega (arith, e, d)) (λ d. omega (arith, e, d)) (λ d. omega (arith, e, d)) h)))
 
     -- it is a
@@ -123,43 +123,43 @@ module _ (s : List ℕ) (at : ℕ) where
       pub a_first : AxisRead s at from_ancestor_or_self r → AxisRead s at (axis_at (drop at s)) r
       unfolding axis_at axis_text ascii
       a_first h =
-          skip to-descendant-or-self 100 _ refl (λ d. omega (arith, e, d)) from_following r
-          (skip to-following-sibling 102 _ refl (λ d. omega (arith, e, d)) from_preceding r
-          (skip to-preceding-sibling 112 _ refl (λ d. omega (arith, e, d)) from_ancestor_or_self r h))
+          skip to_descendant_or_self 100 _ refl (λ d. omega (arith, e, d)) from_following r
+          (skip to_following_sibling 102 _ refl (λ d. omega (arith, e, d)) from_preceding r
+          (skip to_preceding_sibling 112 _ refl (λ d. omega (arith, e, d)) from_ancestor_or_self r h))
 
-      pub a_second : front (drop at s) (axis_text to-ancestor-or-self) ≡ false → AxisRead s at from_ancestor r → AxisRead s at (axis_at (drop at s)) r
+      pub a_second : front (drop at s) (axis_text to_ancestor_or_self) ≡ false → AxisRead s at from_ancestor r → AxisRead s at (axis_at (drop at s)) r
       unfolding axis_text ascii
-      a_second n h = a_first (name_miss s at to-ancestor-or-self from_descendant r n (skip to-descendant 100 _ refl (λ d. omega (arith, e, d)) from_ancestor r h))
+      a_second n h = a_first (name_miss s at to_ancestor_or_self from_descendant r n (skip to_descendant 100 _ refl (λ d. omega (arith, e, d)) from_ancestor r h))
 
-      pub a_none : front (drop at s) (axis_text to-ancestor-or-self) ≡ false → front (drop at s) (axis_text to-ancestor) ≡ false → AxisRead s at nothing r → AxisRead s at (axis_at (drop at s)) r
+      pub a_none : front (drop at s) (axis_text to_ancestor_or_self) ≡ false → front (drop at s) (axis_text to_ancestor) ≡ false → AxisRead s at nothing r → AxisRead s at (axis_at (drop at s)) r
       a_none n m h =
-          a_second n (name_miss s at to-ancestor from_parent r m (past_three (λ d. omega (arith, e, d)) (λ d. omega (arith, e, d)) (λ d. omega (arith, e, d)) h))
+          a_second n (name_miss s at to_ancestor from_parent r m (past_three (λ d. omega (arith, e, d)) (λ d. omega (arith, e, d)) (λ d. omega (arith, e, d)) h))
 
     -- it is p
     module _ (e : get_or s at 0 ≡ 112) where
       pub p_first : AxisRead s at from_preceding r → AxisRead s at (axis_at (drop at s)) r
       unfolding axis_at axis_text ascii
       p_first h =
-          skip to-descendant-or-self 100 _ refl (λ d. omega (arith, e, d)) from_following r
-          (skip to-following-sibling 102 _ refl (λ d. omega (arith, e, d)) from_preceding r h)
+          skip to_descendant_or_self 100 _ refl (λ d. omega (arith, e, d)) from_following r
+          (skip to_following_sibling 102 _ refl (λ d. omega (arith, e, d)) from_preceding r h)
 
-      pub p_second : front (drop at s) (axis_text to-preceding-sibling) ≡ false → AxisRead s at from_parent r → AxisRead s at (axis_at (drop at s)) r
-      p_second n h = p_first (name_miss s at to-preceding-sibling from_ancestor_or_self r n (past_d_and_a (λ d. omega (arith, e, d)) (λ d. omega (arith, e, d)) h))
+      pub p_second : front (drop at s) (axis_text to_preceding_sibling) ≡ false → AxisRead s at from_parent r → AxisRead s at (axis_at (drop at s)) r
+      p_second n h = p_first (name_miss s at to_preceding_sibling from_ancestor_or_self r n (past_d_and_a (λ d. omega (arith, e, d)) (λ d. omega (arith, e, d)) h))
 
-      pub p_none : front (drop at s) (axis_text to-preceding-sibling) ≡ false → front (drop at s) (axis_text to_parent) ≡ false → AxisRead s at nothing r → AxisRead s at (axis_at (drop at s)) r
+      pub p_none : front (drop at s) (axis_text to_preceding_sibling) ≡ false → front (drop at s) (axis_text to_parent) ≡ false → AxisRead s at nothing r → AxisRead s at (axis_at (drop at s)) r
       p_none n m h = p_second n (name_miss s at to_parent from_child r m (past_two (λ d. omega (arith, e, d)) (λ d. omega (arith, e, d)) h))
 
     -- it is f
     module _ (e : get_or s at 0 ≡ 102) where
       pub f_first : AxisRead s at from_following r → AxisRead s at (axis_at (drop at s)) r
       unfolding axis_at axis_text ascii
-      f_first h = skip to-descendant-or-self 100 _ refl (λ d. omega (arith, e, d)) from_following r h
+      f_first h = skip to_descendant_or_self 100 _ refl (λ d. omega (arith, e, d)) from_following r h
 
-      pub f_none : front (drop at s) (axis_text to-following-sibling) ≡ false → AxisRead s at nothing r → AxisRead s at (axis_at (drop at s)) r
+      pub f_none : front (drop at s) (axis_text to_following_sibling) ≡ false → AxisRead s at nothing r → AxisRead s at (axis_at (drop at s)) r
       unfolding axis_text ascii
       f_none n h =
-          f_first (name_miss s at to-following-sibling from_preceding r n
-          (skip to-preceding-sibling 112 _ refl (λ d. omega (arith, e, d)) from_ancestor_or_self r
+          f_first (name_miss s at to_following_sibling from_preceding r n
+          (skip to_preceding_sibling 112 _ refl (λ d. omega (arith, e, d)) from_ancestor_or_self r
           (past_d_and_a (λ d. omega (arith, e, d)) (λ d. omega (arith, e, d)) (past_three (λ d. omega (arith, e, d)) (λ d. omega (arith, e, d)) (λ d. omega (arith, e, d)) h))))
 
     -- it is none of these
@@ -167,9 +167,9 @@ module _ (s : List ℕ) (at : ℕ) where
         → AxisRead s at (axis_at (drop at s)) r
     unfolding axis_at axis_text ascii
     past_four m n p q h =
-        skip to-descendant-or-self 100 _ refl m from_following r
-        (skip to-following-sibling 102 _ refl q from_preceding r
-        (skip to-preceding-sibling 112 _ refl p from_ancestor_or_self r (past_d_and_a m n (skip to_parent 112 _ refl p from_child r h))))
+        skip to_descendant_or_self 100 _ refl m from_following r
+        (skip to_following_sibling 102 _ refl q from_preceding r
+        (skip to_preceding_sibling 112 _ refl p from_ancestor_or_self r (past_d_and_a m n (skip to_parent 112 _ refl p from_child r h))))
 
 -- ---- what was read of the axis
 

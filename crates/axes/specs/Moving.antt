@@ -11,15 +11,15 @@ use Rattle.axes.specs.declared.Moved.TheVariants as moved
 
 -- the kind of an axis's record, and whether its x is the node reached
 abbrev pub axis_for : spec.Axis → Axis
-axis_for spec.to-self = record { 0 = 4; 1 = false }
+axis_for spec.to_self = record { 0 = 4; 1 = false }
 axis_for spec.to_child = record { 0 = 1; 1 = false }
 axis_for spec.to_parent = record { 0 = 1; 1 = true }
-axis_for spec.to-descendant = record { 0 = 3; 1 = false }
-axis_for spec.to-ancestor = record { 0 = 3; 1 = true }
-axis_for spec.to-descendant-or-self = record { 0 = 2; 1 = false }
-axis_for spec.to-ancestor-or-self = record { 0 = 2; 1 = true }
-axis_for spec.to-following-sibling = record { 0 = 9; 1 = false }
-axis_for spec.to-preceding-sibling = record { 0 = 9; 1 = true }
+axis_for spec.to_descendant = record { 0 = 3; 1 = false }
+axis_for spec.to_ancestor = record { 0 = 3; 1 = true }
+axis_for spec.to_descendant_or_self = record { 0 = 2; 1 = false }
+axis_for spec.to_ancestor_or_self = record { 0 = 2; 1 = true }
+axis_for spec.to_following_sibling = record { 0 = 9; 1 = false }
+axis_for spec.to_preceding_sibling = record { 0 = 9; 1 = true }
 
 -- r is an axis read of s at a place, and the place after its name
 abbrev pub AxisRead : List ℕ → ℕ → Got spec.Axis → Named → Type 0

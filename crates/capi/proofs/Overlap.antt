@@ -5,7 +5,7 @@ use Prim.Native.Nat.{ℕ, ◌≤◌}
 use native.Mathlib.Omega.{arith}
 use lib.ListN.{length, drop}
 use Rattle.meaning.specs.Constraint.{Constraint, vars}
-use Rattle.meaning.specs.Demand.{Answer, a_tree, a_none, a-spent, count_of}
+use Rattle.meaning.specs.Demand.{Answer, a_tree, a_none, a_spent, count_of}
 use Rattle.meaning.specs.Files.{accepted, judge}
 use Rattle.meaning.specs.Results.{Solved, solver_answers, told, solved_number}
 use Rattle.theory.specs.Overlap.{AnsweredBefore}
@@ -20,7 +20,7 @@ low_is : (a : Answer) → Fits (solver_answers a) → low (solved_number (solver
 unfolding low solved_number told
 low_is (a_tree c bs) f = let l = f.0 in let k = f.1 in omega arith
 low_is (a_none c) f = omega arith
-low_is (a-spent c) f = omega arith
+low_is (a_spent c) f = omega arith
 
 module _ {A r : ℕ} {file buffer after : List ℕ} {cs : List Constraint} (most : A ≤ 4294967295) (b : Bytes file) (u : Solves A file buffer r after)
     (e : judge file ≡ accepted cs) (l : 136 ≤ length buffer) where

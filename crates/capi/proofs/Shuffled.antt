@@ -8,7 +8,7 @@ use lib.ListN.{length, length-append}
 use Rattle.meaning.specs.Tree.{Var, Node, Assignment, Tree}
 use Rattle.meaning.specs.Constraint.{Constraint, vars}
 use Rattle.meaning.specs.ReadOff.{NodeRecord, tree_of}
-use Rattle.meaning.specs.Demand.{a_tree, a_none, a-spent}
+use Rattle.meaning.specs.Demand.{a_tree, a_none, a_spent}
 use Rattle.meaning.specs.Marking.{met, unmet}
 use Rattle.meaning.specs.Files.{quads, accepted, judge, accepted_answer, judge_answer, assigned}
 use Rattle.meaning.specs.Results.{Solved, solver_refuses, solver_answers, Marked, marker_refuses, marker_answers, told, marked_number}
@@ -34,7 +34,7 @@ told_same most p e = told_one most ((same_solved p).answers e)
 none_verdict : (r : Solved) → (verdict_number r ≡ 1) ↔ SaysNone r
 none_verdict (solver_answers (a_tree c bs)) = (λ e. absurd (omega arith), λ w. let e = w.1 in let z : ◌≡◌ {A = ℕ} 0 1 = cc in absurd (omega arith))
 none_verdict (solver_answers (a_none c)) = (λ e. (c, refl), λ w. refl)
-none_verdict (solver_answers (a-spent c)) = (λ e. absurd (omega arith), λ w. let e = w.1 in let z : ◌≡◌ {A = ℕ} 0 1 = cc in absurd (omega arith))
+none_verdict (solver_answers (a_spent c)) = (λ e. absurd (omega arith), λ w. let e = w.1 in let z : ◌≡◌ {A = ℕ} 0 1 = cc in absurd (omega arith))
 none_verdict (solver_refuses q) = (λ e. absurd (omega arith), λ w. let e = w.1 in let z : ◌≡◌ {A = ℕ} 0 1 = cc in absurd (omega arith))
 
 -- C sees verdict 1 exactly where none is said, and 2 where spent is

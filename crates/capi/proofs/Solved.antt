@@ -3,7 +3,7 @@ use mathlib.Core.Path.{◌≡◌, sym, ap, ◌∙◌}
 use mathlib.Core.List.{List}
 use Prim.Native.Nat.{ℕ, ◌+◌, ◌*◌}
 use native.Mathlib.Omega.{arith}
-use Rattle.meaning.specs.Demand.{a_tree, a_none, a-spent}
+use Rattle.meaning.specs.Demand.{a_tree, a_none, a_spent}
 use Rattle.meaning.specs.Results.{Solved, solver_refuses, solver_answers, told, solved_number}
 use Rattle.theory.specs.Programs.{solver}
 use Rattle.solver.specs.Solving.{verdict_of, SolverOf}
@@ -22,7 +22,7 @@ number_is : (s : Solved) → number (verdict_of s) ≡ solved_number s
 unfolding number verdict_of solved_number told
 number_is (solver_answers (a_tree c bs)) = omega arith
 number_is (solver_answers (a_none c)) = omega arith
-number_is (solver_answers (a-spent c)) = omega arith
+number_is (solver_answers (a_spent c)) = omega arith
 number_is (solver_refuses q) = omega arith
 
 module _ (A : ℕ) (file buffer : List ℕ) (r : Verdict) (after : List ℕ) (w : SolverOf A file buffer r after) where

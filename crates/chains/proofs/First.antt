@@ -14,7 +14,7 @@ use Rattle.meaning.specs.Constraint.{Fact, child, below}
 use Rattle.meaning.specs.Settled.{self_below, chain, one_parent}
 use Rattle.meaning.specs.Finite.{Yes}
 use Rattle.meaning.specs.ReadOff.{FactSet, same}
-use Rattle.meaning.specs.FixedSearch.{parent-join, chain-join, join}
+use Rattle.meaning.specs.FixedSearch.{parent_join, chain_join, join}
 use Rattle.meaning.proofs.Tests.{clash, and_left, and_right, and_both, no_neg, is_lt, lt_yes}
 use Rattle.theory.specs.Search.{is_a_join, first_of}
 use Rattle.rowbits.specs.Bit.{bit}
@@ -48,7 +48,7 @@ module _ (n : ℕ) (small : n ≤ 16) (S : List Fact) (f : Facts) (r : Ready n S
       not_below : ¬ Yes (bit (row f.below z) x)
       not_above : ¬ Yes (h (below x y))
 
-    parent_parts : Yes (is_a_join h parent-join z x y) → ParentParts
+    parent_parts : Yes (is_a_join h parent_join z x y) → ParentParts
     unfolding is_a_join same
     parent_parts u = record {
       parent = and_left _ u;
@@ -57,7 +57,7 @@ module _ (n : ℕ) (small : n ≤ 16) (S : List Fact) (f : Facts) (r : Ready n S
       not_above = λ t. clash t (and_right _ (and_right _ (and_right _ u)));
     }
 
-    parts_parent : ParentParts → Yes (is_a_join h parent-join z x y)
+    parts_parent : ParentParts → Yes (is_a_join h parent_join z x y)
     unfolding is_a_join same
     parts_parent p =
         and_both p.parent (and_both (sym (above_is n small S f r x z hx hz) ∙ p.above)
@@ -71,7 +71,7 @@ module _ (n : ℕ) (small : n ≤ 16) (S : List Fact) (f : Facts) (r : Ready n S
       above_y : Yes (bit (row f.above z) y)
       incomparable : ¬ Yes (bit (bit_or (row f.below x) (row f.above x)) y)
 
-    chain_parts : Yes (is_a_join h chain-join z x y) → ChainParts
+    chain_parts : Yes (is_a_join h chain_join z x y) → ChainParts
     unfolding is_a_join
     chain_parts u =
         let v = and_right _ u in record {
@@ -82,7 +82,7 @@ module _ (n : ℕ) (small : n ≤ 16) (S : List Fact) (f : Facts) (r : Ready n S
               (λ a. clash (sym (above_is n small S f r y x hy hx) ∙ a) (and_right _ (and_right _ (and_right _ v)))) (or_case _ _ y t);
         }
 
-    parts_chain : ChainParts → Yes (is_a_join h chain-join z x y)
+    parts_chain : ChainParts → Yes (is_a_join h chain_join z x y)
     unfolding is_a_join
     parts_chain p =
         and_both (lt_yes p.ordered) (and_both (sym (above_is n small S f r x z hx hz) ∙ p.above_x) (and_both (sym (above_is n small S f r y z hy hz) ∙ p.above_y)
@@ -99,17 +99,17 @@ module _ (n : ℕ) (small : n ≤ 16) (S : List Fact) (f : Facts) (r : Ready n S
 
 module _ (n : ℕ) (small : n ≤ 16) (f : Facts) (vars : ℕ) (ev : vars ≡ 2 ^ n - 1) (z : Var) (hz : z < n)
     (y : ℕ) (ly : Lowest (bit_and (row f.parent z) vars) y) where
-  passed_parent : (S : List Fact) (r : Ready n S f) (i k : Var) → i < n → k < n → Yes (is_a_join (has f) parent-join z i k) → Yes (bit (bit_and (row f.parent z) vars) k)
+  passed_parent : (S : List Fact) (r : Ready n S f) (i k : Var) → i < n → k < n → Yes (is_a_join (has f) parent_join z i k) → Yes (bit (bit_and (row f.parent z) vars) k)
   passed_parent S r i k hi hk u = vars_in _ vars n k ev hk (parent_is n small S f r k z hk hz ∙ (parent_parts n small S f r z i k hz hi hk u).parent)
 
-  pub none_without_parent : 16 ≤ y → (S : List Fact) → Ready n S f → (i k : Var) → i < n → k < n → ¬ Yes (is_a_join (has f) parent-join z i k)
+  pub none_without_parent : 16 ≤ y → (S : List Fact) → Ready n S f → (i k : Var) → i < n → k < n → ¬ Yes (is_a_join (has f) parent_join z i k)
   none_without_parent l S r i k hi hk u = ly.none k (omega arith) (passed_parent S r i k hi hk u)
 
   module _ (l : y < 16) (x : ℕ) (lx : Lowest (without (bit_and (row f.above z) vars) (bit_or (row f.below z) (row f.above y))) x) where
     y_in : Yes (bit (row f.parent z) y) × (y < n)
     y_in = vars_out _ vars n y ev (ly.this l)
 
-    passed_x : (S : List Fact) (r : Ready n S f) (i k : Var) → i < n → k < n → Yes (is_a_join (has f) parent-join z i k)
+    passed_x : (S : List Fact) (r : Ready n S f) (i k : Var) → i < n → k < n → Yes (is_a_join (has f) parent_join z i k)
         → Yes (bit (without (bit_and (row f.above z) vars) (bit_or (row f.below z) (row f.above y))) i)
     passed_x S r i k hi hk u =
         let p = parent_parts n small S f r z i k hz hi hk u in
@@ -117,7 +117,7 @@ module _ (n : ℕ) (small : n ≤ 16) (f : Facts) (vars : ℕ) (ev : vars ≡ 2 
         (λ t. ⊎_elim p.not_below (λ a. p.not_above (any_parent n small S f r i y z k (sym (parent_is n small S f r y z y_in.1 hz) ∙ y_in.0) p.parent
         (sym (above_is n small S f r i y hi y_in.1) ∙ a))) (or_case _ _ i t))
 
-    pub none_without_x : 16 ≤ x → (S : List Fact) → Ready n S f → (i k : Var) → i < n → k < n → ¬ Yes (is_a_join (has f) parent-join z i k)
+    pub none_without_x : 16 ≤ x → (S : List Fact) → Ready n S f → (i k : Var) → i < n → k < n → ¬ Yes (is_a_join (has f) parent_join z i k)
     none_without_x m S r i k hi hk u = lx.none i (omega arith) (passed_x S r i k hi hk u)
 
     module _ (m : x < 16) where
@@ -127,9 +127,9 @@ module _ (n : ℕ) (small : n ≤ 16) (f : Facts) (vars : ℕ) (ev : vars ≡ 2 
       x_in : Yes (bit (row f.above z) x) × (x < n)
       x_in = vars_out _ vars n x ev x_out.0
 
-      pub parent_first : NoneBefore parent-join n f z → (S : List Fact) → Ready n S f → some (join parent-join z x y) ≡ first_of n (is_a_join (has f) parent-join) (join parent-join)
+      pub parent_first : NoneBefore parent_join n f z → (S : List Fact) → Ready n S f → some (join parent_join z x y) ≡ first_of n (is_a_join (has f) parent_join) (join parent_join)
       parent_first before S r =
-          sym (first_of_is_some n (is_a_join (has f) parent-join) (join parent-join) z x y hz x_in.1 y_in.1
+          sym (first_of_is_some n (is_a_join (has f) parent_join) (join parent_join) z x y hz x_in.1 y_in.1
           (parts_parent n small S f r z x y hz x_in.1 y_in.1 record {
             parent = sym (parent_is n small S f r y z y_in.1 hz) ∙ y_in.0;
             above = x_in.0;
@@ -153,7 +153,7 @@ module _ (f : Facts) (incomparable : List ℕ) (ea : Incomparable f.below f.abov
 module _ (n : ℕ) (small : n ≤ 16) (f : Facts) (vars : ℕ) (ev : vars ≡ 2 ^ n - 1) (incomparable : List ℕ) (ea : Incomparable f.below f.above incomparable)
     (loose : ℕ) (gl : Gathers (λ k. meets (row incomparable k) vars) loose) (z : Var) (hz : z < n)
     (e : without (bit_and (bit_and (row f.above z) vars) loose) (row f.below z) ≡ 0) where
-  pub none_loose : (S : List Fact) → Ready n S f → (i k : Var) → i < n → k < n → ¬ Yes (is_a_join (has f) chain-join z i k)
+  pub none_loose : (S : List Fact) → Ready n S f → (i k : Var) → i < n → k < n → ¬ Yes (is_a_join (has f) chain_join z i k)
   none_loose S r i k hi hk t =
       let p = chain_parts n small S f r z i k hz hi hk t in
       let ki = le_trans hi small in
@@ -177,12 +177,12 @@ module _ (n : ℕ) (small : n ≤ 16) (f : Facts) (vars : ℕ) (ev : vars ≡ 2 
   in_c : (i k : Var) → i < 16 → Yes (bit u i) → Yes (bit u k) → Yes (bit (row incomparable i) k) → Yes (bit (bit_and u g) i)
   in_c i k hi ui uk p = both_in u g i ui (gp.to i hi (meets_in (row incomparable i) u k p uk))
 
-  passed : (S : List Fact) → Ready n S f → (i k : Var) → i < n → k < n → Yes (is_a_join (has f) chain-join z i k) → Yes (bit u i) × Yes (bit u k) × Yes (bit (row incomparable i) k)
+  passed : (S : List Fact) → Ready n S f → (i k : Var) → i < n → k < n → Yes (is_a_join (has f) chain_join z i k) → Yes (bit u i) × Yes (bit u k) × Yes (bit (row incomparable i) k)
   passed S r i k hi hk t =
       let p = chain_parts n small S f r z i k hz hi hk t in
       (vars_in _ vars n i ev hi p.above_x, vars_in _ vars n k ev hk p.above_y, apart_in f incomparable ea i k (le_trans hi small) (le_trans hk small) p.incomparable)
 
-  pub none_apart : 16 ≤ x → (S : List Fact) → Ready n S f → (i k : Var) → i < n → k < n → ¬ Yes (is_a_join (has f) chain-join z i k)
+  pub none_apart : 16 ≤ x → (S : List Fact) → Ready n S f → (i k : Var) → i < n → k < n → ¬ Yes (is_a_join (has f) chain_join z i k)
   none_apart l S r i k hi hk t = let p = passed S r i k hi hk t in lx.none i (omega arith) (in_c i k (le_trans hi small) p.0 p.1 p.2)
 
   module _ (m : x < 16) (fits : row incomparable x < 65536) (y : ℕ) (ly : Lowest (bit_and u (row incomparable x)) y) where
@@ -217,9 +217,9 @@ module _ (n : ℕ) (small : n ≤ 16) (f : Facts) (vars : ℕ) (ev : vars ≡ 2 
             absurd (lx.none y (omega arith) (in_c y x y_16 y_at.0 x_at.0
             (apart_in f incomparable ea y x y_16 m (apart_back n small S f r z x y hz x_n.1 y_n.1 (apart_out f incomparable ea x y m y_16 y_at.1)))))
 
-    pub chain_first : NoneBefore chain-join n f z → (S : List Fact) → Ready n S f → some (join chain-join z x y) ≡ first_of n (is_a_join (has f) chain-join) (join chain-join)
+    pub chain_first : NoneBefore chain_join n f z → (S : List Fact) → Ready n S f → some (join chain_join z x y) ≡ first_of n (is_a_join (has f) chain_join) (join chain_join)
     chain_first before S r =
-        sym (first_of_is_some n (is_a_join (has f) chain-join) (join chain-join) z x y hz x_n.1 y_n.1
+        sym (first_of_is_some n (is_a_join (has f) chain_join) (join chain_join) z x y hz x_n.1 y_n.1
         (parts_chain n small S f r z x y hz x_n.1 y_n.1 record { ordered = x<y S r; above_x = x_n.0; above_y = y_n.0; incomparable = apart_out f incomparable ea x y m y_16 y_at.1 })
         (before S r)
         (λ i k l hk t. let p = passed S r i k (le_trans l (le_of_lt x_n.1)) hk t in lx.none i l (in_c i k (omega arith) p.0 p.1 p.2))

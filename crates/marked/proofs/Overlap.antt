@@ -4,7 +4,7 @@ use mathlib.Core.Path.{◌≡◌, refl, ap, ◌∙◌, subst}
 use mathlib.Core.List.{List, [], ◌∷◌}
 use Prim.Native.Nat.{ℕ}
 use native.Mathlib.Nat.{le_refl}
-use Rattle.meaning.specs.Constraint.{Constraint, is_child, is_below, is-strictly-below, is_before, Fact, facts_of, vars, named}
+use Rattle.meaning.specs.Constraint.{Constraint, is_child, is_below, is_strictly_below, is_before, Fact, facts_of, vars, named}
 use Rattle.meaning.specs.Demand.{Answer, a_tree}
 use Rattle.meaning.specs.FixedSearch.{in_tree, in_none}
 use Rattle.meaning.specs.Finite.{pick, ◌and◌, ◌or◌, neg, anyb, tab, sum, one, anyIn, found, without, arranged, picked, position, smallest}
@@ -35,7 +35,7 @@ was {A = A} {a = a} cs accepts ends answers = record {
   e = ap (answer A (vars cs)) ends ∙ answers
 
 abbrev O1-constraints : List Constraint
-O1-constraints = is_below 1 2 ∷ is-strictly-below 0 2 ∷ is_before 0 3 ∷ is_before 2 3 ∷ []
+O1-constraints = is_below 1 2 ∷ is_strictly_below 0 2 ∷ is_before 0 3 ∷ is_before 2 3 ∷ []
 
 O1-ends : search_by second_before 4 (facts_of O1-constraints) ≡ ended in_none 10
 unfolding pick ◌and◌ ◌or◌ neg same holds settle candidates facts_over pairs pass tabulate rows upto look labels_of labels_in is_given equal follows iterate grew again anyb anyIn is_in chosen tab search_by search_f line branch after_first first_join first_of is_a_join clashes clashes_at first when or_else

@@ -7,7 +7,7 @@ use Prim.Native.Nat.{ℕ, max, ◌<◌}
 use native.Mathlib.Omega.{arith}
 use lib.ListN.{length, get_or, length-map, get_or-map}
 use Rattle.meaning.specs.Tree.{Node, SameLabel, Assignment, Tree, Parent, Above, self, up, EarlierSibling}
-use Rattle.meaning.specs.Constraint.{Constraint, is_child, is_below, is-strictly-below, is_same, is-differ, is-root, is_IsLeaf, is_label, is_before, Meets, vars, facts_of}
+use Rattle.meaning.specs.Constraint.{Constraint, is_child, is_below, is_strictly_below, is_same, is_differ, is_root, is_leaf, is_label, is_before, Meets, vars, facts_of}
 use Rattle.meaning.specs.ReadOff.{NodeRecord, blank_record, tree_of}
 use Rattle.meaning.specs.Marking.{Mark, unmet, Marks, all_met, not_met, is_met}
 use Rattle.meaning.specs.Files.{quad, quads, small_labels, NoCapitals, Judged, refused, accepted, judge, JudgedAnswer, refused_answer, accepted_answer, judge_answer, assigned}
@@ -44,11 +44,11 @@ module _ {t u : Tree} (r : Recased t u) where
 meets_kept : {t u : Tree} → Recased t u → (a : Assignment) (c : Constraint) → Meets t a c → Meets u a c
 meets_kept r a (is_child x y) h = parent_kept r h
 meets_kept r a (is_below x y) h = above_kept r h
-meets_kept r a (is-strictly-below x y) h = (above_kept r h.0, h.1)
+meets_kept r a (is_strictly_below x y) h = (above_kept r h.0, h.1)
 meets_kept r a (is_same x y) h = h
-meets_kept r a (is-differ x y) h = h
-meets_kept r a (is-root x) h = λ v p. h v (parent_kept (recased_back r) p)
-meets_kept r a (is_IsLeaf x) h = λ v p. h v (parent_kept (recased_back r) p)
+meets_kept r a (is_differ x y) h = h
+meets_kept r a (is_root x) h = λ v p. h v (parent_kept (recased_back r) p)
+meets_kept r a (is_leaf x) h = λ v p. h v (parent_kept (recased_back r) p)
 meets_kept r a (is_label x l) h = sym (r.label (a x)) ∙ h
 meets_kept r a (is_before x y) h = sibling_kept r h
 

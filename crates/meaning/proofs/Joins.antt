@@ -8,7 +8,7 @@ use native.Mathlib.Omega.{arith}
 use lib.ListN.{length, get_or}
 use Rattle.meaning.specs.Tree.{Node, Assignment, Tree, IsTree, Parent, Above}
 use Rattle.meaning.specs.Constraint.{Fact, below, differ}
-use Rattle.meaning.specs.FixedSearch.{JoinKind, parent-join, chain-join, sibling-join, document-join, join_kinds, kind_number, Join, join, IsJoin, first_alternative, second_alternative, key, Earlier, here, later, FirstJoin}
+use Rattle.meaning.specs.FixedSearch.{JoinKind, parent_join, chain_join, sibling_join, document_join, join_kinds, kind_number, Join, join, IsJoin, first_alternative, second_alternative, key, Earlier, here, later, FirstJoin}
 use Rattle.meaning.proofs.Trees.{above_same, above_child, ancestors_chain, above_sibling, element_above}
 use Rattle.meaning.proofs.Holds.{HoldsAll, holds_cons, settled_holds}
 
@@ -29,19 +29,19 @@ earlier_total (a ∷ s) (b ∷ t) e = go (dec_lt a b) (dec_lt b a) (earlier_tota
 
 -- the kind with a number: each kind stands at its place in the list of kinds
 abbrev pub kind_at : ℕ → JoinKind
-kind_at i = get_or join_kinds i parent-join
+kind_at i = get_or join_kinds i parent_join
 
 pub kind_at_number : (k : JoinKind) → kind_at (kind_number k) ≡ k
-kind_at_number parent-join = refl
-kind_at_number chain-join = refl
-kind_at_number sibling-join = refl
-kind_at_number document-join = refl
+kind_at_number parent_join = refl
+kind_at_number chain_join = refl
+kind_at_number sibling_join = refl
+kind_at_number document_join = refl
 
 pub kind_number_small : (k : JoinKind) → kind_number k < length join_kinds
-kind_number_small parent-join = omega arith
-kind_number_small chain-join = omega arith
-kind_number_small sibling-join = omega arith
-kind_number_small document-join = omega arith
+kind_number_small parent_join = omega arith
+kind_number_small chain_join = omega arith
+kind_number_small sibling_join = omega arith
+kind_number_small document_join = omega arith
 
 pub number_kind_at : (i : ℕ) → i < length join_kinds → kind_number (kind_at i) ≡ i
 number_kind_at zero l = refl
@@ -68,12 +68,12 @@ first_join_unique j k p q =
 
 module _ (n : ℕ) (t : Tree) (i : IsTree t) (a : Assignment) (S : List Fact) (m : HoldsAll n t a S) where
   pub alternative_holds : (j : Join) → IsJoin n S j → HoldsAll n t a (first_alternative j ++ S) ⊎ HoldsAll n t a (second_alternative j ++ S)
-  alternative_holds (join parent-join z x y) q =
+  alternative_holds (join parent_join z x y) q =
       ⊎_elim
       (λ e. inr (holds_cons {f = below x z} (holds_cons {f = below z x} m (above_same t i (sym e))) (above_same t i e)))
       (λ u. inl (holds_cons {f = below x y} m u))
       (above_child t i (settled_holds n t i a S m q.parent) (settled_holds n t i a S m q.above))
-  alternative_holds (join chain-join z x y) q =
+  alternative_holds (join chain_join z x y) q =
       ⊎_elim
       (λ u. inl (holds_cons {f = below x y} m u))
       (λ u. apart u (ℕ_discrete (a x) (a y)))
@@ -83,7 +83,7 @@ module _ (n : ℕ) (t : Tree) (i : IsTree t) (a : Assignment) (S : List Fact) (m
       apart : Above t (a y) (a x) → Dec (a x ≡ a y) → HoldsAll n t a (below x y ∷ S) ⊎ HoldsAll n t a (below y x ∷ differ x y ∷ S)
       apart u (yes e) = inl (holds_cons {f = below x y} m (above_same t i e))
       apart u (no d) = inr (holds_cons {f = below y x} (holds_cons {f = differ x y} m d) u)
-  alternative_holds (join sibling-join y b x) q =
+  alternative_holds (join sibling_join y b x) q =
       ⊎_elim
       (λ e. inr (holds_cons {f = below b y} (holds_cons {f = below y b} m (above_same t i (sym e))) (above_same t i e)))
       (λ u. inl (holds_cons {f = below b x} m u))
@@ -94,7 +94,7 @@ module _ (n : ℕ) (t : Tree) (i : IsTree t) (a : Assignment) (S : List Fact) (m
     where
       above : Above t (a b) (a y)
       above = settled_holds n t i a S m q.above
-  alternative_holds (join document-join r y w) q =
+  alternative_holds (join document_join r y w) q =
       let e : a r ≡ 0 = settled_holds n t i a S m q.document in
       let c : Parent t (a r) (a y) = settled_holds n t i a S m q.element in
       let f : a y ≡ 1 = i.one_child (a y) (subst (λ (u : Node). Parent t u (a y)) e c) in

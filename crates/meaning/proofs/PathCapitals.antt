@@ -9,10 +9,10 @@ use native.Mathlib.Omega.{arith}
 use lib.ListN.{length-map}
 use Rattle.meaning.specs.Finite.{Yes, pick, ◌and◌}
 use Rattle.meaning.specs.Tree.{Var, Node, Label, is_capital, folded, Tree}
-use Rattle.meaning.specs.Constraint.{Constraint, is_child, is_below, is-strictly-below, is_same, is-differ, is-root, is_IsLeaf, is_label, is_before}
+use Rattle.meaning.specs.Constraint.{Constraint, is_child, is_below, is_strictly_below, is_same, is_differ, is_root, is_leaf, is_label, is_before}
 use Rattle.meaning.specs.Ascii.{ascii}
 use Rattle.meaning.specs.Files.{small_labels}
-use Rattle.meaning.specs.Paths.{Axis, to-self, to_child, to_parent, to-descendant, to-ancestor, to-descendant-or-self, to-ancestor-or-self, to-following-sibling, to-preceding-sibling, is_small, is_letter, Test, letter, any, Path, alone, from-root, from-here, Steps, one, more, Step, move, having, axis_text, test_byte, path_text, steps_text, step_text, lines_text, OfForm}
+use Rattle.meaning.specs.Paths.{Axis, to_self, to_child, to_parent, to_descendant, to_ancestor, to_descendant_or_self, to_ancestor_or_self, to_following_sibling, to_preceding_sibling, is_small, is_letter, Test, letter, any, Path, alone, from_root, from_here, Steps, one, more, Step, move, having, axis_text, test_byte, path_text, steps_text, step_text, lines_text, OfForm}
 use Rattle.meaning.specs.PathRecords.{Sheet, blank_sheet, next_taken, with_records, rooted_by, rooted, axis_record, move_records, path_sheet, steps_sheet, step_sheet, end_sheet, line_sheet, lines_sheet, records_of, variables_of, record_bytes, file_bytes}
 use Rattle.meaning.specs.Selection.{Expr, tag, Denotes, test_expr, path_expr, steps_expr, step_expr, Selects}
 use Rattle.meaning.specs.Capitals.{small_text, LinesCaseAside}
@@ -39,8 +39,8 @@ small_test any = any
 mutual
   pub small_path : Path → Path
   small_path alone = alone
-  small_path (from-root ss) = from-root (small_steps ss)
-  small_path (from-here ss) = from-here (small_steps ss)
+  small_path (from_root ss) = from_root (small_steps ss)
+  small_path (from_here ss) = from_here (small_steps ss)
 
   small_steps : Steps → Steps
   small_steps (one s) = one (small_step s)
@@ -54,15 +54,15 @@ mutual
 
 axis_text_lem : (a : Axis) → small_text (axis_text a) ≡ axis_text a
 unfolding axis_text ascii folded is_capital pick ◌and◌
-axis_text_lem to-self = refl
+axis_text_lem to_self = refl
 axis_text_lem to_child = refl
 axis_text_lem to_parent = refl
-axis_text_lem to-descendant = refl
-axis_text_lem to-ancestor = refl
-axis_text_lem to-descendant-or-self = refl
-axis_text_lem to-ancestor-or-self = refl
-axis_text_lem to-following-sibling = refl
-axis_text_lem to-preceding-sibling = refl
+axis_text_lem to_descendant = refl
+axis_text_lem to_ancestor = refl
+axis_text_lem to_descendant_or_self = refl
+axis_text_lem to_ancestor_or_self = refl
+axis_text_lem to_following_sibling = refl
+axis_text_lem to_preceding_sibling = refl
 
 test_byte_lem : (t : Test) → folded (test_byte t) ≡ test_byte (small_test t)
 unfolding test_byte folded is_capital pick ◌and◌
@@ -79,8 +79,8 @@ mutual
 
   path_text_lem : (p : Path) → small_text (path_text p) ≡ path_text (small_path p)
   path_text_lem alone = rw marks.1
-  path_text_lem (from-root ss) = rw (marks.1, steps_text_lem ss)
-  path_text_lem (from-here ss) = steps_text_lem ss
+  path_text_lem (from_root ss) = rw (marks.1, steps_text_lem ss)
+  path_text_lem (from_here ss) = steps_text_lem ss
 
   steps_text_lem : (ss : Steps) → small_text (steps_text ss) ≡ steps_text (small_steps ss)
   steps_text_lem (one s) = step_text_lem s
@@ -113,11 +113,11 @@ small_form {text} {ps} f =
 abbrev small_record : Constraint → Constraint
 small_record (is_child x y) = is_child x y
 small_record (is_below x y) = is_below x y
-small_record (is-strictly-below x y) = is-strictly-below x y
+small_record (is_strictly_below x y) = is_strictly_below x y
 small_record (is_same x y) = is_same x y
-small_record (is-differ x y) = is-differ x y
-small_record (is-root x) = is-root x
-small_record (is_IsLeaf x) = is_IsLeaf x
+small_record (is_differ x y) = is_differ x y
+small_record (is_root x) = is_root x
+small_record (is_leaf x) = is_leaf x
 small_record (is_label x l) = is_label x (folded l)
 small_record (is_before x y) = is_before x y
 
@@ -126,15 +126,15 @@ small_sheet w = record { next = w.next; root_at = w.root_at; records = map small
 
 axis_record_lem : (a : Axis) (x y : Var) → small_record (axis_record a x y) ≡ axis_record a x y
 unfolding axis_record
-axis_record_lem to-self x y = refl
+axis_record_lem to_self x y = refl
 axis_record_lem to_child x y = refl
 axis_record_lem to_parent x y = refl
-axis_record_lem to-descendant x y = refl
-axis_record_lem to-ancestor x y = refl
-axis_record_lem to-descendant-or-self x y = refl
-axis_record_lem to-ancestor-or-self x y = refl
-axis_record_lem to-following-sibling x y = refl
-axis_record_lem to-preceding-sibling x y = refl
+axis_record_lem to_descendant x y = refl
+axis_record_lem to_ancestor x y = refl
+axis_record_lem to_descendant_or_self x y = refl
+axis_record_lem to_ancestor_or_self x y = refl
+axis_record_lem to_following_sibling x y = refl
+axis_record_lem to_preceding_sibling x y = refl
 
 move_records_lem : (a : Axis) (t : Test) (x y : Var) → map small_record (move_records a t x y) ≡ move_records a (small_test t) x y
 unfolding move_records
@@ -150,7 +150,7 @@ unfolding rooted rooted_by
 rooted_small w = by w.root_at
   where
     by : (r : Var) → rooted_by r (small_sheet w) ≡ small_sheet (rooted_by r w)
-    by zero = rw (map-append small_record w.records (is-root w.next ∷ []))
+    by zero = rw (map-append small_record w.records (is_root w.next ∷ []))
     by (suc r) = refl
 
 mutual
@@ -158,8 +158,8 @@ mutual
 
   path_sheet_lem : (p : Path) (x : Var) (w : Sheet) → path_sheet (small_path p) x (small_sheet w) ≡ small_sheet (path_sheet p x w)
   path_sheet_lem alone x w = rooted_small w
-  path_sheet_lem (from-root ss) x w = ap (λ (v : Sheet). steps_sheet (small_steps ss) v.root_at v) (rooted_small w) ∙ steps_sheet_lem ss (rooted w).root_at (rooted w)
-  path_sheet_lem (from-here ss) x w = steps_sheet_lem ss x w
+  path_sheet_lem (from_root ss) x w = ap (λ (v : Sheet). steps_sheet (small_steps ss) v.root_at v) (rooted_small w) ∙ steps_sheet_lem ss (rooted w).root_at (rooted w)
+  path_sheet_lem (from_here ss) x w = steps_sheet_lem ss x w
 
   steps_sheet_lem : (ss : Steps) (x : Var) (w : Sheet) → steps_sheet (small_steps ss) x (small_sheet w) ≡ small_sheet (steps_sheet ss x w)
   steps_sheet_lem (one s) x w = step_sheet_lem s x w.next (next_taken w)
@@ -180,8 +180,8 @@ line_sheet_lem : (p : Path) (w : Sheet) → line_sheet (small_path p) (small_she
 unfolding line_sheet small_path next_taken
 line_sheet_lem alone w =
     ap (λ (v : Sheet). with_records (is_same v.root_at 0 ∷ []) v) (rooted_small w) ∙ with_small (is_same (rooted w).root_at 0 ∷ []) (rooted w)
-line_sheet_lem (from-root ss) w = ap (λ (v : Sheet). end_sheet (small_steps ss) v.root_at v) (rooted_small w) ∙ end_sheet_lem ss (rooted w).root_at (rooted w)
-line_sheet_lem (from-here ss) w = end_sheet_lem ss w.next (next_taken w)
+line_sheet_lem (from_root ss) w = ap (λ (v : Sheet). end_sheet (small_steps ss) v.root_at v) (rooted_small w) ∙ end_sheet_lem ss (rooted w).root_at (rooted w)
+line_sheet_lem (from_here ss) w = end_sheet_lem ss w.next (next_taken w)
 
 lines_sheet_lem : (ps : List Path) (w : Sheet) → lines_sheet (map small_path ps) (small_sheet w) ≡ small_sheet (lines_sheet ps w)
 unfolding lines_sheet
@@ -192,11 +192,11 @@ record_bytes_lem : (c : Constraint) (bs : List ℕ) → record_bytes (small_reco
 unfolding record_bytes small_labels
 record_bytes_lem (is_child x y) bs = rw folded_blank
 record_bytes_lem (is_below x y) bs = rw folded_blank
-record_bytes_lem (is-strictly-below x y) bs = rw folded_blank
+record_bytes_lem (is_strictly_below x y) bs = rw folded_blank
 record_bytes_lem (is_same x y) bs = rw folded_blank
-record_bytes_lem (is-differ x y) bs = rw folded_blank
-record_bytes_lem (is-root x) bs = rw folded_blank
-record_bytes_lem (is_IsLeaf x) bs = rw folded_blank
+record_bytes_lem (is_differ x y) bs = rw folded_blank
+record_bytes_lem (is_root x) bs = rw folded_blank
+record_bytes_lem (is_leaf x) bs = rw folded_blank
 record_bytes_lem (is_label x l) bs = refl
 record_bytes_lem (is_before x y) bs = rw folded_blank
 
@@ -240,8 +240,8 @@ module _ (t : Tree) where
 
     path_alike : (p : Path) → Leads (path_expr (small_path p)) ≡ Leads (path_expr p)
     path_alike alone = refl
-    path_alike (from-root ss) = over_alike refl (steps_alike ss)
-    path_alike (from-here ss) = steps_alike ss
+    path_alike (from_root ss) = over_alike refl (steps_alike ss)
+    path_alike (from_here ss) = steps_alike ss
 
     steps_alike : (ss : Steps) → Leads (steps_expr (small_steps ss)) ≡ Leads (steps_expr ss)
     steps_alike (one s) = step_alike s

@@ -7,8 +7,8 @@ use native.Mathlib.Nat.{le_refl, le_antisymm}
 use native.Mathlib.Omega.{arith}
 use lib.ListN.{length, length-append}
 use Rattle.meaning.specs.Tree.{Var}
-use Rattle.meaning.specs.Constraint.{Constraint, is_same, is-root, named, vars}
-use Rattle.meaning.specs.Paths.{Axis, Test, letter, any, Path, alone, from-root, from-here, Steps, one, more, Step, move, having}
+use Rattle.meaning.specs.Constraint.{Constraint, is_same, is_root, named, vars}
+use Rattle.meaning.specs.Paths.{Axis, Test, letter, any, Path, alone, from_root, from_here, Steps, one, more, Step, move, having}
 use Rattle.meaning.specs.PathRecords.{Sheet, blank_sheet, next_taken, with_records, rooted_by, rooted, move_records, path_sheet, steps_sheet, step_sheet, end_sheet, line_sheet, lines_sheet, records_of, variables_of}
 use Rattle.meaning.proofs.Constraints.{named_most, vars_least}
 use Rattle.meaning.proofs.PathSheets.{move_vars, Fine, blank_fine, line_grown, lines_grown}
@@ -42,8 +42,8 @@ move_counted k q x y w h = record {
 rooted_by_lem : (w : Sheet) (r : Var) → w.root_at ≡ r → (0 < w.root_at → w.next ≤ vars w.records) → Counted 0 w (rooted_by r w)
 unfolding rooted_by vars named
 rooted_by_lem w zero e h = record {
-  covered = let d = vars_append w.records (is-root w.next ∷ []) in omega arith;
-  short = let d = length-append w.records (is-root w.next ∷ []) in omega arith;
+  covered = let d = vars_append w.records (is_root w.next ∷ []) in omega arith;
+  short = let d = length-append w.records (is_root w.next ∷ []) in omega arith;
 }
 rooted_by_lem w (suc r) e h = record { covered = h (omega arith); short = omega arith }
 
@@ -72,10 +72,10 @@ mutual
 
   path_counted : (p : Path) (x : Var) (w : Sheet) → w.next ≤ vars w.records → Counted 0 w (path_sheet p x w)
   path_counted alone x w h = rooted_counted w (λ _. h)
-  path_counted (from-root ss) x w h =
+  path_counted (from_root ss) x w h =
       let c = rooted_counted w (λ _. h) in
       counted_trans c (steps_counted ss (rooted w).root_at (rooted w) (named_next (rooted w) (rooted w).root_at c.covered))
-  path_counted (from-here ss) x w h = steps_counted ss x w (named_next w x h)
+  path_counted (from_here ss) x w h = steps_counted ss x w (named_next w x h)
 
   steps_counted : (ss : Steps) (x : Var) (w : Sheet) → Named w x → Counted 0 w (steps_sheet ss x w)
   steps_counted (one s) x w h = next_taken_counted (step_counted s x w.next (next_taken w) (fresh_named w x))
@@ -104,7 +104,7 @@ Begun w = w.next ≤ max 1 (vars w.records)
 begun_rooted : (w : Sheet) → Fine w → Begun w → 0 < w.root_at → w.next ≤ vars w.records
 unfolding named
 begun_rooted w f h l =
-    let d : suc w.root_at ≤ vars w.records = named_most w.records (is-root w.root_at) (f.recorded l) in omega arith
+    let d : suc w.root_at ≤ vars w.records = named_most w.records (is_root w.root_at) (f.recorded l) in omega arith
 
 line_counted : (p : Path) (w : Sheet) → Fine w → Begun w → Counted 2 w (line_sheet p w)
 unfolding line_sheet with_records next_taken
@@ -115,10 +115,10 @@ line_counted alone w f h =
       covered = let d = vars_append (rooted w).records (is_same q 0 ∷ []) in let e = c.covered in omega arith;
       short = let d = length-append (rooted w).records (is_same q 0 ∷ []) in let e = c.short in omega arith;
     }
-line_counted (from-root ss) w f h =
+line_counted (from_root ss) w f h =
     let c = rooted_counted w (begun_rooted w f h) in
     counted_trans c (end_counted ss (rooted w).root_at (rooted w) (named_next (rooted w) (rooted w).root_at c.covered))
-line_counted (from-here ss) w f h =
+line_counted (from_here ss) w f h =
     let c = end_counted ss w.next (next_taken w) (omega arith) in
     record { covered = c.covered; short = let d = c.short in omega arith }
 
@@ -167,10 +167,10 @@ records_few ps = blank_short (lines_sheet ps blank_sheet) (2 * length ps) (lines
 first_short : (p : Path) → length (line_sheet p blank_sheet).records + 2 ≤ 2 * (line_sheet p blank_sheet).next + 1
 unfolding line_sheet with_records next_taken rooted rooted_by blank_sheet
 first_short alone = omega arith
-first_short (from-root ss) =
+first_short (from_root ss) =
     let w = rooted blank_sheet in
     let c = (end_counted ss 1 w (named_next w 1 (rooted_counted blank_sheet (begun_rooted blank_sheet blank_fine blank_begun)).covered)).short in omega (arith, c)
-first_short (from-here ss) = let c = (end_counted ss 1 (next_taken blank_sheet) (omega arith)).short in omega (arith, c)
+first_short (from_here ss) = let c = (end_counted ss 1 (next_taken blank_sheet) (omega arith)).short in omega (arith, c)
 
 -- so there is one record less
 pub records_most : (ps : List Path) → 1 ≤ length ps → length (records_of ps) + 3 ≤ 2 * variables_of ps + 2 * length ps

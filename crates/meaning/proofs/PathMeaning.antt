@@ -9,8 +9,8 @@ use Prim.Native.Nat.{ℕ, zero, suc, ◌≤◌, ◌<◌, zero-le, suc-le-suc}
 use native.Mathlib.Nat.{le_refl, le_trans, not-suc-le-zero}
 use native.Mathlib.Omega.{arith}
 use Rattle.meaning.specs.Tree.{Var, Node, Label, folded, Assignment, Tree, IsTree}
-use Rattle.meaning.specs.Constraint.{Constraint, is_same, is-root, Meets, MeetsAll, CanBeMet, vars}
-use Rattle.meaning.specs.Paths.{to-self, is_letter, letter, any, Path, alone, from-root, from-here, Steps, one, more, Step, move, having}
+use Rattle.meaning.specs.Constraint.{Constraint, is_same, is_root, Meets, MeetsAll, CanBeMet, vars}
+use Rattle.meaning.specs.Paths.{to_self, is_letter, letter, any, Path, alone, from_root, from_here, Steps, one, more, Step, move, having}
 use Rattle.meaning.specs.Selection.{Expr, Denotes, axis_expr, test_expr, path_expr, steps_expr, step_expr, Selects, SomeTreeSelects}
 use Rattle.meaning.specs.PathRecords.{Sheet, blank_sheet, next_taken, with_records, rooted_by, rooted, move_records, path_sheet, steps_sheet, step_sheet, end_sheet, line_sheet, lines_sheet, records_of, variables_of}
 use Rattle.meaning.proofs.Labels.{folded_least}
@@ -36,7 +36,7 @@ module _ (t : Tree) (i : IsTree t) (a : Assignment) (n : ℕ) (placed : (x : Var
   back g k = record { low = le_trans g.next_le k.low; met = λ c m. k.met c (g.keeps c m) }
 
   on_root : (w : Sheet) → Fine w → 0 < w.root_at → Kept w → a w.root_at ≡ 0
-  on_root w f h k = no_parent t i (placed _ (le_trans f.root_low k.low)) (k.met (is-root w.root_at) (f.recorded h))
+  on_root w f h k = no_parent t i (placed _ (le_trans f.root_low k.low)) (k.met (is_root w.root_at) (f.recorded h))
 
   -- some node is reached
   abbrev Leads : (Node → Node → Type 0) → Node → Type 0
@@ -47,12 +47,12 @@ module _ (t : Tree) (i : IsTree t) (a : Assignment) (n : ℕ) (placed : (x : Var
 
     path_leads : (p : Path) (x : Var) (w : Sheet) → Fine w → x < w.next → Kept (path_sheet p x w) → Leads (Denotes t (path_expr p)) (a x)
     path_leads alone x w f l k = (0, some_node t i, refl)
-    path_leads (from-root ss) x w f l k =
+    path_leads (from_root ss) x w f l k =
         let r = rooted_grown w f in
         let g = steps_grown ss (rooted w).root_at (rooted w) r.grown.fine r.grown.fine.root_low in
         let d = steps_lead ss (rooted w).root_at (rooted w) r.grown.fine r.grown.fine.root_low k in
         (d.0, d.1, (0, some_node t i, refl, subst (λ (u : Node). Denotes t (steps_expr ss) u d.0) (on_root (rooted w) r.grown.fine r.positive (back g k)) d.2))
-    path_leads (from-here ss) x w f l k = steps_lead ss x w f l k
+    path_leads (from_here ss) x w f l k = steps_lead ss x w f l k
 
     steps_lead : (ss : Steps) (x : Var) (w : Sheet) → Fine w → x < w.next → Kept (steps_sheet ss x w) → Leads (Denotes t (steps_expr ss)) (a x)
     steps_lead (one s) x w f l k =
@@ -93,13 +93,13 @@ module _ (t : Tree) (i : IsTree t) (a : Assignment) (n : ℕ) (placed : (x : Var
       let m : Kept (rooted w) = record { low = k.low; met = λ c h. k.met c (Memᴰ.append_left _ h) } in
       let e : a (rooted w).root_at ≡ a 0 = k.met (is_same (rooted w).root_at 0) (Memᴰ.append_right (rooted w).records (Memᴰ.head refl)) in
       record { start = 0; inside = some_node t i; leads = sym e ∙ on_root (rooted w) r.grown.fine r.positive m }
-  line_selects (from-root ss) w f k =
+  line_selects (from_root ss) w f k =
       let r = rooted_grown w f in
       let g = end_grown ss (rooted w).root_at (rooted w) r.grown.fine r.grown.fine.root_low in
       let d = end_leads ss (rooted w).root_at (rooted w) r.grown.fine r.grown.fine.root_low k in
       let e = on_root (rooted w) r.grown.fine r.positive (back g k) in
       record { start = 0; inside = some_node t i; leads = (0, some_node t i, refl, subst (λ (u : Node). Denotes t (steps_expr ss) u (a 0)) e d) }
-  line_selects (from-here ss) w f k =
+  line_selects (from_here ss) w f k =
       let g = next_taken_grown w f in
       let h = end_grown ss w.next (next_taken w) g.fine (next_low w) in
       record { start = a w.next; inside = placed w.next (le_trans (next_low w) (back h k).low); leads = end_leads ss w.next (next_taken w) g.fine (next_low w) k }
@@ -168,7 +168,7 @@ module _ (t : Tree) (i : IsTree t) where
         good = record {
           placed = h.placed;
           met = met_append t i b w.records _ h.met
-              (met_cons t i b {c = is-root w.next} (λ u p. let q = p.not_first in let z = put_at a w.next 0 in omega arith) (met_nil t i b));
+              (met_cons t i b {c = is_root w.next} (λ u p. let q = p.not_first in let z = put_at a w.next 0 in omega arith) (met_nil t i b));
           on_first = λ _. put_at a w.next 0;
         };
       }
@@ -190,13 +190,13 @@ module _ (t : Tree) (i : IsTree t) where
 
     path_met : (p : Path) (x : Var) (w : Sheet) (a : Assignment) → Fine w → x < w.next → Good a w → (v : Node) → v < t.size → Denotes t (path_expr p) (a x) v → Extended a w (path_sheet p x w)
     path_met alone x w a f l g v k d = rooted_good a w f g
-    path_met (from-root ss) x w a f l g v k d =
+    path_met (from_root ss) x w a f l g v k d =
         let r = rooted_grown w f in
         let e = rooted_good a w f g in
         extended_trans e r.grown.next_le
         (steps_met ss (rooted w).root_at (rooted w) e.to r.grown.fine r.grown.fine.root_low e.good v k
         (moved (steps_expr ss) (d.2 ∙ sym (e.good.on_first r.positive)) refl d.3))
-    path_met (from-here ss) x w a f l g v k d = steps_met ss x w a f l g v k d
+    path_met (from_here ss) x w a f l g v k d = steps_met ss x w a f l g v k d
 
     steps_met : (ss : Steps) (x : Var) (w : Sheet) (a : Assignment) → Fine w → x < w.next → Good a w → (v : Node) → v < t.size → Denotes t (steps_expr ss) (a x) v → Extended a w (steps_sheet ss x w)
     steps_met (one s) x w a f l g v k d =
@@ -250,14 +250,14 @@ module _ (t : Tree) (i : IsTree t) where
         good = with_records_good b _ (rooted w) e.good
             (met_cons t i b {c = is_same (rooted w).root_at 0} (e.good.on_first r.positive ∙ sym (e.agrees 0 f.first ∙ s.leads)) (met_nil t i b));
       }
-  line_met (from-root ss) w a f g s =
+  line_met (from_root ss) w a f g s =
       let r = rooted_grown w f in
       let e = rooted_good a w f g in
       let d = s.leads in
       extended_trans e r.grown.next_le
       (end_met ss (rooted w).root_at (rooted w) e.to r.grown.fine r.grown.fine.root_low e.good
       (moved (steps_expr ss) (d.2 ∙ sym (e.good.on_first r.positive)) (sym (e.agrees 0 f.first)) d.3))
-  line_met (from-here ss) w a f g s =
+  line_met (from_here ss) w a f g s =
       let n = next_taken_grown w f in
       let e = next_taken_extended a w f g s.start s.inside in
       extended_trans e n.next_le
@@ -335,12 +335,12 @@ met_iff_selected ps = (selected_if_met ps, met_if_selected ps)
 -- ---- the document node has no name
 
 -- "`*` still passes the document node"
-pub star_passes : {t : Tree} → IsTree t → Selects t (from-root (one (move to-self any))) 0
+pub star_passes : {t : Tree} → IsTree t → Selects t (from_root (one (move to_self any))) 0
 unfolding path_expr steps_expr step_expr test_expr axis_expr
 star_passes {t} i = record { start = 0; inside = some_node t i; leads = (0, some_node t i, refl, refl) }
 
 -- no letter does: of `/self::a` no tree has a node selected
-pub letter_stops : (b : Label) (l : Yes (is_letter b)) → ¬ SomeTreeSelects (from-root (one (move to-self (letter b l))) ∷ [])
+pub letter_stops : (b : Label) (l : Yes (is_letter b)) → ¬ SomeTreeSelects (from_root (one (move to_self (letter b l))) ∷ [])
 unfolding path_expr steps_expr step_expr test_expr axis_expr
 letter_stops b l s =
     let d = (s.by_every _ (Memᴰ.head refl)).leads in

@@ -9,7 +9,7 @@ use native.Mathlib.Nat.{lt_irrefl}
 use native.Mathlib.Omega.{arith}
 use Rattle.meaning.specs.Tree.{Var, Node, Label, folded, Assignment, Tree, IsTree, Parent, Above, self, up}
 use Rattle.meaning.specs.Constraint.{Constraint, is_label, Meets}
-use Rattle.meaning.specs.Paths.{Axis, to-self, to_child, to_parent, to-descendant, to-ancestor, to-descendant-or-self, to-ancestor-or-self, to-following-sibling, to-preceding-sibling, Test, letter, any}
+use Rattle.meaning.specs.Paths.{Axis, to_self, to_child, to_parent, to_descendant, to_ancestor, to_descendant_or_self, to_ancestor_or_self, to_following_sibling, to_preceding_sibling, Test, letter, any}
 use Rattle.meaning.specs.Selection.{Denotes, axis_expr, test_expr, tag}
 use Rattle.meaning.specs.PathRecords.{axis_record, move_records}
 use Rattle.meaning.proofs.Trees.{parent_smaller, above_le, above_trans}
@@ -37,27 +37,27 @@ module _ (t : Tree) (i : IsTree t) where
   module _ (a : Assignment) where
     axis_meets : (k : Axis) (x y : Var) → Denotes t (axis_expr k) (a x) (a y) → Meets t a (axis_record k x y)
     unfolding axis_expr axis_record
-    axis_meets to-self x y d = d
+    axis_meets to_self x y d = d
     axis_meets to_child x y d = d
     axis_meets to_parent x y d = d
-    axis_meets to-descendant x y d = child_above_proper d.2 d.3
-    axis_meets to-ancestor x y d = parent_below_proper d.2 d.3
-    axis_meets to-descendant-or-self x y d = d
-    axis_meets to-ancestor-or-self x y d = d
-    axis_meets to-following-sibling x y d = d
-    axis_meets to-preceding-sibling x y d = d
+    axis_meets to_descendant x y d = child_above_proper d.2 d.3
+    axis_meets to_ancestor x y d = parent_below_proper d.2 d.3
+    axis_meets to_descendant_or_self x y d = d
+    axis_meets to_ancestor_or_self x y d = d
+    axis_meets to_following_sibling x y d = d
+    axis_meets to_preceding_sibling x y d = d
 
     axis_denotes : (k : Axis) (x y : Var) → Meets t a (axis_record k x y) → Denotes t (axis_expr k) (a x) (a y)
     unfolding axis_expr axis_record
-    axis_denotes to-self x y m = m
+    axis_denotes to_self x y m = m
     axis_denotes to_child x y m = m
     axis_denotes to_parent x y m = m
-    axis_denotes to-descendant x y m = has_child_above m.0 m.1
-    axis_denotes to-ancestor x y m = has_parent_below m.0 m.1
-    axis_denotes to-descendant-or-self x y m = m
-    axis_denotes to-ancestor-or-self x y m = m
-    axis_denotes to-following-sibling x y m = m
-    axis_denotes to-preceding-sibling x y m = m
+    axis_denotes to_descendant x y m = has_child_above m.0 m.1
+    axis_denotes to_ancestor x y m = has_parent_below m.0 m.1
+    axis_denotes to_descendant_or_self x y m = m
+    axis_denotes to_ancestor_or_self x y m = m
+    axis_denotes to_following_sibling x y m = m
+    axis_denotes to_preceding_sibling x y m = m
 
     abbrev pub Met : List Constraint → Type 0
     Met cs = (c : Constraint) → Memᴰ c cs → Meets t a c

@@ -9,9 +9,9 @@ use native.Mathlib.Nat.{le_refl, le_trans, zero-lt-suc, not-suc-le-zero}
 use native.Mathlib.Omega.{arith}
 use lib.Dec.{leb}
 use Rattle.meaning.specs.Tree.{Var, is_capital}
-use Rattle.meaning.specs.Constraint.{Constraint, is_same, is-root, named, vars}
+use Rattle.meaning.specs.Constraint.{Constraint, is_same, is_root, named, vars}
 use Rattle.meaning.specs.Finite.{Yes}
-use Rattle.meaning.specs.Paths.{Axis, to-self, to_child, to_parent, to-descendant, to-ancestor, to-descendant-or-self, to-ancestor-or-self, to-following-sibling, to-preceding-sibling, is_small, is_letter, Test, letter, any, Path, alone, from-root, from-here, Steps, one, more, Step, move, having}
+use Rattle.meaning.specs.Paths.{Axis, to_self, to_child, to_parent, to_descendant, to_ancestor, to_descendant_or_self, to_ancestor_or_self, to_following_sibling, to_preceding_sibling, is_small, is_letter, Test, letter, any, Path, alone, from_root, from_here, Steps, one, more, Step, move, having}
 use Rattle.meaning.specs.PathRecords.{Sheet, blank_sheet, next_taken, with_records, rooted_by, rooted, axis_record, move_records, path_sheet, steps_sheet, step_sheet, end_sheet, line_sheet, lines_sheet}
 use Rattle.meaning.proofs.Tests.{and_left, and_right, either, is_le}
 use Rattle.meaning.proofs.Labels.{capital_range}
@@ -21,15 +21,15 @@ use Rattle.meaning.proofs.Constraints.{OnLabelOf, named_most}
 
 axis_named : (k : Axis) (x y : Var) → named (axis_record k x y) ≡ suc (max x y)
 unfolding named axis_record
-axis_named to-self x y = refl
+axis_named to_self x y = refl
 axis_named to_child x y = refl
 axis_named to_parent x y = omega arith
-axis_named to-descendant x y = refl
-axis_named to-ancestor x y = omega arith
-axis_named to-descendant-or-self x y = refl
-axis_named to-ancestor-or-self x y = omega arith
-axis_named to-following-sibling x y = refl
-axis_named to-preceding-sibling x y = omega arith
+axis_named to_descendant x y = refl
+axis_named to_ancestor x y = omega arith
+axis_named to_descendant_or_self x y = refl
+axis_named to_ancestor_or_self x y = omega arith
+axis_named to_following_sibling x y = refl
+axis_named to_preceding_sibling x y = omega arith
 
 pub move_vars : (k : Axis) (t : Test) (x y : Var) → vars (move_records k t x y) ≡ suc (max x y)
 unfolding vars named move_records
@@ -42,15 +42,15 @@ Lettered = OnLabelOf (λ l. Yes (is_letter l))
 
 axis_lettered : (k : Axis) (x y : Var) → Lettered (axis_record k x y)
 unfolding axis_record
-axis_lettered to-self x y = tt
+axis_lettered to_self x y = tt
 axis_lettered to_child x y = tt
 axis_lettered to_parent x y = tt
-axis_lettered to-descendant x y = tt
-axis_lettered to-ancestor x y = tt
-axis_lettered to-descendant-or-self x y = tt
-axis_lettered to-ancestor-or-self x y = tt
-axis_lettered to-following-sibling x y = tt
-axis_lettered to-preceding-sibling x y = tt
+axis_lettered to_descendant x y = tt
+axis_lettered to_ancestor x y = tt
+axis_lettered to_descendant_or_self x y = tt
+axis_lettered to_ancestor_or_self x y = tt
+axis_lettered to_following_sibling x y = tt
+axis_lettered to_preceding_sibling x y = tt
 
 pub small_range : (b : ℕ) → Yes (is_small b) → (97 ≤ b) × (b ≤ 122)
 unfolding is_small
@@ -80,7 +80,7 @@ move_lettered k any x y c m =
 pub record Fine (w : Sheet) : Type 0 where
   pub first : 0 < w.next
   pub root_low : w.root_at < w.next
-  pub recorded : 0 < w.root_at → Memᴰ (is-root w.root_at) w.records
+  pub recorded : 0 < w.root_at → Memᴰ (is_root w.root_at) w.records
   pub low : (c : Constraint) → Memᴰ c w.records → named c ≤ w.next
   pub lettered : (c : Constraint) → Memᴰ c w.records → Lettered c
 
@@ -132,7 +132,7 @@ with_records_grown cs w f low let-ok = record {
 }
 
 -- after a start at the root: the root has a number and a record
-root_named : (x : Var) → named (is-root x) ≤ suc x
+root_named : (x : Var) → named (is_root x) ≤ suc x
 unfolding named
 root_named x = le_refl _
 
@@ -161,13 +161,13 @@ rooted_by_lem w f zero e = record {
   positive = f.first;
 }
   where
-    only : (c : Constraint) → Memᴰ c (is-root w.next ∷ []) → c ≡ is-root w.next
+    only : (c : Constraint) → Memᴰ c (is_root w.next ∷ []) → c ≡ is_root w.next
     only c k = ⊎_elim (λ e. e) (λ m. absurd (Memᴰ.not-nil m)) (Memᴰ.cases_cons k)
 
-    root_record : (c : Constraint) → Memᴰ c (is-root w.next ∷ []) → named c ≤ suc w.next
+    root_record : (c : Constraint) → Memᴰ c (is_root w.next ∷ []) → named c ≤ suc w.next
     root_record c k = subst (λ (d : Constraint). named d ≤ suc w.next) (sym (only c k)) (root_named w.next)
 
-    root_lettered : (c : Constraint) → Memᴰ c (is-root w.next ∷ []) → Lettered c
+    root_lettered : (c : Constraint) → Memᴰ c (is_root w.next ∷ []) → Lettered c
     root_lettered c k = subst Lettered (sym (only c k)) tt
 rooted_by_lem w f (suc r) e = record {
   grown = record { fine = f; next_le = le_refl _; keeps = λ c m. m };
@@ -191,10 +191,10 @@ mutual
 
   pub path_grown : (p : Path) (x : Var) (w : Sheet) → Fine w → x < w.next → Grown w (path_sheet p x w)
   path_grown alone x w f l = (rooted_grown w f).grown
-  path_grown (from-root ss) x w f l =
+  path_grown (from_root ss) x w f l =
       let r = (rooted_grown w f).grown in
       grown_trans r (steps_grown ss (rooted w).root_at (rooted w) r.fine r.fine.root_low)
-  path_grown (from-here ss) x w f l = steps_grown ss x w f l
+  path_grown (from_here ss) x w f l = steps_grown ss x w f l
 
   pub steps_grown : (ss : Steps) (x : Var) (w : Sheet) → Fine w → x < w.next → Grown w (steps_sheet ss x w)
   steps_grown (one s) x w f l =
@@ -234,10 +234,10 @@ line_grown alone w f =
     grown_trans r (with_records_grown (is_same q 0 ∷ []) (rooted w) r.fine
     (λ c k. subst (λ (d : Constraint). named d ≤ (rooted w).next) (sym (only c k)) (le_trans (same_named q) r.fine.root_low))
     (λ c k. subst Lettered (sym (only c k)) tt))
-line_grown (from-root ss) w f =
+line_grown (from_root ss) w f =
     let r = (rooted_grown w f).grown in
     grown_trans r (end_grown ss (rooted w).root_at (rooted w) r.fine r.fine.root_low)
-line_grown (from-here ss) w f =
+line_grown (from_here ss) w f =
     let g = next_taken_grown w f in
     grown_trans g (end_grown ss w.next (next_taken w) g.fine (next_low w))
 
@@ -266,8 +266,8 @@ mutual
 
   pub path_next : (p : Path) (x : Var) (w : Sheet) → w.next ≤ (path_sheet p x w).next
   path_next alone x w = rooted_next w
-  path_next (from-root ss) x w = le_trans (rooted_next w) (steps_next ss (rooted w).root_at (rooted w))
-  path_next (from-here ss) x w = steps_next ss x w
+  path_next (from_root ss) x w = le_trans (rooted_next w) (steps_next ss (rooted w).root_at (rooted w))
+  path_next (from_here ss) x w = steps_next ss x w
 
   pub steps_next : (ss : Steps) (x : Var) (w : Sheet) → w.next ≤ (steps_sheet ss x w).next
   steps_next (one s) x w = le_trans (next_taken_next w) (step_next s x w.next (next_taken w))

@@ -11,7 +11,7 @@ use native.Mathlib.Omega.{arith}
 use lib.ListN.{length, length-map}
 use lib.Dec.{leb, eqb}
 use Rattle.meaning.specs.Tree.{Var}
-use Rattle.meaning.specs.Constraint.{Constraint, is_child, is_below, is-strictly-below, is_same, is-differ, is-root, is_IsLeaf, is_label, is_before, named, vars}
+use Rattle.meaning.specs.Constraint.{Constraint, is_child, is_below, is_strictly_below, is_same, is_differ, is_root, is_leaf, is_label, is_before, named, vars}
 use Rattle.meaning.specs.Marking.{kind}
 use Rattle.meaning.specs.Finite.{Yes, pick, ◌and◌}
 use Rattle.meaning.specs.Files.{Quad, quad, quads, Whole, quad_of, JudgedRecord, bad, good, judge_pair, judge_single, judge_label, judge_record, Judged, refused, accepted, with_rest, judge_records, Spells, judge}
@@ -32,7 +32,7 @@ kind_10_refused : judge_record 10 0 0 0 ≡ bad 3
 unfolding judge_record pick
 kind_10_refused = refl
 
-variable_15_passes : judge_record 7 15 0 0 ≡ good (is_IsLeaf 15)
+variable_15_passes : judge_record 7 15 0 0 ≡ good (is_leaf 15)
 unfolding judge_record judge_single pick ◌and◌
 variable_15_passes = refl
 
@@ -98,22 +98,22 @@ unfolding judge_record named ◌and◌
 record_read q =
     pick_has (Read q) _ _ _ (λ t. pair_read q is_child _ _ _ (λ a b z. (quad_eq (is_eq t) refl refl z, record { few = omega arith; labelled = tt })))
     (pick_has (Read q) _ _ _ (λ t. pair_read q is_below _ _ _ (λ a b z. (quad_eq (is_eq t) refl refl z, record { few = omega arith; labelled = tt })))
-    (pick_has (Read q) _ _ _ (λ t. pair_read q is-strictly-below _ _ _ (λ a b z. (quad_eq (is_eq t) refl refl z, record { few = omega arith; labelled = tt })))
+    (pick_has (Read q) _ _ _ (λ t. pair_read q is_strictly_below _ _ _ (λ a b z. (quad_eq (is_eq t) refl refl z, record { few = omega arith; labelled = tt })))
     (pick_has (Read q) _ _ _ (λ t. pair_read q is_same _ _ _ (λ a b z. (quad_eq (is_eq t) refl refl z, record { few = omega arith; labelled = tt })))
-    (pick_has (Read q) _ _ _ (λ t. pair_read q is-differ _ _ _ (λ a b z. (quad_eq (is_eq t) refl refl z, record { few = omega arith; labelled = tt })))
-    (pick_has (Read q) _ _ _ (λ t. single_read q is-root _ _ _ (λ a y z. (quad_eq (is_eq t) refl y z, record { few = omega arith; labelled = tt })))
-    (pick_has (Read q) _ _ _ (λ t. single_read q is_IsLeaf _ _ _ (λ a y z. (quad_eq (is_eq t) refl y z, record { few = omega arith; labelled = tt })))
+    (pick_has (Read q) _ _ _ (λ t. pair_read q is_differ _ _ _ (λ a b z. (quad_eq (is_eq t) refl refl z, record { few = omega arith; labelled = tt })))
+    (pick_has (Read q) _ _ _ (λ t. single_read q is_root _ _ _ (λ a y z. (quad_eq (is_eq t) refl y z, record { few = omega arith; labelled = tt })))
+    (pick_has (Read q) _ _ _ (λ t. single_read q is_leaf _ _ _ (λ a y z. (quad_eq (is_eq t) refl y z, record { few = omega arith; labelled = tt })))
     (pick_has (Read q) _ _ _ (λ t. label_read q _ _ _ (λ a h y. (quad_eq (is_eq t) refl y refl, record { few = omega arith; labelled = h })))
     (pick_has (Read q) _ _ _ (λ t. pair_read q is_before _ _ _ (λ a b z. (quad_eq (is_eq t) refl refl z, record { few = omega arith; labelled = tt }))) refl))))))))
 
 pub kind_most : (c : Constraint) → (quad_of c).first ≤ 9
 kind_most (is_child x y) = omega arith
 kind_most (is_below x y) = omega arith
-kind_most (is-strictly-below x y) = omega arith
+kind_most (is_strictly_below x y) = omega arith
 kind_most (is_same x y) = omega arith
-kind_most (is-differ x y) = omega arith
-kind_most (is-root x) = omega arith
-kind_most (is_IsLeaf x) = omega arith
+kind_most (is_differ x y) = omega arith
+kind_most (is_root x) = omega arith
+kind_most (is_leaf x) = omega arith
 kind_most (is_label x l) = omega arith
 kind_most (is_before x y) = omega arith
 
@@ -122,11 +122,11 @@ pub kind_first : (c : Constraint) → kind c ≡ (quad_of c).first
 unfolding kind
 kind_first (is_child x y) = refl
 kind_first (is_below x y) = refl
-kind_first (is-strictly-below x y) = refl
+kind_first (is_strictly_below x y) = refl
 kind_first (is_same x y) = refl
-kind_first (is-differ x y) = refl
-kind_first (is-root x) = refl
-kind_first (is_IsLeaf x) = refl
+kind_first (is_differ x y) = refl
+kind_first (is_root x) = refl
+kind_first (is_leaf x) = refl
 kind_first (is_label x l) = refl
 kind_first (is_before x y) = refl
 
@@ -135,11 +135,11 @@ pub named_record : (c : Constraint) → named c ≡ suc (max (quad_of c).second 
 unfolding named
 named_record (is_child x y) = refl
 named_record (is_below x y) = refl
-named_record (is-strictly-below x y) = refl
+named_record (is_strictly_below x y) = refl
 named_record (is_same x y) = refl
-named_record (is-differ x y) = refl
-named_record (is-root x) = omega arith
-named_record (is_IsLeaf x) = omega arith
+named_record (is_differ x y) = refl
+named_record (is_root x) = omega arith
+named_record (is_leaf x) = omega arith
 named_record (is_label x l) = omega arith
 named_record (is_before x y) = refl
 
@@ -167,11 +167,11 @@ pub spells : (c : Constraint) → Askable c → Spells (quad_of c) c
 unfolding judge_record named pick
 spells (is_child x y) a = pair_good is_child x y a.few
 spells (is_below x y) a = pair_good is_below x y a.few
-spells (is-strictly-below x y) a = pair_good is-strictly-below x y a.few
+spells (is_strictly_below x y) a = pair_good is_strictly_below x y a.few
 spells (is_same x y) a = pair_good is_same x y a.few
-spells (is-differ x y) a = pair_good is-differ x y a.few
-spells (is-root x) a = single_good is-root x a.few
-spells (is_IsLeaf x) a = single_good is_IsLeaf x a.few
+spells (is_differ x y) a = pair_good is_differ x y a.few
+spells (is_root x) a = single_good is_root x a.few
+spells (is_leaf x) a = single_good is_leaf x a.few
 spells (is_label x l) a = label_good x l a.few a.labelled
 spells (is_before x y) a = pair_good is_before x y a.few
 

@@ -9,7 +9,7 @@ use native.Mathlib.Omega.{arith}
 use lib.ListN.{length, length-map}
 use lib.Dec.{eqb}
 use Rattle.meaning.specs.Tree.{Var, Label, Assignment, Tree}
-use Rattle.meaning.specs.Constraint.{Constraint, is_child, is_below, is-strictly-below, is_same, is-differ, is-root, is_IsLeaf, is_label, is_before, Meets, CanBeMet, named, vars}
+use Rattle.meaning.specs.Constraint.{Constraint, is_child, is_below, is_strictly_below, is_same, is_differ, is_root, is_leaf, is_label, is_before, Meets, CanBeMet, named, vars}
 use Rattle.meaning.specs.Finite.{pick, ◌or◌, anyb, smallest}
 use Rattle.meaning.specs.Files.{quads, quad_of, accepted, judge}
 use Rattle.meaning.specs.Shuffled.{Renumbering, renumber_quad, Renumbered, SameNone}
@@ -26,11 +26,11 @@ use Rattle.meaning.proofs.Unnamed.{unnamed_met}
 abbrev renumber : (Var → Var) → Constraint → Constraint
 renumber to (is_child x y) = is_child (to x) (to y)
 renumber to (is_below x y) = is_below (to x) (to y)
-renumber to (is-strictly-below x y) = is-strictly-below (to x) (to y)
+renumber to (is_strictly_below x y) = is_strictly_below (to x) (to y)
 renumber to (is_same x y) = is_same (to x) (to y)
-renumber to (is-differ x y) = is-differ (to x) (to y)
-renumber to (is-root x) = is-root (to x)
-renumber to (is_IsLeaf x) = is_IsLeaf (to x)
+renumber to (is_differ x y) = is_differ (to x) (to y)
+renumber to (is_root x) = is_root (to x)
+renumber to (is_leaf x) = is_leaf (to x)
 renumber to (is_label x l) = is_label (to x) l
 renumber to (is_before x y) = is_before (to x) (to y)
 
@@ -40,22 +40,22 @@ module _ (to : Var → Var) where
   unfolding renumber_quad pick ◌or◌
   quad_renumber (is_child x y) = refl
   quad_renumber (is_below x y) = refl
-  quad_renumber (is-strictly-below x y) = refl
+  quad_renumber (is_strictly_below x y) = refl
   quad_renumber (is_same x y) = refl
-  quad_renumber (is-differ x y) = refl
-  quad_renumber (is-root x) = refl
-  quad_renumber (is_IsLeaf x) = refl
+  quad_renumber (is_differ x y) = refl
+  quad_renumber (is_root x) = refl
+  quad_renumber (is_leaf x) = refl
   quad_renumber (is_label x l) = refl
   quad_renumber (is_before x y) = refl
 
   label_renumber : (P : Label → Type 0) (c : Constraint) → OnLabelOf P c → OnLabelOf P (renumber to c)
   label_renumber P (is_child x y) h = h
   label_renumber P (is_below x y) h = h
-  label_renumber P (is-strictly-below x y) h = h
+  label_renumber P (is_strictly_below x y) h = h
   label_renumber P (is_same x y) h = h
-  label_renumber P (is-differ x y) h = h
-  label_renumber P (is-root x) h = h
-  label_renumber P (is_IsLeaf x) h = h
+  label_renumber P (is_differ x y) h = h
+  label_renumber P (is_root x) h = h
+  label_renumber P (is_leaf x) h = h
   label_renumber P (is_label x l) h = h
   label_renumber P (is_before x y) h = h
 
@@ -63,11 +63,11 @@ module _ (to : Var → Var) where
   meets_renumber : (t : Tree) (a : Assignment) (c : Constraint) → Meets t a (renumber to c) ≡ Meets t (λ x. a (to x)) c
   meets_renumber t a (is_child x y) = refl
   meets_renumber t a (is_below x y) = refl
-  meets_renumber t a (is-strictly-below x y) = refl
+  meets_renumber t a (is_strictly_below x y) = refl
   meets_renumber t a (is_same x y) = refl
-  meets_renumber t a (is-differ x y) = refl
-  meets_renumber t a (is-root x) = refl
-  meets_renumber t a (is_IsLeaf x) = refl
+  meets_renumber t a (is_differ x y) = refl
+  meets_renumber t a (is_root x) = refl
+  meets_renumber t a (is_leaf x) = refl
   meets_renumber t a (is_label x l) = refl
   meets_renumber t a (is_before x y) = refl
 
@@ -78,11 +78,11 @@ module _ (to : Var → Var) where
   unfolding named
   named_renumber n f (is_child x y) l = pair_below n f x y l
   named_renumber n f (is_below x y) l = pair_below n f x y l
-  named_renumber n f (is-strictly-below x y) l = pair_below n f x y l
+  named_renumber n f (is_strictly_below x y) l = pair_below n f x y l
   named_renumber n f (is_same x y) l = pair_below n f x y l
-  named_renumber n f (is-differ x y) l = pair_below n f x y l
-  named_renumber n f (is-root x) l = f x l
-  named_renumber n f (is_IsLeaf x) l = f x l
+  named_renumber n f (is_differ x y) l = pair_below n f x y l
+  named_renumber n f (is_root x) l = f x l
+  named_renumber n f (is_leaf x) l = f x l
   named_renumber n f (is_label x k) l = f x l
   named_renumber n f (is_before x y) l = pair_below n f x y l
 

@@ -11,7 +11,7 @@ use lib.ListN.{length}
 use Rattle.meaning.specs.Constraint.{Constraint, CanBeMet, vars}
 use Rattle.meaning.specs.FixedSearch.{Outcome, in_none, in_tree}
 use Rattle.meaning.specs.ReadOff.{tree_of}
-use Rattle.meaning.specs.Demand.{Answer, a_tree, a_none, a-spent, count_of, FixedSearch, Demand3}
+use Rattle.meaning.specs.Demand.{Answer, a_tree, a_none, a_spent, count_of, FixedSearch, Demand3}
 use Rattle.meaning.specs.Files.{accepted, judge, assigned}
 use Rattle.meaning.specs.Results.{Solved, solver_answers}
 use Rattle.meaning.specs.Promises.{Answered, SolverPromise}
@@ -54,7 +54,7 @@ module _ {A n : ℕ} {cs : List Constraint} {r : Answer} (d : Demand3 A n cs r) 
       go (yes l) = by l d.outcome refl
       go (no l) = counted (d.answers.spent_iff.0 (omega arith)) (le_refl A)
 
-  none_due : ¬ (r ≡ a-spent A) → ¬ CanBeMet n cs → r ≡ a_none d.count
+  none_due : ¬ (r ≡ a_spent A) → ¬ CanBeMet n cs → r ≡ a_none d.count
   none_due spent g = go (dec_le d.count A)
     where
       go : Dec (d.count ≤ A) → r ≡ a_none d.count

@@ -3,7 +3,7 @@
 use Rattle.std.specs.Prelude.{◌≡◌, ◌≢◌, ◌↔◌, ◌⊎◌, ◌≤◌, ◌<◌}
 use mathlib.Core.List.{List, Memᴰ}
 use Rattle.meaning.specs.Tree.{Var, Node, Label, SameLabel, Tree, Parent}
-use Rattle.meaning.specs.Constraint.{Constraint, is_child, is_below, is-strictly-below, is_same, is-differ, is-root, is_IsLeaf, is_label, is_before}
+use Rattle.meaning.specs.Constraint.{Constraint, is_child, is_below, is_strictly_below, is_same, is_differ, is_root, is_leaf, is_label, is_before}
 
 -- u ◁* v: the reflexive and transitive closure of a relation
 pub data Reaches {N : Type 0} (R : N → N → Type 0) (u : N) : N → Type 0 where
@@ -51,11 +51,11 @@ ByteLabelled {N} T = (v : N) → T.label v ≤ 255
 abbrev pub MeetsAny : {N : Type 0} → AnyTree N → (Var → N) → Constraint → Type 0
 MeetsAny T a (is_child x y) = T.IsParent (a x) (a y)
 MeetsAny T a (is_below x y) = Reaches T.IsParent (a x) (a y)
-MeetsAny T a (is-strictly-below x y) = Reaches T.IsParent (a x) (a y) × (a x ≢ a y)
+MeetsAny T a (is_strictly_below x y) = Reaches T.IsParent (a x) (a y) × (a x ≢ a y)
 MeetsAny T a (is_same x y) = a x ≡ a y
-MeetsAny T a (is-differ x y) = a x ≢ a y
-MeetsAny {N} T a (is-root x) = (u : N) → ¬ T.IsParent u (a x)
-MeetsAny {N} T a (is_IsLeaf x) = (v : N) → ¬ T.IsParent (a x) v
+MeetsAny T a (is_differ x y) = a x ≢ a y
+MeetsAny {N} T a (is_root x) = (u : N) → ¬ T.IsParent u (a x)
+MeetsAny {N} T a (is_leaf x) = (v : N) → ¬ T.IsParent (a x) v
 MeetsAny T a (is_label x l) = SameLabel (T.label (a x)) l
 MeetsAny T a (is_before x y) = PrecedesSibling T (a x) (a y)
 

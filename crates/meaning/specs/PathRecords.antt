@@ -2,9 +2,9 @@
 -- one definition.
 use Rattle.std.specs.Prelude.{List, [], ◌∷◌, ◌++◌, ℕ, zero, suc}
 use Rattle.meaning.specs.Tree.{Var}
-use Rattle.meaning.specs.Constraint.{Constraint, is_child, is_below, is-strictly-below, is_same, is-root, is_label, is_before}
+use Rattle.meaning.specs.Constraint.{Constraint, is_child, is_below, is_strictly_below, is_same, is_root, is_label, is_before}
 use Rattle.meaning.specs.Files.{quad_of}
-use Rattle.meaning.specs.Paths.{Axis, to-self, to_child, to_parent, to-descendant, to-ancestor, to-descendant-or-self, to-ancestor-or-self, to-following-sibling, to-preceding-sibling, Test, letter, any, Path, alone, from-root, from-here, Steps, one, more, Step, move, having}
+use Rattle.meaning.specs.Paths.{Axis, to_self, to_child, to_parent, to_descendant, to_ancestor, to_descendant_or_self, to_ancestor_or_self, to_following_sibling, to_preceding_sibling, Test, letter, any, Path, alone, from_root, from_here, Steps, one, more, Step, move, having}
 
 -- what has been written so far: the next number, the root's number (0 while it has none, since 0 is never the root's), the records
 pub record Sheet : Type 0 where
@@ -25,7 +25,7 @@ with_records cs w = record { next = w.next; root_at = w.root_at; records = w.rec
 
 -- "all roots share one", "root at the first `/` start"
 unfoldable pub rooted_by : Var → Sheet → Sheet
-rooted_by zero w = record { next = suc w.next; root_at = w.next; records = w.records ++ (is-root w.next ∷ []) }
+rooted_by zero w = record { next = suc w.next; root_at = w.next; records = w.records ++ (is_root w.next ∷ []) }
 rooted_by (suc r) w = w
 
 unfoldable pub rooted : Sheet → Sheet
@@ -35,15 +35,15 @@ rooted w = rooted_by w.root_at w
 -- "In an axis record x is the node left and y the one reached, the other way round for parent and ancestor axes"; "self is same";
 -- "following-sibling and preceding-sibling, the latter with x the node reached"
 unfoldable pub axis_record : Axis → Var → Var → Constraint
-axis_record to-self x y = is_same x y
+axis_record to_self x y = is_same x y
 axis_record to_child x y = is_child x y
 axis_record to_parent x y = is_child y x
-axis_record to-descendant x y = is-strictly-below x y
-axis_record to-ancestor x y = is-strictly-below y x
-axis_record to-descendant-or-self x y = is_below x y
-axis_record to-ancestor-or-self x y = is_below y x
-axis_record to-following-sibling x y = is_before x y
-axis_record to-preceding-sibling x y = is_before y x
+axis_record to_descendant x y = is_strictly_below x y
+axis_record to_ancestor x y = is_strictly_below y x
+axis_record to_descendant_or_self x y = is_below x y
+axis_record to_ancestor_or_self x y = is_below y x
+axis_record to_following_sibling x y = is_before x y
+axis_record to_preceding_sibling x y = is_before y x
 
 -- "for each step its axis record, then any label"
 unfoldable pub move_records : Axis → Test → Var → Var → List Constraint
@@ -58,8 +58,8 @@ unfoldable mutual
   -- a path in brackets that follow the node of x
   pub path_sheet : Path → Var → Sheet → Sheet
   path_sheet alone x w = rooted w
-  path_sheet (from-root ss) x w = steps_sheet ss (rooted w).root_at (rooted w)
-  path_sheet (from-here ss) x w = steps_sheet ss x w
+  path_sheet (from_root ss) x w = steps_sheet ss (rooted w).root_at (rooted w)
+  path_sheet (from_here ss) x w = steps_sheet ss x w
 
   -- its steps from the node of x: each reaches a node of its own
   pub steps_sheet : Steps → Var → Sheet → Sheet
@@ -81,8 +81,8 @@ end_sheet (more s ss) x w = end_sheet ss w.next (step_sheet s x w.next (next_tak
 unfoldable pub line_sheet : Path → Sheet → Sheet
 unfolding rooted with_records next_taken end_sheet
 line_sheet alone w = with_records (is_same (rooted w).root_at 0 ∷ []) (rooted w)
-line_sheet (from-root ss) w = end_sheet ss (rooted w).root_at (rooted w)
-line_sheet (from-here ss) w = end_sheet ss w.next (next_taken w)
+line_sheet (from_root ss) w = end_sheet ss (rooted w).root_at (rooted w)
+line_sheet (from_here ss) w = end_sheet ss w.next (next_taken w)
 
 unfoldable pub lines_sheet : List Path → Sheet → Sheet
 unfolding line_sheet

@@ -8,7 +8,7 @@ use Rattle.meaning.specs.Ascii.{ascii}
 -- ---- paths
 
 pub data Axis : Type 0 where
-  to-self to_child to_parent to-descendant to-ancestor to-descendant-or-self to-ancestor-or-self to-following-sibling to-preceding-sibling : Axis
+  to_self to_child to_parent to_descendant to_ancestor to_descendant_or_self to_ancestor_or_self to_following_sibling to_preceding_sibling : Axis
 
 -- a to z
 unfoldable pub is_small : ℕ → Bool
@@ -28,7 +28,7 @@ pub data Test : Type 0 where
 mutual
   pub data Path : Type 0 where
     alone : Path
-    from-root from-here : Steps → Path
+    from_root from_here : Steps → Path
 
   pub data Steps : Type 0 where
     one : Step → Steps
@@ -41,15 +41,15 @@ mutual
 -- ---- their text
 
 unfoldable pub axis_text : Axis → List ℕ
-axis_text to-self = ascii "self"
+axis_text to_self = ascii "self"
 axis_text to_child = ascii "child"
 axis_text to_parent = ascii "parent"
-axis_text to-descendant = ascii "descendant"
-axis_text to-ancestor = ascii "ancestor"
-axis_text to-descendant-or-self = ascii "descendant-or-self"
-axis_text to-ancestor-or-self = ascii "ancestor-or-self"
-axis_text to-following-sibling = ascii "following-sibling"
-axis_text to-preceding-sibling = ascii "preceding-sibling"
+axis_text to_descendant = ascii "descendant"
+axis_text to_ancestor = ascii "ancestor"
+axis_text to_descendant_or_self = ascii "descendant-or-self"
+axis_text to_ancestor_or_self = ascii "ancestor-or-self"
+axis_text to_following_sibling = ascii "following-sibling"
+axis_text to_preceding_sibling = ascii "preceding-sibling"
 
 -- 42 is *
 unfoldable pub test_byte : Test → ℕ
@@ -60,8 +60,8 @@ test_byte any = 42
 unfoldable mutual
   pub path_text : Path → List ℕ
   path_text alone = 47 ∷ []
-  path_text (from-root ss) = 47 ∷ steps_text ss
-  path_text (from-here ss) = steps_text ss
+  path_text (from_root ss) = 47 ∷ steps_text ss
+  path_text (from_here ss) = steps_text ss
 
   pub steps_text : Steps → List ℕ
   steps_text (one s) = step_text s

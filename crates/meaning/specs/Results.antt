@@ -1,6 +1,6 @@
 -- What solver, marker and path reader answer of any bytes, the lent buffer afterwards, and the number that a host program is told of each answer.
 use Rattle.std.specs.Prelude.{List, ◌++◌, ℕ, ◌+◌, ◌*◌, ◌^◌, length, drop}
-use Rattle.meaning.specs.Demand.{Answer, a_tree, a_none, a-spent}
+use Rattle.meaning.specs.Demand.{Answer, a_tree, a_none, a_spent}
 use Rattle.meaning.specs.Marking.{Mark, met, unmet}
 
 -- a refusal has the number of the first question that is answered no
@@ -21,7 +21,7 @@ pub data Fill : Type 0 where
 unfoldable pub written : Solved → List ℕ → List ℕ
 written (solver_refuses q) buffer = buffer
 written (solver_answers (a_none c)) buffer = buffer
-written (solver_answers (a-spent c)) buffer = buffer
+written (solver_answers (a_spent c)) buffer = buffer
 written (solver_answers (a_tree c bs)) buffer = bs ++ drop (length bs) buffer
 
 -- of a part that only fills it: what is written stands at its front, or it is as it was
@@ -37,7 +37,7 @@ told verdict middle low = verdict * 2 ^ 48 + middle * 2 ^ 32 + low
 unfoldable pub solved_number : Solved → ℕ
 solved_number (solver_answers (a_tree c bs)) = told 0 (length bs) c
 solved_number (solver_answers (a_none c)) = told 1 0 c
-solved_number (solver_answers (a-spent c)) = told 2 0 c
+solved_number (solver_answers (a_spent c)) = told 2 0 c
 solved_number (solver_refuses q) = told 3 0 q
 
 -- met, unmet with the kind and the position, refused with the question's number

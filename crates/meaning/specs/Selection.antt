@@ -3,7 +3,7 @@ use Rattle.std.specs.Prelude.{◌≡◌, ◌<◌}
 use mathlib.Core.List.{List, Memᴰ}
 use Rattle.meaning.specs.Tree.{Node, Label, SameLabel, Tree, IsTree, Parent, Above, EarlierSibling}
 use Rattle.meaning.specs.AnyTree.{Reaches, AnyTree, PrecedesSibling}
-use Rattle.meaning.specs.Paths.{Axis, to-self, to_child, to_parent, to-descendant, to-ancestor, to-descendant-or-self, to-ancestor-or-self, to-following-sibling, to-preceding-sibling, Test, letter, any, Path, alone, from-root, from-here, Steps, one, more, Step, move, having}
+use Rattle.meaning.specs.Paths.{Axis, to_self, to_child, to_parent, to_descendant, to_ancestor, to_descendant_or_self, to_ancestor_or_self, to_following_sibling, to_preceding_sibling, Test, letter, any, Path, alone, from_root, from_here, Steps, one, more, Step, move, having}
 
 -- the expressions of definition 2.2 that the paths need: ε ↑ ↓ ↑* ↓*, ← and → (long here, since → is a word of antt), the document root, a tag,
 -- p₁/p₂ and p₁[p₂]
@@ -35,15 +35,15 @@ Denotes t (filter p₁ p₂) n n' = Denotes t p₁ n n' × ((n'' : Node) × (n''
 
 -- "↑⁺ ≡ ↑/↑*, ↓⁺ ≡ ↓/↓*"
 unfoldable pub axis_expr : Axis → Expr
-axis_expr to-self = ε
+axis_expr to_self = ε
 axis_expr to_child = ↓
 axis_expr to_parent = ↑
-axis_expr to-descendant = over ↓ ↓*
-axis_expr to-ancestor = over ↑ ↑*
-axis_expr to-descendant-or-self = ↓*
-axis_expr to-ancestor-or-self = ↑*
-axis_expr to-following-sibling = ⟶
-axis_expr to-preceding-sibling = ⟵
+axis_expr to_descendant = over ↓ ↓*
+axis_expr to_ancestor = over ↑ ↑*
+axis_expr to_descendant_or_self = ↓*
+axis_expr to_ancestor_or_self = ↑*
+axis_expr to_following_sibling = ⟶
+axis_expr to_preceding_sibling = ⟵
 
 -- "child::a/ancestor::b can be represented in our syntax as ↓/a/↑⁺/b"
 unfoldable pub test_expr : Test → Expr → Expr
@@ -55,8 +55,8 @@ unfoldable mutual
 
   pub path_expr : Path → Expr
   path_expr alone = document-root
-  path_expr (from-root ss) = over document-root (steps_expr ss)
-  path_expr (from-here ss) = steps_expr ss
+  path_expr (from_root ss) = over document-root (steps_expr ss)
+  path_expr (from_here ss) = steps_expr ss
 
   pub steps_expr : Steps → Expr
   steps_expr (one s) = step_expr s

@@ -6,7 +6,7 @@ use Rattle.meaning.specs.Tree.{Var, Node, Assignment, Tree}
 use Rattle.meaning.specs.Constraint.{Constraint, Meets, vars}
 use Rattle.meaning.specs.Finite.{pick, ◌or◌}
 use Rattle.meaning.specs.ReadOff.{NodeRecord, tree_of}
-use Rattle.meaning.specs.Demand.{a_none, a-spent}
+use Rattle.meaning.specs.Demand.{a_none, a_spent}
 use Rattle.meaning.specs.Marking.{met, unmet}
 use Rattle.meaning.specs.Files.{Quad, quad, quads, Whole, bad, judge_quad, Spells, refused, accepted, judge, accepted_answer, judge_answer, assigned}
 use Rattle.meaning.specs.Results.{Solved, solver_answers, Marked, marker_refuses, marker_answers}
@@ -90,7 +90,7 @@ abbrev pub SaysNone : Solved → Type 0
 SaysNone r = (c : ℕ) × (r ≡ solver_answers (a_none c))
 
 abbrev pub SaysSpent : Solved → Type 0
-SaysSpent r = (c : ℕ) × (r ≡ solver_answers (a-spent c))
+SaysSpent r = (c : ℕ) × (r ≡ solver_answers (a_spent c))
 
 -- "one file gets none if and only if the other does, when neither is spent": each under its own allowance and over its own number of variables
 pub record SameNone (n : ℕ) (file other : List ℕ) : Type 0 where

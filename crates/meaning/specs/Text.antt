@@ -4,7 +4,7 @@ use Rattle.std.specs.Prelude.{List, [], ◌∷◌, ◌++◌, ℕ, zero, suc, ◌
 use Prim.Native.String.{String}
 use Rattle.meaning.specs.Finite.{pick}
 use Rattle.meaning.specs.Ascii.{ascii}
-use Rattle.meaning.specs.Demand.{a_tree, a_none, a-spent}
+use Rattle.meaning.specs.Demand.{a_tree, a_none, a_spent}
 use Rattle.meaning.specs.Marking.{met, unmet}
 use Rattle.meaning.specs.Files.{Quad, quads}
 use Rattle.meaning.specs.Results.{Solved, solver_refuses, solver_answers, Marked, marker_refuses, marker_answers, Fill, fill_refused, fill_written}
@@ -66,7 +66,7 @@ kind_name k =
 unfoldable pub solved_text : Solved → List ℕ
 solved_text (solver_answers (a_tree count bytes)) = numbered "tree " count ++ record_lines (quads bytes)
 solved_text (solver_answers (a_none count)) = numbered "none " count
-solved_text (solver_answers (a-spent count)) = numbered "spent " count
+solved_text (solver_answers (a_spent count)) = numbered "spent " count
 solved_text (solver_refuses question) = numbered "refused " question
 
 unfoldable pub marked_text : Marked → List ℕ

@@ -15,7 +15,7 @@ use Rattle.meaning.specs.Finite.{Yes, ◌and◌, neg, pick, anyb, one, sum, pick
 use Rattle.meaning.proofs.Tests.{clash, yes_eq, no_neg, is_eq, eq_yes, not_yes}
 use Rattle.meaning.proofs.Finite.{any_intro, any_elim}
 use Rattle.rowbits.specs.Bit.{bit}
-use Rattle.rowbits.proofs.Laws.{bit-bit_and, bit_none}
+use Rattle.rowbits.proofs.Laws.{bit_bit_and, bit_none}
 use Rattle.tables.proofs.Bits.{all_has, some_in}
 use Rattle.tables.proofs.Helpers.{and_is}
 use Rattle.ordering.specs.Rows.{Gathered}
@@ -24,7 +24,7 @@ use Rattle.ordering.proofs.Bits.{and_true, bit_past, picked_eq}
 -- ---- single bits
 
 pub bit_meet : (a b i : ℕ) → bit (bit_and a b) i ≡ (bit a i and bit b i)
-bit_meet a b i = bit-bit_and a b i ∙ and_is _ _
+bit_meet a b i = bit_bit_and a b i ∙ and_is _ _
 
 bit_mod : (k a i : ℕ) → i < k → bit (a % 2 ^ k) i ≡ bit a i
 bit_mod k a i h =

@@ -24,15 +24,15 @@ digits2 P a b c d x y =
     (λ (e : x % 2 ≡ 1). ⊎_elim (λ (f : y % 2 ≡ 0). rw (e, f) c) (λ (f : y % 2 ≡ 1). rw (e, f) d) (digit (y % 2) (mod-lt y (zero-lt-suc 1))))
     (digit (x % 2) (mod-lt x (zero-lt-suc 1)))
 
-pub bit-bit_or : (a b i : ℕ) → bit (bit_or a b) i ≡ (bit a i || bit b i)
+pub bit_bit_or : (a b i : ℕ) → bit (bit_or a b) i ≡ (bit a i || bit b i)
 unfolding bit
-bit-bit_or a b i =
+bit_bit_or a b i =
     rw (or_shr a b i, or_step (a / 2 ^ i) (b / 2 ^ i), mul-add-mod_self_right)
     (digits2 (λ p q. eqb (max p q % 2) 1 ≡ (eqb p 1 || eqb q 1)) refl refl refl refl (a / 2 ^ i) (b / 2 ^ i))
 
-pub bit-bit_and : (a b i : ℕ) → bit (bit_and a b) i ≡ (bit a i && bit b i)
+pub bit_bit_and : (a b i : ℕ) → bit (bit_and a b) i ≡ (bit a i && bit b i)
 unfolding bit
-bit-bit_and a b i =
+bit_bit_and a b i =
     rw (and_shr a b i, and_step (a / 2 ^ i) (b / 2 ^ i), mul-add-mod_self_right)
     (digits2 (λ p q. eqb (min p q % 2) 1 ≡ (eqb p 1 && eqb q 1)) refl refl refl refl (a / 2 ^ i) (b / 2 ^ i))
 
@@ -71,7 +71,7 @@ bit_one j i = ⊎_elim below above (lt_or_le i j)
 -- a row with j more
 pub bit_with : (a j i : ℕ) → bit (with_bit a j) i ≡ (bit a i || eqb i j)
 unfolding with_bit
-bit_with a j i = bit-bit_or a (2 ^ j) i ∙ ap (λ (b : Bool). bit a i || b) (bit_one j i)
+bit_with a j i = bit_bit_or a (2 ^ j) i ∙ ap (λ (b : Bool). bit a i || b) (bit_one j i)
 
 pub bit_none : (i : ℕ) → bit 0 i ≡ false
 unfolding bit

@@ -3,7 +3,7 @@ use mathlib.Core.Path.{◌≡◌, refl, sym, subst}
 use mathlib.Core.Logic.{◌≢◌}
 use Prim.Native.Nat.{ℕ, ◌≤◌}
 use native.Mathlib.Omega.{arith}
-use Rattle.meaning.specs.Constraint.{Constraint, is_child, is_below, is-strictly-below, is_same, is-differ, is-root, is_IsLeaf, is_label, is_before}
+use Rattle.meaning.specs.Constraint.{Constraint, is_child, is_below, is_strictly_below, is_same, is_differ, is_root, is_leaf, is_label, is_before}
 use Rattle.meaning.specs.Marking.{kind}
 use Rattle.meaning.specs.Files.{Quad, quad, quad_of, good, judge_record}
 use Rattle.meaning.proofs.Records.{Askable, kind_most, kind_first, spelt}
@@ -25,11 +25,11 @@ label_first : (c : Constraint) → Askable c → (quad_of c).first ≡ 8 → (c 
 label_first (is_label x l) a e = let h : 1 ≤ l = a.labelled in (refl, λ z. omega arith)
 label_first (is_child x y) a e = absurd (omega arith)
 label_first (is_below x y) a e = absurd (omega arith)
-label_first (is-strictly-below x y) a e = absurd (omega arith)
+label_first (is_strictly_below x y) a e = absurd (omega arith)
 label_first (is_same x y) a e = absurd (omega arith)
-label_first (is-differ x y) a e = absurd (omega arith)
-label_first (is-root x) a e = absurd (omega arith)
-label_first (is_IsLeaf x) a e = absurd (omega arith)
+label_first (is_differ x y) a e = absurd (omega arith)
+label_first (is_root x) a e = absurd (omega arith)
+label_first (is_leaf x) a e = absurd (omega arith)
 label_first (is_before x y) a e = absurd (omega arith)
 
 of_record : (c : Constraint) → Askable c → OfRecord (quad_of c) c

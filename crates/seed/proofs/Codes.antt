@@ -5,7 +5,7 @@ use mathlib.Core.List.{List, ◌∷◌, Memᴰ}
 use Prim.Native.Nat.{ℕ, ◌<◌}
 use native.Mathlib.Omega.{arith}
 use Rattle.meaning.specs.Tree.{Var, Label, folded}
-use Rattle.meaning.specs.Constraint.{Constraint, is_child, is_below, is-strictly-below, is_same, is-differ, is-root, is_IsLeaf, is_label, is_before, named, Fact, child, below, differ, before, root, leaf, label, facts, facts_of}
+use Rattle.meaning.specs.Constraint.{Constraint, is_child, is_below, is_strictly_below, is_same, is_differ, is_root, is_leaf, is_label, is_before, named, Fact, child, below, differ, before, root, leaf, label, facts, facts_of}
 use Rattle.meaning.specs.Marking.{kind}
 use Rattle.meaning.specs.Files.{quad_of}
 use Rattle.meaning.proofs.Constraints.{fact_in, fact_from}
@@ -40,21 +40,21 @@ module _ (cs : List Constraint) where
 
   abbrev pub Source : Fact → Type 0
   Source (child x y) = Memᴰ (is_child x y) cs
-  Source (below x y) = Memᴰ (is_below x y) cs ⊎ (Memᴰ (is-strictly-below x y) cs ⊎ (Memᴰ (is_same x y) cs ⊎ Memᴰ (is_same y x) cs))
-  Source (differ x y) = Memᴰ (is-strictly-below x y) cs ⊎ Memᴰ (is-differ x y) cs
+  Source (below x y) = Memᴰ (is_below x y) cs ⊎ (Memᴰ (is_strictly_below x y) cs ⊎ (Memᴰ (is_same x y) cs ⊎ Memᴰ (is_same y x) cs))
+  Source (differ x y) = Memᴰ (is_strictly_below x y) cs ⊎ Memᴰ (is_differ x y) cs
   Source (before x y) = Memᴰ (is_before x y) cs
-  Source (root x) = Memᴰ (is-root x) cs
-  Source (leaf x) = Memᴰ (is_IsLeaf x) cs
+  Source (root x) = Memᴰ (is_root x) cs
+  Source (leaf x) = Memᴰ (is_leaf x) cs
   Source (label x l) = Labelled x l
 
   one_source : (c : Constraint) → Memᴰ c cs → (φ : Fact) → Memᴰ φ (facts c) → Source φ
   one_source (is_child x y) k φ m = in_one Source k m
   one_source (is_below x y) k φ m = in_one Source (inl k) m
-  one_source (is-strictly-below x y) k φ m = in_two Source (inr (inl k)) (inl k) m
+  one_source (is_strictly_below x y) k φ m = in_two Source (inr (inl k)) (inl k) m
   one_source (is_same x y) k φ m = in_two Source (inr (inr (inl k))) (inr (inr (inr k))) m
-  one_source (is-differ x y) k φ m = in_one Source (inr k) m
-  one_source (is-root x) k φ m = in_one Source k m
-  one_source (is_IsLeaf x) k φ m = in_one Source k m
+  one_source (is_differ x y) k φ m = in_one Source (inr k) m
+  one_source (is_root x) k φ m = in_one Source k m
+  one_source (is_leaf x) k φ m = in_one Source k m
   one_source (is_label x l) k φ m = in_one Source (l, k, refl) m
   one_source (is_before x y) k φ m = in_one Source k m
 

@@ -11,7 +11,7 @@ use lib.Bits.{bit_or}
 use lib.ListN.{drop}
 use Rattle.rowbits.specs.Bit.{bit}
 use Rattle.meaning.specs.Tree.{Var}
-use Rattle.meaning.specs.Constraint.{Constraint, is_child, is_below, is-strictly-below, is_same, is-differ, is-root, is_IsLeaf, is_before, vars, Fact, child, below, differ, before, root, leaf, label, facts_of}
+use Rattle.meaning.specs.Constraint.{Constraint, is_child, is_below, is_strictly_below, is_same, is_differ, is_root, is_leaf, is_before, vars, Fact, child, below, differ, before, root, leaf, label, facts_of}
 use Rattle.meaning.specs.Settled.{Settled, given, child_differ, before_differ, differ_back}
 use Rattle.meaning.specs.Marking.{kind}
 use Rattle.meaning.specs.Finite.{Yes, pick}
@@ -89,7 +89,7 @@ module _ (cs : List Constraint) (i : ℕ) (over : drop i cs ≡ []) (small : (c 
     Both d x y = Of d x y ⊎ Back d x y
 
     abbrev Unlike : ℕ → ℕ → Type 0
-    Unlike x y = (Both is_child x y ⊎ Both is_before x y) ⊎ (Both is-strictly-below x y ⊎ Both is-differ x y)
+    Unlike x y = (Both is_child x y ⊎ Both is_before x y) ⊎ (Both is_strictly_below x y ⊎ Both is_differ x y)
 
     by_row : (k : ℕ) → Tells (kind_row rows k) (Given left right k)
     by_row k = part left right (λ c m. (small c m).0) rows s.by_row k
@@ -143,22 +143,22 @@ module _ (cs : List Constraint) (i : ℕ) (over : drop i cs ≡ []) (small : (c 
       below_are =
           told w.below_rows
           (unite (rows_are 2 is_below (λ x y l. (refl, refl, refl, refl)))
-          (unite (rows_are 3 is-strictly-below (λ x y l. (refl, refl, refl, refl))) (both_are 4 is_same (λ x y l. (refl, refl, refl, refl)))))
+          (unite (rows_are 3 is_strictly_below (λ x y l. (refl, refl, refl, refl))) (both_are 4 is_same (λ x y l. (refl, refl, refl, refl)))))
 
       differ_are : Bits f.differ Unlike
       unfolding kind constraint_as kind_of pick
       differ_are =
           told w.differ_rows
           (unite (unite (both_are 1 is_child (λ x y l. (refl, refl, refl, refl))) (both_are 9 is_before (λ x y l. (refl, refl, refl, refl))))
-          (unite (both_are 3 is-strictly-below (λ x y l. (refl, refl, refl, refl))) (both_are 5 is-differ (λ x y l. (refl, refl, refl, refl)))))
+          (unite (both_are 3 is_strictly_below (λ x y l. (refl, refl, refl, refl))) (both_are 5 is_differ (λ x y l. (refl, refl, refl, refl)))))
 
-      root_is : (x : ℕ) → Yes (bit f.root x) ↔ Memᴰ (is-root x) cs
+      root_is : (x : ℕ) → Yes (bit f.root x) ↔ Memᴰ (is_root x) cs
       unfolding kind constraint_as kind_of pick
-      root_is x = rw w.root_row (column_is 6 is-root (λ x l. (refl, refl, refl, refl)) x)
+      root_is x = rw w.root_row (column_is 6 is_root (λ x l. (refl, refl, refl, refl)) x)
 
-      leaf_is : (x : ℕ) → Yes (bit f.leaf x) ↔ Memᴰ (is_IsLeaf x) cs
+      leaf_is : (x : ℕ) → Yes (bit f.leaf x) ↔ Memᴰ (is_leaf x) cs
       unfolding kind constraint_as kind_of pick
-      leaf_is x = rw w.leaf_row (column_is 7 is_IsLeaf (λ x l. (refl, refl, refl, refl)) x)
+      leaf_is x = rw w.leaf_row (column_is 7 is_leaf (λ x l. (refl, refl, refl, refl)) x)
 
       label_are : (x l : ℕ) → Yes (has f (label x l)) ↔ Source cs (label x l)
       label_are x l = (

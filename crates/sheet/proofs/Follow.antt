@@ -11,7 +11,7 @@ use lib.Seq.{sets, take_at, sets-eq, length-sets, get_or-set_same, get_or-set_ot
 use lib.Dec.{eqb, ltb}
 use Rattle.meaning.specs.Finite.{pick}
 use Rattle.meaning.specs.Tree.{Var}
-use Rattle.meaning.specs.Constraint.{Constraint, is_child, is_below, is-strictly-below, is_same, is-root, is_label, is_before}
+use Rattle.meaning.specs.Constraint.{Constraint, is_child, is_below, is_strictly_below, is_same, is_root, is_label, is_before}
 use Rattle.meaning.specs.Paths as spec
 use Rattle.meaning.specs.Paths.{Test, letter, any, test_byte}
 use Rattle.meaning.specs.PathRecords.{Sheet, next_taken, with_records, rooted_by, rooted, axis_record, move_records, record_bytes, file_bytes}
@@ -175,7 +175,7 @@ module _ (v : Sheet) (b : List ℕ) (o : Follows v b) where
   root_follows : Follows (rooted_by 0 v) (put_in 6 (next_in b) 0 0 (set (numbered_in b) 193 (next_in b)))
   unfolding rooted_by record_bytes with_records
   root_follows =
-      put_follows given (set (numbered_in b) 193 (next_in b)) (is-root v.next) 6 (next_in b) 0 0 with_root
+      put_follows given (set (numbered_in b) 193 (next_in b)) (is_root v.next) 6 (next_in b) 0 0 with_root
       (λ h. ap (λ (k : ℕ). 6 ∷ k ∷ 0 ∷ 0 ∷ []) (sym (o.few (let g : suc v.next ≤ 16 = h in omega arith)).0))
 
   rooted_few : v.next ≤ 16 → (r : Var) → v.root_at ≡ r → Follows (rooted_by r v) (rooted_in b)
@@ -216,15 +216,15 @@ module _ (v : Sheet) (b : List ℕ) (x y X Y : ℕ) (o : Follows v b) (p : For v
 
   axis_follows : (a : spec.Axis) → Follows (with_records (axis_record a X Y ∷ []) v) (axis_in (axis_for a) x y b)
   unfolding axis_in axis_record record_bytes pick
-  axis_follows spec.to-self = along 4 (is_same X Y) refl
+  axis_follows spec.to_self = along 4 (is_same X Y) refl
   axis_follows spec.to_child = along 1 (is_child X Y) refl
   axis_follows spec.to_parent = against 1 (is_child Y X) refl
-  axis_follows spec.to-descendant = along 3 (is-strictly-below X Y) refl
-  axis_follows spec.to-ancestor = against 3 (is-strictly-below Y X) refl
-  axis_follows spec.to-descendant-or-self = along 2 (is_below X Y) refl
-  axis_follows spec.to-ancestor-or-self = against 2 (is_below Y X) refl
-  axis_follows spec.to-following-sibling = along 9 (is_before X Y) refl
-  axis_follows spec.to-preceding-sibling = against 9 (is_before Y X) refl
+  axis_follows spec.to_descendant = along 3 (is_strictly_below X Y) refl
+  axis_follows spec.to_ancestor = against 3 (is_strictly_below Y X) refl
+  axis_follows spec.to_descendant_or_self = along 2 (is_below X Y) refl
+  axis_follows spec.to_ancestor_or_self = against 2 (is_below Y X) refl
+  axis_follows spec.to_following_sibling = along 9 (is_before X Y) refl
+  axis_follows spec.to_preceding_sibling = against 9 (is_before Y X) refl
 
   two_records : (c d : Constraint) → with_records (d ∷ []) (with_records (c ∷ []) v) ≡ with_records (c ∷ d ∷ []) v
   unfolding with_records

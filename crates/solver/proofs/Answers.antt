@@ -9,7 +9,7 @@ use lib.ListN.{length, get_or}
 use Rattle.meaning.specs.Constraint.{Constraint, vars, Fact, facts_of}
 use Rattle.meaning.specs.ReadOff.{FactSet, answer_file}
 use Rattle.meaning.specs.Files.{Judged, accepted, judge}
-use Rattle.meaning.specs.Demand.{Answer, a_tree, a_none, a-spent, Answers}
+use Rattle.meaning.specs.Demand.{Answer, a_tree, a_none, a_spent, Answers}
 use Rattle.meaning.specs.Results.{Solved, solver_refuses, solver_answers, written}
 use Rattle.meaning.specs.Promises.{SolverPromise}
 use Rattle.meaning.proofs.Tests.{pick_yes, pick_no, is_le, le_yes}
@@ -53,8 +53,8 @@ module _ (A n : ℕ) (cs : List Constraint) (few : vars cs ≤ n) (r : Searched)
   pub solves_none : r.end ≡ None → solve A n cs ≡ a_none r.count
   solves_none e = let w = was_none A n _ _ r reports e in by_search.none w.within w.is ∙ ap a_none (sym w.counted)
 
-  pub solves_spent : r.end ≡ Spent → solve A n cs ≡ a-spent r.count
-  solves_spent e = let l = was_spent A n _ _ r reports e in by_search.spent_iff.0 l ∙ ap (λ (z : Searched). a-spent z.count) (sym (reports.spent l))
+  pub solves_spent : r.end ≡ Spent → solve A n cs ≡ a_spent r.count
+  solves_spent e = let l = was_spent A n _ _ r reports e in by_search.spent_iff.0 l ∙ ap (λ (z : Searched). a_spent z.count) (sym (reports.spent l))
 
   -- and of a tree, tables that it may be read off from
   pub solves_tree : r.end ≡ Tree → (R : List Fact) × (g : Facts) × Ready n R (showing r.below r.above r.after r.label r.root g)
@@ -115,7 +115,7 @@ module _ (buffer : List ℕ) where
   unfolding verdict_of written
   answer_none a c e = rw e (record { verdict = refl; wrote = refl })
 
-  pub answer_spent : (a : Answer) (c : ℕ) → a ≡ a-spent c → AnswerOf a (verdict.Spent c) buffer buffer
+  pub answer_spent : (a : Answer) (c : ℕ) → a ≡ a_spent c → AnswerOf a (verdict.Spent c) buffer buffer
   unfolding verdict_of written
   answer_spent a c e = rw e (record { verdict = refl; wrote = refl })
 

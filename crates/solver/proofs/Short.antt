@@ -5,7 +5,7 @@ use Prim.Native.Nat.{ℕ, ◌≤◌}
 use native.Mathlib.Decide.{dec_le}
 use native.Mathlib.Omega.{arith}
 use lib.ListN.{length}
-use Rattle.meaning.specs.Demand.{a_tree, a_none, a-spent}
+use Rattle.meaning.specs.Demand.{a_tree, a_none, a_spent}
 use Rattle.meaning.specs.Files.{Judged, refused, accepted, judge}
 use Rattle.meaning.specs.Results.{Solved, solver_refuses, solver_answers}
 use Rattle.theory.specs.Programs.{solver}
@@ -43,5 +43,5 @@ module _ (A : ℕ) (file buffer : List ℕ) (r : Verdict) (after : List ℕ) (w 
           let s = short bs (q ∙ ap (λ (k : ℕ). solver_answers (a_tree k bs)) z) in
           omega arith
       by (solver_answers (a_none d)) q = let x = told_as q in let z : ◌≡◌ {A = ℕ} 0 1 = cc in absurd (omega arith)
-      by (solver_answers (a-spent d)) q = let x = told_as q in let z : ◌≡◌ {A = ℕ} 0 1 = cc in absurd (omega arith)
+      by (solver_answers (a_spent d)) q = let x = told_as q in let z : ◌≡◌ {A = ℕ} 0 1 = cc in absurd (omega arith)
       by (solver_refuses p) q = let x = told_as q in let z : ◌≡◌ {A = ℕ} 0 1 = cc in absurd (omega arith)

@@ -1,7 +1,7 @@
 -- What the solver answers of records over n variables, docs/FORMAT.md's numbers and values for each case of its verdict, and what it promises
 -- of any bytes.
 use Rattle.std.specs.Prelude.{◌≡◌, List, ℕ, ◌≤◌, length}
-use Rattle.meaning.specs.Demand.{Answer, a_tree, a_none, a-spent}
+use Rattle.meaning.specs.Demand.{Answer, a_tree, a_none, a_spent}
 use Rattle.meaning.specs.Results.{Solved, solver_refuses, solver_answers, written}
 use Rattle.meaning.specs.Promises.{SolverPromise}
 use Rattle.theory.specs.Programs.{solver}
@@ -22,12 +22,12 @@ pub record Covers (n : ℕ) (file : List ℕ) : Type 0 where
 unfoldable pub decided_as : Answer → Decided
 decided_as (a_tree count bytes) = record { end = end.Tree; count = count }
 decided_as (a_none count) = record { end = end.None; count = count }
-decided_as (a-spent count) = record { end = end.Spent; count = count }
+decided_as (a_spent count) = record { end = end.Spent; count = count }
 
 unfoldable pub verdict_of : Solved → Verdict
 verdict_of (solver_answers (a_tree count bytes)) = Tree (length bytes) count
 verdict_of (solver_answers (a_none count)) = None count
-verdict_of (solver_answers (a-spent count)) = Spent count
+verdict_of (solver_answers (a_spent count)) = Spent count
 verdict_of (solver_refuses question) = Refused question
 
 -- r is the verdict of an answer, and `after` the buffer that it leaves

@@ -2,7 +2,7 @@
 use Rattle.std.specs.Prelude.{◌≡◌, List, ℕ}
 use Rattle.std.proofs.Math.Option.{Option, none, some}
 use Rattle.meaning.specs.Constraint.{Fact}
-use Rattle.meaning.specs.FixedSearch.{JoinKind, parent-join, chain-join, sibling-join, document-join, Join, join}
+use Rattle.meaning.specs.FixedSearch.{JoinKind, parent_join, chain_join, sibling_join, document_join, Join, join}
 use Rattle.theory.specs.Search.{is_a_join, first_of}
 use Rattle.tables.specs.Tables.{has, Ready}
 use Rattle.tables.specs.declared.Facts.{Facts}
@@ -12,10 +12,10 @@ use Rattle.stages.specs.declared.JoinKind as coded
 use Rattle.stages.specs.declared.JoinKind.TheVariants.{Parent, Chain, Sibling, Document}
 
 abbrev pub kind_of : coded.JoinKind → JoinKind
-kind_of Parent = parent-join
-kind_of Chain = chain-join
-kind_of Sibling = sibling-join
-kind_of Document = document-join
+kind_of Parent = parent_join
+kind_of Chain = chain_join
+kind_of Sibling = sibling_join
+kind_of Document = document_join
 
 unfoldable pub join_of : Found → Option Join
 join_of Nothing = none

@@ -10,7 +10,7 @@ use lib.Seq.{drop-drop, get_or-drop}
 use lib.Dec.{eqb}
 use Rattle.meaning.specs.Finite.{Yes, pick}
 use Rattle.meaning.specs.Tree.{Var}
-use Rattle.meaning.specs.Paths.{Axis, is_small, Test, test_byte, Path, from-root, from-here, Steps, one, more, Step, move, having}
+use Rattle.meaning.specs.Paths.{Axis, is_small, Test, test_byte, Path, from_root, from_here, Steps, one, more, Step, move, having}
 use Rattle.meaning.specs.PathRecords.{Sheet, next_taken, rooted, path_sheet, steps_sheet, step_sheet}
 use Rattle.meaning.proofs.Tests.{pick_yes, pick_no, eq_yes, is_eq}
 use Rattle.meaning.proofs.PathSheets.{path_next, step_next}
@@ -71,7 +71,7 @@ module _ (s : List ℕ) (at x : ℕ) (b : List ℕ) where
   path_here r c n h v X zero o p l = absurd (not-suc-le-zero l)
   path_here r c n h v X (suc k) o p l =
       read_along s (λ p. path_sheet p X v) r c (pick_no _ _ (byte_no s at 47 n))
-      (read_map s (λ p. path_sheet p X v) from-here (steps_at k (drop at s)) r c (h v X k o p (omega arith)))
+      (read_map s (λ p. path_sheet p X v) from_here (steps_at k (drop at s)) r c (h v X k o p (omega arith)))
 
   module _ (u : List ℕ) (e : u ≡ rooted_in b) (i : get_or s at 0 ≡ 47) where
     root_follows : (v : Sheet) → Follows v b → Follows (rooted v) u
@@ -93,8 +93,8 @@ module _ (s : List ℕ) (at x : ℕ) (b : List ℕ) where
         read_along s (λ p. path_sheet p X v) r c
         (pick_yes _ _ (byte_yes s at 47 i)
         ∙ pick_yes _ _ (small_after s at ∙ n)
-        ∙ ap (λ (z : List ℕ). and_then (steps_at k z) λ ss q. got (from-root ss) q) (one_on s at))
-        (read_map s (λ p. path_sheet p X v) from-root (steps_at k (drop (at + 1) s)) r c
+        ∙ ap (λ (z : List ℕ). and_then (steps_at k z) λ ss q. got (from_root ss) q) (one_on s at))
+        (read_map s (λ p. path_sheet p X v) from_root (steps_at k (drop (at + 1) s)) r c
         (h (rooted v) (rooted v).root_at k f (λ z. d ∙ ap (λ (w : List ℕ). root_in w) (sym e) ∙ (f.few z).1) (omega arith)))
 
   -- ---- steps

@@ -13,7 +13,7 @@ use lib.Pow.{pow_mono, pow_pos, pow-lt}
 use Rattle.meaning.specs.Finite.{Yes, pick}
 use Rattle.meaning.proofs.Tests.{clash, no_neg, is_eq, self_eq, eq_yes}
 use Rattle.rowbits.specs.Bit.{bit}
-use Rattle.rowbits.proofs.Laws.{bit-bit_or, bit-bit_and, bit_one, bit_none}
+use Rattle.rowbits.proofs.Laws.{bit_bit_or, bit_bit_and, bit_one, bit_none}
 use Rattle.tables.proofs.Tested.{or_yes, and_yes, yes_and}
 use Rattle.tables.specs.Rows.{Up, Lowest, gained, meets, without}
 
@@ -25,19 +25,19 @@ yes_or false b (inl t) = absurd (false≢true t)
 yes_or false b (inr t) = t
 
 pub or_case : (a b i : ℕ) → Yes (bit (bit_or a b) i) → Yes (bit a i) ⊎ Yes (bit b i)
-or_case a b i t = or_yes _ _ (sym (bit-bit_or a b i) ∙ t)
+or_case a b i t = or_yes _ _ (sym (bit_bit_or a b i) ∙ t)
 
 pub or_l : (a b i : ℕ) → Yes (bit a i) → Yes (bit (bit_or a b) i)
-or_l a b i t = bit-bit_or a b i ∙ yes_or _ _ (inl t)
+or_l a b i t = bit_bit_or a b i ∙ yes_or _ _ (inl t)
 
 pub or_r : (a b i : ℕ) → Yes (bit b i) → Yes (bit (bit_or a b) i)
-or_r a b i t = bit-bit_or a b i ∙ yes_or (bit a i) (bit b i) (inr t)
+or_r a b i t = bit_bit_or a b i ∙ yes_or (bit a i) (bit b i) (inr t)
 
 pub in_both : (a b i : ℕ) → Yes (bit (bit_and a b) i) → Yes (bit a i) × Yes (bit b i)
-in_both a b i t = and_yes _ _ (sym (bit-bit_and a b i) ∙ t)
+in_both a b i t = and_yes _ _ (sym (bit_bit_and a b i) ∙ t)
 
 pub both_in : (a b i : ℕ) → Yes (bit a i) → Yes (bit b i) → Yes (bit (bit_and a b) i)
-both_in a b i s t = bit-bit_and a b i ∙ yes_and _ _ s t
+both_in a b i s t = bit_bit_and a b i ∙ yes_and _ _ s t
 
 pub one_is : (j i : ℕ) → Yes (bit (2 ^ j) i) → i ≡ j
 one_is j i t = is_eq (sym (bit_one j i) ∙ t)

@@ -5,7 +5,7 @@ use Prim.Native.Nat.{ℕ, ◌≤◌}
 use native.Mathlib.Omega.{arith}
 use lib.ListN.{length, take}
 use lib.Seq.{take-append_seam}
-use Rattle.meaning.specs.Demand.{a_tree, a_none, a-spent}
+use Rattle.meaning.specs.Demand.{a_tree, a_none, a_spent}
 use Rattle.meaning.specs.Results.{Solved, solver_refuses, solver_answers, written}
 use Rattle.meaning.specs.Promises.{SolverPromise}
 use Rattle.meaning.specs.Text.{solved_text}
@@ -20,7 +20,7 @@ text_of : (s : Solved) (buffer : List ℕ) → solver_text (verdict_of s) (take 
 unfolding verdict_of solver_text bytes_of written
 text_of (solver_answers (a_tree c bs)) buffer = ap (λ (l : List ℕ). solved_text (solver_answers (a_tree c l))) (take-append_seam bs _)
 text_of (solver_answers (a_none c)) buffer = refl
-text_of (solver_answers (a-spent c)) buffer = refl
+text_of (solver_answers (a_spent c)) buffer = refl
 text_of (solver_refuses q) buffer = refl
 
 module _ (A : ℕ) (file buffer : List ℕ) (r : Verdict) (after : List ℕ) (w : SolverOf A file buffer r after) where

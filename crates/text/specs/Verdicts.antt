@@ -1,6 +1,6 @@
 -- The text of a verdict of the code.
 use Rattle.std.specs.Prelude.{List, ℕ}
-use Rattle.meaning.specs.Demand.{a_tree, a_none, a-spent}
+use Rattle.meaning.specs.Demand.{a_tree, a_none, a_spent}
 use Rattle.meaning.specs.Results.{solver_refuses, solver_answers}
 use Rattle.meaning.specs.Text.{solved_text, marked_text}
 use Rattle.marker.specs.Verdict.{marked_of}
@@ -12,7 +12,7 @@ use Rattle.solver.specs.declared.Verdict.TheVariants.{Tree, None, Spent, Refused
 unfoldable pub solver_text : Verdict → List ℕ → List ℕ
 solver_text (Tree bytes count) answer = solved_text (solver_answers (a_tree count answer))
 solver_text (None count) answer = solved_text (solver_answers (a_none count))
-solver_text (Spent count) answer = solved_text (solver_answers (a-spent count))
+solver_text (Spent count) answer = solved_text (solver_answers (a_spent count))
 solver_text (Refused question) answer = solved_text (solver_refuses question)
 
 unfoldable pub bytes_of : Verdict → ℕ

@@ -10,7 +10,7 @@ use native.Mathlib.Bridge.{le_prop}
 use native.Mathlib.Decide.{dec_lt, dec_le}
 use native.Mathlib.Omega.{arith}
 use Rattle.meaning.specs.Tree.{Var, Node, Label, folded, SameLabel, Assignment, Tree, IsTree, Parent, Above, self, up, EarlierSibling}
-use Rattle.meaning.specs.Constraint.{Constraint, is_child, is_below, is-strictly-below, is_same, is-differ, is-root, is_IsLeaf, is_label, is_before, Meets, vars, MeetsAll, ByteLabels}
+use Rattle.meaning.specs.Constraint.{Constraint, is_child, is_below, is_strictly_below, is_same, is_differ, is_root, is_leaf, is_label, is_before, Meets, vars, MeetsAll, ByteLabels}
 use Rattle.meaning.specs.AnyTree.{Reaches, here, down, AnyTree, PrecedesSibling, ByteLabelled, MeetsAny, MeetsAllAny, NoAnyTree, Numbering}
 use Rattle.meaning.specs.FixedSearch.{Outcome, in_none}
 use Rattle.meaning.specs.Demand.{a_none, FixedSearch, Demand3}
@@ -71,14 +71,14 @@ module _ {N : Type 0} (T : AnyTree N) (t : Tree) (i : IsTree t) (s : Numbering T
   pub numbering_meets : (a : Var → N) (c : Constraint) → MeetsAny T a c ↔ Meets t (λ x. s.number (a x)) c
   numbering_meets a (is_child x y) = s.same_parents (a x) (a y)
   numbering_meets a (is_below x y) = (number_reaches T t s, λ h. above_numbered h (a y) refl (a x) refl)
-  numbering_meets a (is-strictly-below x y) = (
+  numbering_meets a (is_strictly_below x y) = (
     λ h. (number_reaches T t s h.0, λ e. h.1 (s.one_to_one _ _ e)),
     λ h. (above_numbered h.0 (a y) refl (a x) refl, λ e. h.1 (ap s.number e)),
   )
   numbering_meets a (is_same x y) = (ap s.number, s.one_to_one _ _)
-  numbering_meets a (is-differ x y) = (λ h e. h (s.one_to_one _ _ e), λ h e. h (ap s.number e))
-  numbering_meets a (is-root x) = (λ h k p. let w = parent_numbered p in h w.0 w.1, λ h u p. h (s.number u) ((s.same_parents u (a x)).0 p))
-  numbering_meets a (is_IsLeaf x) = (λ h k p. let w = child_numbered p in h w.0 w.1, λ h v p. h (s.number v) ((s.same_parents (a x) v).0 p))
+  numbering_meets a (is_differ x y) = (λ h e. h (s.one_to_one _ _ e), λ h e. h (ap s.number e))
+  numbering_meets a (is_root x) = (λ h k p. let w = parent_numbered p in h w.0 w.1, λ h u p. h (s.number u) ((s.same_parents u (a x)).0 p))
+  numbering_meets a (is_leaf x) = (λ h k p. let w = child_numbered p in h w.0 w.1, λ h v p. h (s.number v) ((s.same_parents (a x) v).0 p))
   numbering_meets a (is_label x l) = (λ e. ap folded (s.same_labels (a x)) ∙ e, λ e. sym (ap folded (s.same_labels (a x))) ∙ e)
   numbering_meets a (is_before x y) = (number_sibling T t s, λ h. sibling_numbered h)
 
@@ -135,11 +135,11 @@ module _ {N : Type 0} (T : AnyTree N) where
   with_bytes_meets : (a : Var → N) (cs : List Constraint) → ByteLabels cs → (c : Constraint) → Memᴰ c cs → MeetsAny T a c → MeetsAny with_bytes a c
   with_bytes_meets a cs b (is_child x y) m h = h
   with_bytes_meets a cs b (is_below x y) m h = h
-  with_bytes_meets a cs b (is-strictly-below x y) m h = h
+  with_bytes_meets a cs b (is_strictly_below x y) m h = h
   with_bytes_meets a cs b (is_same x y) m h = h
-  with_bytes_meets a cs b (is-differ x y) m h = h
-  with_bytes_meets a cs b (is-root x) m h = h
-  with_bytes_meets a cs b (is_IsLeaf x) m h = h
+  with_bytes_meets a cs b (is_differ x y) m h = h
+  with_bytes_meets a cs b (is_root x) m h = h
+  with_bytes_meets a cs b (is_leaf x) m h = h
   with_bytes_meets a cs b (is_before x y) m h = record { above = h.above; parent_u = h.parent_u; parent_v = h.parent_v; first = h.first }
   with_bytes_meets a cs b (is_label x l) m h = byte_same (T.label (a x)) (b x l m).1 h
 

@@ -14,13 +14,13 @@ use lib.ListN.{length}
 use Rattle.meaning.specs.Tree.{Var, Label, Assignment, Tree, IsTree}
 use Rattle.meaning.specs.Constraint.{Constraint, vars, ByteLabels, Fact, below, differ, label, facts_of}
 use Rattle.meaning.specs.Settled.{Clash}
-use Rattle.meaning.specs.FixedSearch.{parent-join, chain-join, sibling-join, document-join, Join, join, IsJoin, first_alternative, second_alternative, FirstJoin, Outcome, in_none, in_tree, Ends, clashed, solved, in_first, in_second}
+use Rattle.meaning.specs.FixedSearch.{parent_join, chain_join, sibling_join, document_join, Join, join, IsJoin, first_alternative, second_alternative, FirstJoin, Outcome, in_none, in_tree, Ends, clashed, solved, in_first, in_second}
 use Rattle.meaning.specs.Closed.{Inside}
 use Rattle.meaning.specs.ReadOff.{FactSet, Decides, tree_of, nodes, place}
 use Rattle.meaning.specs.Files.{accepted, judge}
 use Rattle.meaning.specs.Results.{Solved, solver_answers}
 use Rattle.meaning.specs.Promises.{SolverPromise}
-use Rattle.meaning.specs.Demand.{Answer, a_tree, a_none, a-spent, count_of, Answers, Demand3}
+use Rattle.meaning.specs.Demand.{Answer, a_tree, a_none, a_spent, count_of, Answers, Demand3}
 use Rattle.theory.specs.Closure.{holds}
 use Rattle.theory.specs.Search.{clashes, EndsBy, by_clash, by_tree, by_first, by_second, search_by}
 use Rattle.theory.specs.Overlap.{second_before, AnsweredBefore, solve_before, Stays, SameVerdict, Overlap}
@@ -43,26 +43,26 @@ use Rattle.theory.proofs.DifferFacts.{IsDiffer, Beside, kept, more, join_more, j
 -- ---- the two second alternatives
 
 second_wider : (j : Join) → second_before j ⊆ second_alternative j
-second_wider (join parent-join z x y) f m = m
-second_wider (join chain-join z x y) f m = in_one (λ g. Memᴰ g (below y x ∷ differ x y ∷ [])) (Memᴰ.head refl) m
-second_wider (join sibling-join y a x) f m = m
-second_wider (join document-join r y w) f m = m
+second_wider (join parent_join z x y) f m = m
+second_wider (join chain_join z x y) f m = in_one (λ g. Memᴰ g (below y x ∷ differ x y ∷ [])) (Memᴰ.head refl) m
+second_wider (join sibling_join y a x) f m = m
+second_wider (join document_join r y w) f m = m
 
 second_only : (j : Join) (f : Fact) → Memᴰ f (second_alternative j) → Memᴰ f (second_before j) ⊎ IsDiffer f
-second_only (join parent-join z x y) f m = inl m
-second_only (join chain-join z x y) f m = in_two (λ g. Memᴰ g (below y x ∷ []) ⊎ IsDiffer g) (inl (Memᴰ.head refl)) (inr tt) m
-second_only (join sibling-join y a x) f m = inl m
-second_only (join document-join r y w) f m = inl m
+second_only (join parent_join z x y) f m = inl m
+second_only (join chain_join z x y) f m = in_two (λ g. Memᴰ g (below y x ∷ []) ⊎ IsDiffer g) (inl (Memᴰ.head refl)) (inr tt) m
+second_only (join sibling_join y a x) f m = inl m
+second_only (join document_join r y w) f m = inl m
 
 -- by the rules of before, too, a second alternative adds a pair to below
 before_adds : (n : ℕ) (S : List Fact) → Inside n S → (j : Join) → IsJoin n S j → Adds n S (second_before j)
-before_adds n S ins (join parent-join z x y) q = second_adds n S ins (join parent-join z x y) q
-before_adds n S ins (join chain-join z x y) q =
+before_adds n S ins (join parent_join z x y) q = second_adds n S ins (join parent_join z x y) q
+before_adds n S ins (join chain_join z x y) q =
     let hx = (settled_within n S ins q.above_x).0 in
     let hy = (settled_within n S ins q.above_y).0 in
     adds n S ins _ (λ f m. in_one (Plain n) (plain_below hy hx) m) y x (Memᴰ.head refl) q.not_below
-before_adds n S ins (join sibling-join y a x) q = second_adds n S ins (join sibling-join y a x) q
-before_adds n S ins (join document-join r y w) q = second_adds n S ins (join document-join r y w) q
+before_adds n S ins (join sibling_join y a x) q = second_adds n S ins (join sibling_join y a x) q
+before_adds n S ins (join document_join r y w) q = second_adds n S ins (join document_join r y w) q
 
 beside_both : {A B S T : List Fact} → Beside A B → Beside S T → Beside (A ++ S) (B ++ T)
 beside_both {A} {B} {S} {T} p q = record {
@@ -274,7 +274,7 @@ module _ (n : ℕ) (cs : List Constraint) (few : vars cs ≤ n) (b : ByteLabels 
     shown : u.count ≤ B → v.count ≤ A → ShownAlike u.count v.count was is
     shown = shown_alike u.outcome v.outcome alike (λ Q q. v.search.decided q) u.answers v.answers
 
-    sooner : ¬ (was ≡ a-spent B) → ¬ (is ≡ a-spent A) → SameVerdict was is
+    sooner : ¬ (was ≡ a_spent B) → ¬ (is ≡ a_spent A) → SameVerdict was is
     sooner k l = go (dec_le u.count B) (dec_le v.count A)
       where
         same : ShownAlike u.count v.count was is → SameVerdict was is
@@ -293,7 +293,7 @@ module _ (n : ℕ) (cs : List Constraint) (few : vars cs ≤ n) (b : ByteLabels 
       go : Dec (u.count ≤ A) → Stays was is
       go (yes l) = shown_stays (no_more u v) (shown u v l (le_trans (no_more u v) l))
       go (no l) =
-          let e : was ≡ a-spent A = u.answers.spent_iff.0 (omega arith) in
+          let e : was ≡ a_spent A = u.answers.spent_iff.0 (omega arith) in
           record {
             tree = λ f. absurd (let z : ◌≡◌ {A = ℕ} 0 1 = cc in omega arith);
             none = λ f. absurd (let z : ◌≡◌ {A = ℕ} 0 1 = cc in omega arith);

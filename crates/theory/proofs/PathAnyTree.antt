@@ -8,7 +8,7 @@ use native.Mathlib.Omega.{arith}
 use Rattle.meaning.specs.Tree.{Node, folded, Tree, IsTree}
 use Rattle.meaning.specs.Constraint.{CanBeMet, vars}
 use Rattle.meaning.specs.AnyTree.{AnyTree, Numbering}
-use Rattle.meaning.specs.Paths.{Axis, to-self, to_child, to_parent, to-descendant, to-ancestor, to-descendant-or-self, to-ancestor-or-self, to-following-sibling, to-preceding-sibling, Test, letter, any, Path, alone, from-root, from-here, Steps, one, more, Step, move, having}
+use Rattle.meaning.specs.Paths.{Axis, to_self, to_child, to_parent, to_descendant, to_ancestor, to_descendant_or_self, to_ancestor_or_self, to_following_sibling, to_preceding_sibling, Test, letter, any, Path, alone, from_root, from_here, Steps, one, more, Step, move, having}
 use Rattle.meaning.specs.Selection.{Expr, ε, ↑, ↓, ↑*, ↓*, ⟵, ⟶, document-root, tag, over, filter, Denotes, DenotesAny, axis_expr, test_expr, path_expr, steps_expr, step_expr, SomeTreeSelects, SomeAnyTreeSelects}
 use Rattle.meaning.specs.PathRecords.{records_of}
 use Rattle.meaning.proofs.Trees.{no_parent}
@@ -75,15 +75,15 @@ ByteTags (filter p q) = ByteTags p × ByteTags q
 
 axis_tags : (k : Axis) → ByteTags (axis_expr k)
 unfolding axis_expr
-axis_tags to-self = tt
+axis_tags to_self = tt
 axis_tags to_child = tt
 axis_tags to_parent = tt
-axis_tags to-descendant = (tt, tt)
-axis_tags to-ancestor = (tt, tt)
-axis_tags to-descendant-or-self = tt
-axis_tags to-ancestor-or-self = tt
-axis_tags to-following-sibling = tt
-axis_tags to-preceding-sibling = tt
+axis_tags to_descendant = (tt, tt)
+axis_tags to_ancestor = (tt, tt)
+axis_tags to_descendant_or_self = tt
+axis_tags to_ancestor_or_self = tt
+axis_tags to_following_sibling = tt
+axis_tags to_preceding_sibling = tt
 
 test_tags : (q : Test) (e : Expr) → ByteTags e → ByteTags (test_expr q e)
 unfolding test_expr
@@ -95,8 +95,8 @@ mutual
 
   path_tags : (p : Path) → ByteTags (path_expr p)
   path_tags alone = tt
-  path_tags (from-root ss) = (tt, steps_tags ss)
-  path_tags (from-here ss) = steps_tags ss
+  path_tags (from_root ss) = (tt, steps_tags ss)
+  path_tags (from_here ss) = steps_tags ss
 
   steps_tags : (ss : Steps) → ByteTags (steps_expr ss)
   steps_tags (one s) = step_tags s

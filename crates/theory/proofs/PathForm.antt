@@ -8,7 +8,7 @@ use native.Mathlib.Omega.{arith}
 use lib.ListN.{length, drop}
 use lib.Dec.{eqb}
 use Rattle.meaning.specs.Finite.{Yes, pick}
-use Rattle.meaning.specs.Paths.{Axis, to-self, to_child, to_parent, to-descendant, to-ancestor, to-descendant-or-self, to-ancestor-or-self, to-following-sibling, to-preceding-sibling, is_small, is_letter, Test, Path, Step, having, axis_text, test_byte, path_text, steps_text, step_text, lines_text, OfForm}
+use Rattle.meaning.specs.Paths.{Axis, to_self, to_child, to_parent, to_descendant, to_ancestor, to_descendant_or_self, to_ancestor_or_self, to_following_sibling, to_preceding_sibling, is_small, is_letter, Test, Path, Step, having, axis_text, test_byte, path_text, steps_text, step_text, lines_text, OfForm}
 use Rattle.theory.specs.PathReader.{after_name, axis_at, test_by, test_at, move_at, path_at, steps_at, step_at, brackets_at, fuel, lines_at}
 use Rattle.theory.specs.Reader.{Got, nothing, got, and_then, byte, front}
 use Rattle.meaning.proofs.PathSheets.{letter_range}
@@ -38,11 +38,11 @@ name_reads a bs g h = pick_has (Reads axis_text bs) _ _ _ (λ y. front_is bs (ax
 axis_reads : (bs : List ℕ) → Reads axis_text bs (axis_at bs)
 unfolding axis_at
 axis_reads bs =
-    name_reads to-descendant-or-self bs _
-    (name_reads to-following-sibling bs _
-    (name_reads to-preceding-sibling bs _
-    (name_reads to-ancestor-or-self bs _
-    (name_reads to-descendant bs _ (name_reads to-ancestor bs _ (name_reads to_parent bs _ (name_reads to_child bs _ (name_reads to-self bs nothing tt))))))))
+    name_reads to_descendant_or_self bs _
+    (name_reads to_following_sibling bs _
+    (name_reads to_preceding_sibling bs _
+    (name_reads to_ancestor_or_self bs _
+    (name_reads to_descendant bs _ (name_reads to_ancestor bs _ (name_reads to_parent bs _ (name_reads to_child bs _ (name_reads to_self bs nothing tt))))))))
 
 abbrev test_text : Test → List ℕ
 test_text t = test_byte t ∷ []

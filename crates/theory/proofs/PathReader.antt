@@ -12,7 +12,7 @@ use lib.Dec.{eqb}
 use Rattle.meaning.specs.Tree.{is_capital}
 use Rattle.meaning.specs.Finite.{Yes, pick, ◌and◌, ◌or◌}
 use Rattle.meaning.specs.Ascii.{ascii}
-use Rattle.meaning.specs.Paths.{Axis, to-self, to_child, to_parent, to-descendant, to-ancestor, to-descendant-or-self, to-ancestor-or-self, to-following-sibling, to-preceding-sibling, is_small, is_letter, Test, letter, any, Path, alone, from-root, from-here, Steps, one, more, Step, move, having, axis_text, test_byte, path_text, steps_text, step_text, lines_text, OfForm}
+use Rattle.meaning.specs.Paths.{Axis, to_self, to_child, to_parent, to_descendant, to_ancestor, to_descendant_or_self, to_ancestor_or_self, to_following_sibling, to_preceding_sibling, is_small, is_letter, Test, letter, any, Path, alone, from_root, from_here, Steps, one, more, Step, move, having, axis_text, test_byte, path_text, steps_text, step_text, lines_text, OfForm}
 use Rattle.theory.specs.PathReader.{after_name, axis_at, test_by, test_at, move_at, path_at, steps_at, step_at, brackets_at, fuel, lines_at}
 use Rattle.theory.specs.Reader.{Got, nothing, got, and_then, byte, front}
 use Rattle.meaning.proofs.PathSheets.{small_range}
@@ -22,15 +22,15 @@ use Rattle.meaning.proofs.Tests.{pick_yes, pick_no, is_eq}
 
 axis_read : (a : Axis) (r : List ℕ) → axis_at (axis_text a ++ 58 ∷ r) ≡ got a (58 ∷ r)
 unfolding axis_at after_name front axis_text ascii pick ◌and◌
-axis_read to-self r = refl
+axis_read to_self r = refl
 axis_read to_child r = refl
 axis_read to_parent r = refl
-axis_read to-descendant r = refl
-axis_read to-ancestor r = refl
-axis_read to-descendant-or-self r = refl
-axis_read to-ancestor-or-self r = refl
-axis_read to-following-sibling r = refl
-axis_read to-preceding-sibling r = refl
+axis_read to_descendant r = refl
+axis_read to_ancestor r = refl
+axis_read to_descendant_or_self r = refl
+axis_read to_ancestor_or_self r = refl
+axis_read to_following_sibling r = refl
+axis_read to_preceding_sibling r = refl
 
 test_by_letter : (b : ℕ) (v : Bool) (e : is_letter b ≡ v) (l : Yes (is_letter b)) (r : List ℕ) → test_by b v e r ≡ got (letter b l) r
 unfolding test_by
@@ -53,15 +53,15 @@ move_read a t r =
 
 axis_first : (a : Axis) (r : List ℕ) → Yes (is_small (byte (axis_text a ++ r)))
 unfolding axis_text ascii is_small ◌and◌
-axis_first to-self r = refl
+axis_first to_self r = refl
 axis_first to_child r = refl
 axis_first to_parent r = refl
-axis_first to-descendant r = refl
-axis_first to-ancestor r = refl
-axis_first to-descendant-or-self r = refl
-axis_first to-ancestor-or-self r = refl
-axis_first to-following-sibling r = refl
-axis_first to-preceding-sibling r = refl
+axis_first to_descendant r = refl
+axis_first to_ancestor r = refl
+axis_first to_descendant_or_self r = refl
+axis_first to_ancestor_or_self r = refl
+axis_first to_following_sibling r = refl
+axis_first to_preceding_sibling r = refl
 
 pub move_text : (a : Axis) (t : Test) (r : List ℕ) → step_text (move a t) ++ r ≡ axis_text a ++ (58 ∷ 58 ∷ test_byte t ∷ r)
 unfolding step_text
@@ -144,13 +144,13 @@ path_alone : (r : List ℕ) (k : ℕ) → Stops r → path_at (suc k) (47 ∷ r)
 unfolding path_at
 path_alone r k h = pick_yes _ _ refl ∙ pick_no _ _ (not_small r h)
 
-path_root : (ss : Steps) (r q : List ℕ) (k : ℕ) → Yes (is_small (byte q)) → steps_at k q ≡ got ss r → path_at (suc k) (47 ∷ q) ≡ got (from-root ss) r
+path_root : (ss : Steps) (r q : List ℕ) (k : ℕ) → Yes (is_small (byte q)) → steps_at k q ≡ got ss r → path_at (suc k) (47 ∷ q) ≡ got (from_root ss) r
 unfolding path_at
-path_root ss r q k l e = pick_yes _ _ refl ∙ pick_yes _ _ l ∙ ap (λ (g : Got Steps). and_then g λ ss r. got (from-root ss) r) e
+path_root ss r q k l e = pick_yes _ _ refl ∙ pick_yes _ _ l ∙ ap (λ (g : Got Steps). and_then g λ ss r. got (from_root ss) r) e
 
-path_here : (ss : Steps) (r q : List ℕ) (k : ℕ) → Yes (is_small (byte q)) → steps_at k q ≡ got ss r → path_at (suc k) q ≡ got (from-here ss) r
+path_here : (ss : Steps) (r q : List ℕ) (k : ℕ) → Yes (is_small (byte q)) → steps_at k q ≡ got ss r → path_at (suc k) q ≡ got (from_here ss) r
 unfolding path_at
-path_here ss r q k l e = pick_no _ _ (small_not_slash (byte q) l) ∙ ap (λ (g : Got Steps). and_then g λ ss r. got (from-here ss) r) e
+path_here ss r q k l e = pick_no _ _ (small_not_slash (byte q) l) ∙ ap (λ (g : Got Steps). and_then g λ ss r. got (from_here ss) r) e
 
 length_step : (s : Step) (r : List ℕ) → length r < length (step_text s ++ r)
 length_step (move a t) r =
@@ -177,10 +177,10 @@ mutual
   pub path_read : (p : Path) (r : List ℕ) → Stops r → (k : ℕ) → 4 * length (path_text p ++ r) + 3 < k → path_at k (path_text p ++ r) ≡ got p r
   path_read alone r h zero l = absurd (not-suc-le-zero l)
   path_read alone r h (suc k) l = path_alone r k h
-  path_read (from-root ss) r h zero l = absurd (not-suc-le-zero l)
-  path_read (from-root ss) r h (suc k) l = path_root ss r (steps_text ss ++ r) k (steps_first ss r) (steps_read ss r h k (omega arith))
-  path_read (from-here ss) r h zero l = absurd (not-suc-le-zero l)
-  path_read (from-here ss) r h (suc k) l = path_here ss r (steps_text ss ++ r) k (steps_first ss r) (steps_read ss r h k (omega arith))
+  path_read (from_root ss) r h zero l = absurd (not-suc-le-zero l)
+  path_read (from_root ss) r h (suc k) l = path_root ss r (steps_text ss ++ r) k (steps_first ss r) (steps_read ss r h k (omega arith))
+  path_read (from_here ss) r h zero l = absurd (not-suc-le-zero l)
+  path_read (from_here ss) r h (suc k) l = path_here ss r (steps_text ss ++ r) k (steps_first ss r) (steps_read ss r h k (omega arith))
 
   steps_read : (ss : Steps) (r : List ℕ) → Stops r → (k : ℕ) → 4 * length (steps_text ss ++ r) + 2 < k → steps_at k (steps_text ss ++ r) ≡ got ss r
   steps_read (one s) r h zero l = absurd (not-suc-le-zero l)

@@ -10,7 +10,7 @@ use lib.Dec.{eqb}
 use Rattle.meaning.specs.Tree.{is_capital}
 use Rattle.meaning.specs.Finite.{Yes, pick, ◌and◌, ◌or◌, neg}
 use Rattle.meaning.specs.Ascii.{ascii}
-use Rattle.meaning.specs.Paths.{Axis, to-self, to_child, to_parent, to-descendant, to-ancestor, to-descendant-or-self, to-ancestor-or-self, to-following-sibling, to-preceding-sibling, is_small, is_letter, Test, letter, any, Path, alone, from-root, from-here, Steps, one, more, Step, move, having, axis_text, test_byte, path_text, steps_text, step_text}
+use Rattle.meaning.specs.Paths.{Axis, to_self, to_child, to_parent, to_descendant, to_ancestor, to_descendant_or_self, to_ancestor_or_self, to_following_sibling, to_preceding_sibling, is_small, is_letter, Test, letter, any, Path, alone, from_root, from_here, Steps, one, more, Step, move, having, axis_text, test_byte, path_text, steps_text, step_text}
 use Rattle.theory.specs.PathReader.{path_at, brackets_at, goes_on}
 use Rattle.theory.specs.Reader.{Got, nothing, got, and_then, byte}
 use Rattle.theory.proofs.PathReader.{move_text, having_text, more_text}
@@ -54,15 +54,15 @@ goes_on_plain (b ∷ w) h d r =
 
 axis_plain : (a : Axis) → Yes (no_bracket (axis_text a))
 unfolding axis_text ascii neg ◌and◌
-axis_plain to-self = refl
+axis_plain to_self = refl
 axis_plain to_child = refl
 axis_plain to_parent = refl
-axis_plain to-descendant = refl
-axis_plain to-ancestor = refl
-axis_plain to-descendant-or-self = refl
-axis_plain to-ancestor-or-self = refl
-axis_plain to-following-sibling = refl
-axis_plain to-preceding-sibling = refl
+axis_plain to_descendant = refl
+axis_plain to_ancestor = refl
+axis_plain to_descendant_or_self = refl
+axis_plain to_ancestor_or_self = refl
+axis_plain to_following_sibling = refl
+axis_plain to_preceding_sibling = refl
 
 letter_as : (b c : ℕ) → Yes (is_letter b) → Yes (eqb b c) → Yes (is_letter c)
 letter_as b c l y = subst (λ (k : ℕ). Yes (is_letter k)) (is_eq y) l
@@ -82,8 +82,8 @@ mutual
 
   pub goes_on_path : (p : Path) (d : ℕ) (r : List ℕ) → goes_on (suc d) (path_text p ++ r) ≡ goes_on (suc d) r
   goes_on_path alone d r = goes_on_plain (47 ∷ []) slash_plain d r
-  goes_on_path (from-root ss) d r = goes_on_plain (47 ∷ []) slash_plain d (steps_text ss ++ r) ∙ goes_on_steps ss d r
-  goes_on_path (from-here ss) d r = goes_on_steps ss d r
+  goes_on_path (from_root ss) d r = goes_on_plain (47 ∷ []) slash_plain d (steps_text ss ++ r) ∙ goes_on_steps ss d r
+  goes_on_path (from_here ss) d r = goes_on_steps ss d r
 
   goes_on_steps : (ss : Steps) (d : ℕ) (r : List ℕ) → goes_on (suc d) (steps_text ss ++ r) ≡ goes_on (suc d) r
   goes_on_steps (one s) d r = goes_on_step s d r

@@ -2,7 +2,7 @@
 -- and not by a path; proofs/PathReader shows that enough fuel reads every text of the form, proofs/PathForm that nothing else is read.
 use Rattle.std.specs.Prelude.{◌≡◌, refl, Bool, true, false, List, [], ◌∷◌, ℕ, zero, suc, ◌+◌, ◌*◌, length, drop, eqb, leb}
 use Rattle.meaning.specs.Finite.{pick}
-use Rattle.meaning.specs.Paths.{Axis, to-self, to_child, to_parent, to-descendant, to-ancestor, to-descendant-or-self, to-ancestor-or-self, to-following-sibling, to-preceding-sibling, is_small, is_letter, Test, letter, any, Path, alone, from-root, from-here, Steps, one, more, Step, move, having, axis_text}
+use Rattle.meaning.specs.Paths.{Axis, to_self, to_child, to_parent, to_descendant, to_ancestor, to_descendant_or_self, to_ancestor_or_self, to_following_sibling, to_preceding_sibling, is_small, is_letter, Test, letter, any, Path, alone, from_root, from_here, Steps, one, more, Step, move, having, axis_text}
 use Rattle.meaning.specs.PathRecords.{records_of, variables_of, file_bytes}
 use Rattle.meaning.specs.Results.{Fill, fill_refused, fill_written}
 use Rattle.theory.specs.Reader.{Got, nothing, got, and_then, byte, front}
@@ -13,15 +13,15 @@ after_name a bs r = pick (front bs (axis_text a)) (got a (drop (length (axis_tex
 -- the longer name first
 unfoldable pub axis_at : List ℕ → Got Axis
 axis_at bs =
-    after_name to-descendant-or-self bs
-    (after_name to-following-sibling bs
-    (after_name to-preceding-sibling bs
-    (after_name to-ancestor-or-self bs
-    (after_name to-descendant bs
-    (after_name to-ancestor bs
+    after_name to_descendant_or_self bs
+    (after_name to_following_sibling bs
+    (after_name to_preceding_sibling bs
+    (after_name to_ancestor_or_self bs
+    (after_name to_descendant bs
+    (after_name to_ancestor bs
     (after_name to_parent bs
     (after_name to_child bs
-    (after_name to-self bs nothing))))))))
+    (after_name to_self bs nothing))))))))
 
 unfoldable pub test_by : (b : ℕ) (v : Bool) → is_letter b ≡ v → List ℕ → Got Test
 test_by b true e bs = got (letter b e) bs
@@ -40,8 +40,8 @@ unfoldable mutual
   path_at zero bs = nothing
   path_at (suc k) bs =
       pick (eqb (byte bs) 47)
-      (pick (is_small (byte (drop 1 bs))) (and_then (steps_at k (drop 1 bs)) λ ss r. got (from-root ss) r) (got alone (drop 1 bs)))
-      (and_then (steps_at k bs) λ ss r. got (from-here ss) r)
+      (pick (is_small (byte (drop 1 bs))) (and_then (steps_at k (drop 1 bs)) λ ss r. got (from_root ss) r) (got alone (drop 1 bs)))
+      (and_then (steps_at k bs) λ ss r. got (from_here ss) r)
 
   pub steps_at : ℕ → List ℕ → Got Steps
   steps_at zero bs = nothing

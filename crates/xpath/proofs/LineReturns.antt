@@ -10,7 +10,7 @@ use lib.ListN.{length, get_or, drop, length-drop}
 use lib.Dec.{eqb}
 use Rattle.meaning.specs.Finite.{Yes, pick}
 use Rattle.meaning.specs.Constraint.{is_same}
-use Rattle.meaning.specs.Paths.{is_small, Path, from-root, from-here}
+use Rattle.meaning.specs.Paths.{is_small, Path, from_root, from_here}
 use Rattle.meaning.specs.PathRecords.{Sheet, next_taken, with_records, rooted, line_sheet, lines_sheet, record_bytes}
 use Rattle.meaning.proofs.Tests.{pick_yes, pick_no, eq_yes, is_eq}
 use Rattle.theory.specs.PathReader.{path_at, steps_at, fuel, lines_at}
@@ -29,7 +29,7 @@ module _ (s : List ℕ) (at : ℕ) (b : List ℕ) where
   line_here x n r c i j w h v zero o l = absurd (not-suc-le-zero l)
   line_here x n r c i j w h v (suc k) o l =
       read_along s (λ p. line_sheet p v) r c (pick_no _ _ (byte_no s at 47 w))
-      (read_map s (λ p. line_sheet p v) from-here (steps_at k (drop at s)) r c
+      (read_map s (λ p. line_sheet p v) from_here (steps_at k (drop at s)) r c
       (h (next_taken v) v.next k (subst (Follows (next_taken v)) (sym j) (numbered_follows v b o)) (λ z. i ∙ (o.few (omega arith)).0) (omega arith)))
 
   module _ (x : ℕ) (u : List ℕ) (d : x ≡ root_in (rooted_in b)) (e : u ≡ rooted_in b) (i : get_or s at 0 ≡ 47) where
@@ -59,8 +59,8 @@ module _ (s : List ℕ) (at : ℕ) (b : List ℕ) where
         read_along s (λ p. line_sheet p v) r c
         (pick_yes _ _ (byte_yes s at 47 i)
         ∙ pick_yes _ _ (small_after s at ∙ n)
-        ∙ ap (λ (z : List ℕ). and_then (steps_at k z) λ ss q. got (from-root ss) q) (one_on s at))
-        (read_map s (λ p. line_sheet p v) from-root (steps_at k (drop (at + 1) s)) r c (h (rooted v) (rooted v).root_at k (root_follows v o) (root_is v o) (omega arith)))
+        ∙ ap (λ (z : List ℕ). and_then (steps_at k z) λ ss q. got (from_root ss) q) (one_on s at))
+        (read_map s (λ p. line_sheet p v) from_root (steps_at k (drop (at + 1) s)) r c (h (rooted v) (rooted v).root_at k (root_follows v o) (root_is v o) (omega arith)))
 
 -- ---- lines
 

@@ -4,7 +4,7 @@ use Prim.Native.Nat.{ℕ}
 use native.Mathlib.Nat.{le_refl}
 use borrow.Author.Rules.{rules}
 use lib.Bits.{bit_and, bit_or}
-use Rattle.meaning.specs.FixedSearch.{document-join}
+use Rattle.meaning.specs.FixedSearch.{document_join}
 use Rattle.tables.specs.Tables.{row}
 use Rattle.tables.specs.Rows.{Lowest, without}
 use Rattle.tables.specs.declared.Facts.{Facts}
@@ -70,7 +70,7 @@ returns-else-w-lt16 c =
     let a = p.before.before in
     let s = a.before in
     λ f.
-    none_first document-join _ (tables s f) _ (le_refl _)
+    none_first document_join _ (tables s f) _ (le_refl _)
     (none_left _ s.requires (tables s f) _ a.all-vars.ensures _ (root p.before) p.if-r-lt16.true _ (element y) t.if-y-lt16.true _ (left w) c.if-w-lt16.false)
 
 pub returns-else-y-lt16 : goal.returns-else-y-lt16
@@ -80,11 +80,11 @@ returns-else-y-lt16 c =
     let a = p.before.before in
     let s = a.before in
     λ f.
-    none_first document-join _ (tables s f) _ (le_refl _)
+    none_first document_join _ (tables s f) _ (le_refl _)
     (none_without_child _ s.requires (tables s f) _ a.all-vars.ensures _ (root p.before) p.if-r-lt16.true _ (element y) c.if-y-lt16.false)
 
 pub returns-else-r-lt16 : goal.returns-else-r-lt16
 returns-else-r-lt16 c =
     let a = c.before.before in
     let s = a.before in
-    λ f. none_first document-join _ (tables s f) _ (le_refl _) (none_without_root _ s.requires (tables s f) _ a.all-vars.ensures _ (root c.before) c.if-r-lt16.false)
+    λ f. none_first document_join _ (tables s f) _ (le_refl _) (none_without_root _ s.requires (tables s f) _ a.all-vars.ensures _ (root c.before) c.if-r-lt16.false)

@@ -3,7 +3,7 @@ use mathlib.Core.Logic.{⊎_elim}
 use Prim.Native.Nat.{ℕ, ◌≤◌, ◌-◌}
 use native.Mathlib.Nat.{not-suc-le-zero}
 use borrow.Author.Rules.{rules}
-use Rattle.meaning.specs.FixedSearch.{sibling-join}
+use Rattle.meaning.specs.FixedSearch.{sibling_join}
 use Rattle.tables.specs.Rows.{Lowest}
 use Rattle.tables.specs.declared.Facts.{Facts}
 use Rattle.stages.specs.Found.{join_of, with_below}
@@ -42,7 +42,7 @@ loop-y-preserved c =
       search rules,
       λ f.
           let g = with_before s.args.before s.args.after (with_below s.args.below s.args.above f) in
-          none_more sibling-join _ g _ (i.loop-y.invariant.1 f)
+          none_more sibling_join _ g _ (i.loop-y.invariant.1 f)
           (⊎_elim
           (λ w. none_missing _ s.requires g _ m.all-vars.ensures _ i.loop-y-test.true _ w.1.ensures _ w.2.ensures _ w.3.ensures w.4.left)
           (λ w. none_alone _ s.requires g _ m.all-vars.ensures _ i.loop-y-test.true w.left)
@@ -52,4 +52,4 @@ loop-y-preserved c =
 pub returns : goal.returns
 returns c = λ f.
     let s = c.before.before.before.before.before in
-    none_first sibling-join _ (with_before s.args.before s.args.after (with_below s.args.below s.args.above f)) _ c.loop-y-test.false (c.loop-y.invariant.1 f)
+    none_first sibling_join _ (with_before s.args.before s.args.after (with_below s.args.below s.args.above f)) _ c.loop-y-test.false (c.loop-y.invariant.1 f)

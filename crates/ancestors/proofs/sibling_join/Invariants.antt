@@ -4,7 +4,7 @@ use mathlib.Core.Logic.{⊎_elim}
 use Prim.Native.Nat.{ℕ, ◌≤◌, ◌-◌}
 use native.Mathlib.Nat.{not-suc-le-zero}
 use borrow.Author.Rules.{rules}
-use Rattle.meaning.specs.FixedSearch.{sibling-join}
+use Rattle.meaning.specs.FixedSearch.{sibling_join}
 use Rattle.tables.specs.Rows.{Lowest}
 use Rattle.tables.specs.declared.Facts.{Facts}
 use Rattle.stages.specs.Found.{join_of, with_below}
@@ -14,7 +14,7 @@ use Rattle.ancestors.proofs.Siblings.{none_alone, none_missing, sibling_first, n
 use Rattle.ancestors.proofs.sibling_join.Given as goal
 
 abbrev pub invariant-loop-y : goal.invariant-loop-y
-invariant-loop-y l = (l.y ≤ l.n) × ((f : Facts) → NoneBefore sibling-join l.n (with_before l.before l.after (with_below l.below l.above f)) l.y)
+invariant-loop-y l = (l.y ≤ l.n) × ((f : Facts) → NoneBefore sibling_join l.n (with_before l.before l.after (with_below l.below l.above f)) l.y)
 
 abbrev pub decreases-loop-y : goal.decreases-loop-y
 decreases-loop-y l = l.n - l.y

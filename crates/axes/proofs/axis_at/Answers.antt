@@ -1,7 +1,7 @@
 use mathlib.Core.Path.{sym, refl, ◌∙◌}
 use native.Mathlib.Omega.{arith}
 use Rattle.meaning.specs.Ascii.{ascii}
-use Rattle.meaning.specs.Paths.{to-self, to_child, to_parent, to-descendant, to-ancestor, to-descendant-or-self, to-ancestor-or-self, to-following-sibling, to-preceding-sibling, axis_text}
+use Rattle.meaning.specs.Paths.{to_self, to_child, to_parent, to_descendant, to_ancestor, to_descendant_or_self, to_ancestor_or_self, to_following_sibling, to_preceding_sibling, axis_text}
 use Rattle.theory.specs.PathReader.{axis_at}
 use Rattle.axes.proofs.Moves.{name_hit, name_miss, d_second, d_none, a_first, a_second, a_none, p_first, p_second, p_none, f_first, f_none, past_four}
 use borrow.Author.Rules.{rules}
@@ -13,7 +13,7 @@ returns-then-starts c =
     let o = c.before.before.before.before in
     let a = o.args in
     let s = a.s.now in
-    unfold axis_at in (name_hit s a.at to-descendant-or-self _ (sym c.starts.ensures.0 ∙ c.if-starts.true) (c.starts.ensures.1 c.if-starts.true))
+    unfold axis_at in (name_hit s a.at to_descendant_or_self _ (sym c.starts.ensures.0 ∙ c.if-starts.true) (c.starts.ensures.1 c.if-starts.true))
 
 pub returns-then-starts-2 : goal.returns-then-starts-2
 unfolding axis_text ascii
@@ -24,7 +24,7 @@ returns-then-starts-2 c =
     let a = o.args in
     let s = a.s.now in
     d_second s a.at _ (sym o.byte_at-first.ensures ∙ d.if-first-eq100.true) (sym e.starts.ensures.0 ∙ e.if-starts.false)
-    (name_hit s a.at to-descendant _ (sym c.starts-then-first-eq100.ensures.0 ∙ c.if-starts-2.true) (c.starts-then-first-eq100.ensures.1 c.if-starts-2.true))
+    (name_hit s a.at to_descendant _ (sym c.starts-then-first-eq100.ensures.0 ∙ c.if-starts-2.true) (c.starts-then-first-eq100.ensures.1 c.if-starts-2.true))
 
 pub returns-then-first-eq100 : goal.returns-then-first-eq100
 unfolding axis_text ascii
@@ -47,7 +47,7 @@ returns-then-starts-3 c =
     let a = o.args in
     let s = a.s.now in
     a_first s a.at _ (sym o.byte_at-first.ensures ∙ d.if-first-eq97.true)
-    (name_hit s a.at to-ancestor-or-self _ (sym c.starts-then-first-eq97.ensures.0 ∙ c.if-starts-3.true) (c.starts-then-first-eq97.ensures.1 c.if-starts-3.true))
+    (name_hit s a.at to_ancestor_or_self _ (sym c.starts-then-first-eq97.ensures.0 ∙ c.if-starts-3.true) (c.starts-then-first-eq97.ensures.1 c.if-starts-3.true))
 
 pub returns-then-starts-4 : goal.returns-then-starts-4
 unfolding axis_text ascii
@@ -58,7 +58,7 @@ returns-then-starts-4 c =
     let a = o.args in
     let s = a.s.now in
     a_second s a.at _ (sym o.byte_at-first.ensures ∙ d.if-first-eq97.true) (sym e.starts-then-first-eq97.ensures.0 ∙ e.if-starts-3.false)
-    (name_hit s a.at to-ancestor _ (sym c.starts-then-first-eq97-2.ensures.0 ∙ c.if-starts-4.true) (c.starts-then-first-eq97-2.ensures.1 c.if-starts-4.true))
+    (name_hit s a.at to_ancestor _ (sym c.starts-then-first-eq97-2.ensures.0 ∙ c.if-starts-4.true) (c.starts-then-first-eq97-2.ensures.1 c.if-starts-4.true))
 
 pub returns-then-first-eq97 : goal.returns-then-first-eq97
 unfolding axis_text ascii
@@ -78,7 +78,7 @@ returns-then-starts-5 c =
     let a = o.args in
     let s = a.s.now in
     p_first s a.at _ (sym o.byte_at-first.ensures ∙ d.if-first-eq112.true)
-    (name_hit s a.at to-preceding-sibling _ (sym c.starts-then-first-eq112.ensures.0 ∙ c.if-starts-5.true) (c.starts-then-first-eq112.ensures.1 c.if-starts-5.true))
+    (name_hit s a.at to_preceding_sibling _ (sym c.starts-then-first-eq112.ensures.0 ∙ c.if-starts-5.true) (c.starts-then-first-eq112.ensures.1 c.if-starts-5.true))
 
 pub returns-then-starts-6 : goal.returns-then-starts-6
 unfolding axis_text ascii
@@ -109,7 +109,7 @@ returns-then-starts-7 c =
     let a = o.args in
     let s = a.s.now in
     f_first s a.at _ (sym o.byte_at-first.ensures ∙ d.if-first-eq102.true)
-    (name_hit s a.at to-following-sibling _ (sym c.starts-then-first-eq102.ensures.0 ∙ c.if-starts-7.true) (c.starts-then-first-eq102.ensures.1 c.if-starts-7.true))
+    (name_hit s a.at to_following_sibling _ (sym c.starts-then-first-eq102.ensures.0 ∙ c.if-starts-7.true) (c.starts-then-first-eq102.ensures.1 c.if-starts-7.true))
 
 pub returns-then-first-eq102 : goal.returns-then-first-eq102
 unfolding axis_text ascii
@@ -145,7 +145,7 @@ returns-then-starts-9 c =
     past_four s a.at _ (λ q. d.if-first-eq100.false (o.byte_at-first.ensures ∙ q)) (λ q. d.if-first-eq97.false (o.byte_at-first.ensures ∙ q))
     (λ q. d.if-first-eq112.false (o.byte_at-first.ensures ∙ q)) (λ q. d.if-first-eq102.false (o.byte_at-first.ensures ∙ q))
     (name_miss s a.at to_child _ _ (sym h.starts-2.ensures.0 ∙ h.if-starts-8.false)
-    (name_hit s a.at to-self _ (sym c.starts-3.ensures.0 ∙ c.if-starts-9.true) (c.starts-3.ensures.1 c.if-starts-9.true)))
+    (name_hit s a.at to_self _ (sym c.starts-3.ensures.0 ∙ c.if-starts-9.true) (c.starts-3.ensures.1 c.if-starts-9.true)))
 
 pub returns : goal.returns
 unfolding axis_text ascii
@@ -158,4 +158,4 @@ returns c =
     past_four s a.at _ (λ q. d.if-first-eq100.false (o.byte_at-first.ensures ∙ q)) (λ q. d.if-first-eq97.false (o.byte_at-first.ensures ∙ q))
     (λ q. d.if-first-eq112.false (o.byte_at-first.ensures ∙ q)) (λ q. d.if-first-eq102.false (o.byte_at-first.ensures ∙ q))
     (name_miss s a.at to_child _ _ (sym h.starts-2.ensures.0 ∙ h.if-starts-8.false)
-    (name_miss s a.at to-self _ _ (sym c.starts-3.ensures.0 ∙ c.if-starts-9.false) refl))
+    (name_miss s a.at to_self _ _ (sym c.starts-3.ensures.0 ∙ c.if-starts-9.false) refl))

@@ -6,7 +6,7 @@ use lib.ListN.{get_or}
 use mir.Val.{Fits}
 use mir.Syntax.{w16}
 use borrow.Author.Rules.{rules}
-use Rattle.meaning.specs.FixedSearch.{chain-join}
+use Rattle.meaning.specs.FixedSearch.{chain_join}
 use Rattle.tables.specs.declared.Facts.{Facts}
 use Rattle.stages.specs.Found.{join_of, with_below}
 use Rattle.stages.proofs.Stage.{NoneBefore, none_more, none_first}
@@ -39,7 +39,7 @@ loop-z-preserved c =
       search rules,
       λ f.
           let t = with_below s.args.below s.args.above f in
-          none_more chain-join _ t _ (i.loop-z.invariant.1 f)
+          none_more chain_join _ t _ (i.loop-z.invariant.1 f)
           (⊎_elim
           (λ w. none_apart _ s.requires t _ s.all-vars.ensures r.incomparable_rows-apart.result r.incomparable_rows-apart.ensures _ i.loop-z-test.true _ w.1.ensures _ w.2.ensures w.3.left)
           (λ w. none_loose _ s.requires t _ s.all-vars.ensures r.incomparable_rows-apart.result r.incomparable_rows-apart.ensures _ g.meeting-loose.ensures _ i.loop-z-test.true (sym x.except.ensures ∙ w.left))
@@ -49,4 +49,4 @@ loop-z-preserved c =
 pub returns : goal.returns
 returns c = λ f.
     let s = c.before.before.before.before.before in
-    none_first chain-join _ (with_below s.args.below s.args.above f) _ c.loop-z-test.false (c.loop-z.invariant.1 f)
+    none_first chain_join _ (with_below s.args.below s.args.above f) _ c.loop-z-test.false (c.loop-z.invariant.1 f)

@@ -3,7 +3,7 @@ use mathlib.Core.Logic.{⊎_elim}
 use Prim.Native.Nat.{ℕ, ◌≤◌, ◌-◌}
 use native.Mathlib.Nat.{not-suc-le-zero}
 use borrow.Author.Rules.{rules}
-use Rattle.meaning.specs.FixedSearch.{parent-join}
+use Rattle.meaning.specs.FixedSearch.{parent_join}
 use Rattle.tables.specs.Rows.{Lowest}
 use Rattle.tables.specs.declared.Facts.{Facts}
 use Rattle.stages.specs.Found.{join_of, with_below}
@@ -35,7 +35,7 @@ loop-z-preserved c =
       search rules,
       λ f.
           let g = with_parent s.args.parent (with_below s.args.below s.args.above f) in
-          none_more parent-join _ g _ (i.loop-z.invariant.1 f)
+          none_more parent_join _ g _ (i.loop-z.invariant.1 f)
           (⊎_elim
           (λ w. none_without_x _ s.requires g _ i.all-vars.ensures _ i.loop-z-test.true _ l.lowest-y.ensures w.0.taken _
           (subst (λ (k : ℕ). Lowest k w.2.result) w.1.ensures w.2.ensures) w.3.left)
@@ -46,4 +46,4 @@ loop-z-preserved c =
 pub returns : goal.returns
 returns c = λ f.
     let s = c.before.before.before in
-    none_first parent-join _ (with_parent s.args.parent (with_below s.args.below s.args.above f)) _ c.loop-z-test.false (c.loop-z.invariant.1 f)
+    none_first parent_join _ (with_parent s.args.parent (with_below s.args.below s.args.above f)) _ c.loop-z-test.false (c.loop-z.invariant.1 f)

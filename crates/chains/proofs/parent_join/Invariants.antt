@@ -4,7 +4,7 @@ use mathlib.Core.Logic.{⊎_elim}
 use Prim.Native.Nat.{ℕ, ◌≤◌, ◌-◌}
 use native.Mathlib.Nat.{not-suc-le-zero}
 use borrow.Author.Rules.{rules}
-use Rattle.meaning.specs.FixedSearch.{parent-join}
+use Rattle.meaning.specs.FixedSearch.{parent_join}
 use Rattle.tables.specs.Rows.{Lowest}
 use Rattle.tables.specs.declared.Facts.{Facts}
 use Rattle.stages.specs.Found.{join_of, with_below}
@@ -14,7 +14,7 @@ use Rattle.chains.proofs.First.{none_without_parent, none_without_x, parent_firs
 use Rattle.chains.proofs.parent_join.Given as goal
 
 abbrev pub invariant-loop-z : goal.invariant-loop-z
-invariant-loop-z l = (l.z ≤ l.n) × ((f : Facts) → NoneBefore parent-join l.n (with_parent l.parent (with_below l.below l.above f)) l.z)
+invariant-loop-z l = (l.z ≤ l.n) × ((f : Facts) → NoneBefore parent_join l.n (with_parent l.parent (with_below l.below l.above f)) l.z)
 
 abbrev pub decreases-loop-z : goal.decreases-loop-z
 decreases-loop-z l = l.n - l.z

@@ -26,28 +26,28 @@ After-sibling_join-third = Lts.After-sibling_join Tie.the-claims Reads.Pre Reads
 
 -- ---- what is found of the kinds that were asked, at the start s
 
-abbrev parents-from : After-parent_join-first → Start
-parents-from a = a.before.before.before.before
+abbrev parents_from : After-parent_join-first → Start
+parents_from a = a.before.before.before.before
 
-abbrev chains-from : After-chain_join-second → Start
-chains-from b = parents-from b.before.before.before
+abbrev chains_from : After-chain_join-second → Start
+chains_from b = parents_from b.before.before.before
 
-abbrev siblings-from : After-sibling_join-third → Start
-siblings-from d = chains-from d.before.before.before.before.before
+abbrev siblings_from : After-sibling_join-third → Start
+siblings_from d = chains_from d.before.before.before.before.before
 
-parents : (a : After-parent_join-first) → let s = parents-from a in
+parents : (a : After-parent_join-first) → let s = parents_from a in
     (S : List Fact) → Ready s.args.n S s.args.f → FirstIn s.args.n (has s.args.f) 1 a.parent_join-first.result
-parents a S w = next_kind _ _ 0 _ _ (no_kind _ _) refl (a.parent_join-first.ensures (parents-from a).args.f S w)
+parents a S w = next_kind _ _ 0 _ _ (no_kind _ _) refl (a.parent_join-first.ensures (parents_from a).args.f S w)
 
-chains : (b : After-chain_join-second) → let s = chains-from b in
+chains : (b : After-chain_join-second) → let s = chains_from b in
     (S : List Fact) → Ready s.args.n S s.args.f → FirstIn s.args.n (has s.args.f) 2 b.chain_join-second.result
-chains b S w = next_kind _ _ 1 _ _ (parents b.before.before.before S w) b.enum_told-1.given.1 (b.chain_join-second.ensures (chains-from b).args.f S w)
+chains b S w = next_kind _ _ 1 _ _ (parents b.before.before.before S w) b.enum_told-1.given.1 (b.chain_join-second.ensures (chains_from b).args.f S w)
 
-siblings : (d : After-sibling_join-third) → let s = siblings-from d in
+siblings : (d : After-sibling_join-third) → let s = siblings_from d in
     (S : List Fact) → Ready s.args.n S s.args.f → FirstIn s.args.n (has s.args.f) 3 d.sibling_join-third.result
 siblings d S w =
     let e = d.before.before.before in
-    next_kind _ _ 2 _ _ (chains e.before.before S w) e.enum_told-in-Nothing-second-1.given.1 (d.sibling_join-third.ensures (siblings-from d).args.f S w)
+    next_kind _ _ 2 _ _ (chains e.before.before S w) e.enum_told-in-Nothing-second-1.given.1 (d.sibling_join-third.ensures (siblings_from d).args.f S w)
 
 pub returns-in_default : goal.returns-in_default
 unfolding first_join
@@ -70,4 +70,4 @@ unfolding first_join
 returns c =
     let e = c.before.before in
     let d = e.before.before in
-    λ S w. next_kind _ _ 3 _ _ (siblings d S w) e.enum_told-in-Nothing-third-1.given.1 (c.document_join.ensures (siblings-from d).args.f S w)
+    λ S w. next_kind _ _ 3 _ _ (siblings d S w) e.enum_told-in-Nothing-third-1.given.1 (c.document_join.ensures (siblings_from d).args.f S w)

@@ -92,14 +92,14 @@ module _ (c : After-element_of-element) where
 
 -- the places before the one where the number of nodes is known
 module _ (c : After-node_at-size) where
-  abbrev nodes-put : After-put_nodes
-  nodes-put = c.before.before.before
+  abbrev nodes_put : After-put_nodes
+  nodes_put = c.before.before.before
 
-  abbrev front-put : After-put_front
-  front-put = nodes-put.before.before.before.before
+  abbrev front_put : After-put_front
+  front_put = nodes_put.before.before.before.before
 
   abbrev known : After-element_of-element
-  known = front-put.before.before
+  known = front_put.before.before
 
   all_few : c.node_at-size.result.0 + (s known).args.n ≤ 34
   all_few = omega (arith, c.node_at-size.ensures, (few known).0)
@@ -141,7 +141,7 @@ pub put_places-requires : goal.put_places-requires
 put_places-requires c =
     let a = c.before.before.before in
     let b = known a in
-    ((s b).requires.0, omega (arith, all_few a, (s b).requires.1, (front-put a).put_front.auto.0, (nodes-put a).put_nodes.auto.0))
+    ((s b).requires.0, omega (arith, all_few a, (s b).requires.1, (front_put a).put_front.auto.0, (nodes_put a).put_nodes.auto.0))
 
 pub overflow_add-result : goal.overflow_add-result
 overflow_add-result c = omega (arith, all_few c.before.before.before.before.before.before.before)
@@ -157,5 +157,5 @@ returns c =
     let b = known a in
     λ S t r.
     file_written (ordered b.before S t r) b.element_of-element.result b.element_of-element.ensures
-    a.node_at-size.result.0 (s b).args.answer.now (front-put a).put_front.new.answer (nodes-put a).put_nodes.new.answer p.put_places.new.answer _ a.node_at-size.ensures (s b).requires.1 (label_bytes (s b))
-    (front-put a).put_front.ensures (nodes-put a).put_nodes.ensures p.put_places.ensures g.assign-nodes.ensures
+    a.node_at-size.result.0 (s b).args.answer.now (front_put a).put_front.new.answer (nodes_put a).put_nodes.new.answer p.put_places.new.answer _ a.node_at-size.ensures (s b).requires.1 (label_bytes (s b))
+    (front_put a).put_front.ensures (nodes_put a).put_nodes.ensures p.put_places.ensures g.assign-nodes.ensures
