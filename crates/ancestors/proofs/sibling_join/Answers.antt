@@ -11,6 +11,7 @@ use Rattle.ancestors.specs.Rows.{with_before}
 use Rattle.stages.proofs.Stage.{NoneBefore, none_more, none_first}
 use Rattle.ancestors.proofs.Siblings.{none_alone, none_missing, sibling_first, none_ordered}
 use Rattle.ancestors.proofs.sibling_join.Goals as goal
+use Rattle.ancestors.proofs.sibling_join.Goals.{then-s-ne0+else-a-lt16, else-s-ne0}
 
 pub returns-then-blank : goal.returns-then-blank
 returns-then-blank c = λ f.
@@ -43,10 +44,12 @@ loop-y-preserved c =
       λ f.
           let g = with_before s.args.before s.args.after (with_below s.args.below s.args.above f) in
           none_more sibling_join _ g _ (i.loop-y.invariant.1 f)
-          (⊎_elim
-          (λ w. none_missing _ s.requires g _ m.all-vars.ensures _ i.loop-y-test.true _ w.1.ensures _ w.2.ensures _ w.3.ensures w.4.left)
-          (λ w. none_alone _ s.requires g _ m.all-vars.ensures _ i.loop-y-test.true w.left)
-          c.if-s-ne0.branch),
+          (elim c.if-s-ne0.branch [
+              then-s-ne0+else-a-lt16 w ↦
+                none_missing _ s.requires g _ m.all-vars.ensures _ i.loop-y-test.true _ w.except.ensures _ w.missing.ensures _ w.lowest-a.ensures
+                w.if-a-lt16.false
+            | else-s-ne0 w ↦ none_alone _ s.requires g _ m.all-vars.ensures _ i.loop-y-test.true w.if-s-ne0.false
+          ]),
     )
 
 pub returns : goal.returns

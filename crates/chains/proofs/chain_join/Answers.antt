@@ -12,6 +12,7 @@ use Rattle.stages.specs.Found.{join_of, with_below}
 use Rattle.stages.proofs.Stage.{NoneBefore, none_more, none_first}
 use Rattle.chains.proofs.First.{none_loose, none_apart, chain_first}
 use Rattle.chains.proofs.chain_join.Goals as goal
+use Rattle.chains.proofs.chain_join.Goals.{then-except-ne0+else-x-lt16, else-except-ne0}
 
 pub loop-z-init : goal.loop-z-init
 loop-z-init c = (search rules, λ f S r k x y l. absurd (not-suc-le-zero l))
@@ -40,10 +41,14 @@ loop-z-preserved c =
       λ f.
           let t = with_below s.args.below s.args.above f in
           none_more chain_join _ t _ (i.loop-z.invariant.1 f)
-          (⊎_elim
-          (λ w. none_apart _ s.requires t _ s.all-vars.ensures r.incomparable_rows-apart.result r.incomparable_rows-apart.ensures _ i.loop-z-test.true _ w.1.ensures _ w.2.ensures w.3.left)
-          (λ w. none_loose _ s.requires t _ s.all-vars.ensures r.incomparable_rows-apart.result r.incomparable_rows-apart.ensures _ g.meeting-loose.ensures _ i.loop-z-test.true (sym x.except.ensures ∙ w.left))
-          c.if-except-ne0.branch),
+          (elim c.if-except-ne0.branch [
+              then-except-ne0+else-x-lt16 w ↦
+                none_apart _ s.requires t _ s.all-vars.ensures r.incomparable_rows-apart.result r.incomparable_rows-apart.ensures _ i.loop-z-test.true _
+                w.meeting.ensures _ w.lowest-x.ensures w.if-x-lt16.false
+            | else-except-ne0 w ↦
+                none_loose _ s.requires t _ s.all-vars.ensures r.incomparable_rows-apart.result r.incomparable_rows-apart.ensures _ g.meeting-loose.ensures _
+                i.loop-z-test.true (sym x.except.ensures ∙ w.if-except-ne0.false)
+          ]),
     )
 
 pub returns : goal.returns

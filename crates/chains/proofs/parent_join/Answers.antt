@@ -11,6 +11,7 @@ use Rattle.chains.specs.Rows.{with_parent}
 use Rattle.stages.proofs.Stage.{NoneBefore, none_more, none_first}
 use Rattle.chains.proofs.First.{none_without_parent, none_without_x, parent_first}
 use Rattle.chains.proofs.parent_join.Goals as goal
+use Rattle.chains.proofs.parent_join.Goals.{then-y-lt16+else-x-lt16, else-y-lt16}
 
 pub loop-z-init : goal.loop-z-init
 loop-z-init c = (search rules, λ f S r k x y l. absurd (not-suc-le-zero l))
@@ -36,11 +37,12 @@ loop-z-preserved c =
       λ f.
           let g = with_parent s.args.parent (with_below s.args.below s.args.above f) in
           none_more parent_join _ g _ (i.loop-z.invariant.1 f)
-          (⊎_elim
-          (λ w. none_without_x _ s.requires g _ i.all-vars.ensures _ i.loop-z-test.true _ l.lowest-y.ensures w.0.taken _
-          (subst (λ (k : ℕ). Lowest k w.2.result) w.1.ensures w.2.ensures) w.3.left)
-          (λ w. none_without_parent _ s.requires g _ i.all-vars.ensures _ i.loop-z-test.true _ l.lowest-y.ensures w.left)
-          c.if-y-lt16.branch),
+          (elim c.if-y-lt16.branch [
+              then-y-lt16+else-x-lt16 w ↦
+                none_without_x _ s.requires g _ i.all-vars.ensures _ i.loop-z-test.true _ l.lowest-y.ensures w.if-y-lt16.true _
+                (subst (λ (k : ℕ). Lowest k w.lowest-x.result) w.except.ensures w.lowest-x.ensures) w.if-x-lt16.false
+            | else-y-lt16 w ↦ none_without_parent _ s.requires g _ i.all-vars.ensures _ i.loop-z-test.true _ l.lowest-y.ensures w.if-y-lt16.false
+          ]),
     )
 
 pub returns : goal.returns

@@ -22,4 +22,4 @@ loop-x-preserved c =
 pub returns : goal.returns
 unfolding Layered
 returns c = let e : c.loop-x.x ≡ c.args.n = search rules in let s = c.args in
-    subst (λ (k : ℕ). Layered s.t1 s.t2 s.n s.lows k c.loop-x.layer) e c.loop-x.invariant.2
+    subst (λ (k : ℕ). Layered s.below s.above s.n s.lows k c.loop-x.layer) e c.loop-x.invariant.2

@@ -9,27 +9,23 @@ use Rattle.ordering.proofs.Listing.{length_mapped, inside_at, scan_here, scan_ne
 use borrow.Author.Rules.{rules}
 use Rattle.ordering.proofs.nearest.Goals as goal
 
--- the group that is looked at is a variable
-variable_in : (c : goal.In-loop-i) → (get_or c.args.order.group c.loop-i.i record { 0 = 0 }).0 < 16
-variable_in c = inside_at c.args.order (search (rules, length_mapped)) c.requires c.loop-i.i (search rules)
-
 pub loop-i-init : goal.loop-i-init
 loop-i-init c = (search rules, omega arith)
 
 pub offset_bounds-below-w : goal.offset_bounds-below-w
-offset_bounds-below-w c = omega (arith, variable_in c)
+offset_bounds-below-w c = omega (arith, inside_at c.args.order (search (rules, length_mapped)) c.requires c.loop-i.i (search rules))
 
 pub bounds-below-w : goal.bounds-below-w
-bounds-below-w c = variable_in c
+bounds-below-w c = inside_at c.args.order (search (rules, length_mapped)) c.requires c.loop-i.i (search rules)
 
 pub offset_bounds-above-w : goal.offset_bounds-above-w
-offset_bounds-above-w c = omega (arith, variable_in c)
+offset_bounds-above-w c = omega (arith, inside_at c.args.order (search (rules, length_mapped)) c.requires c.loop-i.i (search rules))
 
 pub bounds-above-w : goal.bounds-above-w
-bounds-above-w c = variable_in c
+bounds-above-w c = inside_at c.args.order (search (rules, length_mapped)) c.requires c.loop-i.i (search rules)
 
 pub is_near-requires : goal.is_near-requires
-is_near-requires c = variable_in c
+is_near-requires c = inside_at c.args.order (search (rules, length_mapped)) c.requires c.loop-i.i (search rules)
 
 pub returns-then-is_near : goal.returns-then-is_near
 unfolding near
