@@ -22,17 +22,12 @@ rest-left-requires c = c.loop-left-test.true
 
 pub loop-left-smaller : goal.loop-left-smaller
 loop-left-smaller c =
-    let w = c.before.before in
-    let l = w.before.before in
-    rw (c.rest-left.ensures _ w.lowest-x.ensures) (passed_less _ _ _ _ l.loop-left.invariant.passed w.loop-left-test.true w.lowest-x.ensures)
+    rw (c.rest-left.ensures _ c.lowest-x.ensures) (passed_less _ _ _ _ c.loop-left.invariant.passed c.loop-left-test.true c.lowest-x.ensures)
 
 pub loop-left-preserved : goal.loop-left-preserved
 loop-left-preserved c =
-    let e = c.before in
-    let w = e.before in
-    let l = w.before.before in
-    rw (c.rest-left.ensures _ w.lowest-x.ensures, e.except-a.ensures)
-    (lacks_more _ _ _ _ _ _ l.ranges.of.fits l.loop-left.invariant w.loop-left-test.true w.lowest-x.ensures)
+    rw (c.rest-left.ensures _ c.lowest-x.ensures, c.except-a.ensures)
+    (lacks_more _ _ _ _ _ _ c.ranges.of.fits c.loop-left.invariant c.loop-left-test.true c.lowest-x.ensures)
 
 pub returns : goal.returns
 returns c = lacks_all _ _ _ _ _ c.loop-left.invariant c.loop-left-test.false

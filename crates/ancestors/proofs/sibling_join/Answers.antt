@@ -15,9 +15,7 @@ use Rattle.ancestors.proofs.sibling_join.Goals.{then-s-ne0+else-a-lt16, else-s-n
 
 pub returns-then-blank : goal.returns-then-blank
 returns-then-blank c = λ f.
-    let b = c.before in
-    let s = b.before in
-    none_ordered _ s.requires (with_before s.args.before s.args.after (with_below s.args.below s.args.above f)) _ b.blank.ensures c.if-blank.true
+    none_ordered _ c.requires (with_before c.args.before c.args.after (with_below c.args.below c.args.above f)) _ c.blank.ensures c.if-blank.true
 
 pub loop-y-init : goal.loop-y-init
 loop-y-init c = (search rules, λ f S r k x y l. absurd (not-suc-le-zero l))
@@ -25,34 +23,26 @@ loop-y-init c = (search rules, λ f S r k x y l. absurd (not-suc-le-zero l))
 pub returns-then-a-lt16 : goal.returns-then-a-lt16
 unfolding join_of
 returns-then-a-lt16 c =
-    let t = c.before.before in
-    let l = t.before in
-    let i = l.before.before.before.before in
-    let m = i.before.before in
-    let s = m.before.before.before in
     let x-is = subst (λ (k : ℕ). Lowest k c.lowest-x.result) c.except-then-a-lt16.ensures c.lowest-x.ensures in
     λ f.
-    sibling_first _ s.requires (with_before s.args.before s.args.after (with_below s.args.below s.args.above f)) _ m.all-vars.ensures _ i.loop-y-test.true
-    _ l.except.ensures _ l.missing.ensures _ l.lowest-a.ensures t.if-a-lt16.true _ x-is (i.loop-y.invariant.1 f)
+    sibling_first _ c.requires (with_before c.args.before c.args.after (with_below c.args.below c.args.above f)) _ c.all-vars.ensures _ c.loop-y-test.true
+    _ c.except.ensures _ c.missing.ensures _ c.lowest-a.ensures c.if-a-lt16.true _ x-is (c.loop-y.invariant.1 f)
 
 pub loop-y-preserved : goal.loop-y-preserved
 loop-y-preserved c =
-    let i = c.before in
-    let m = i.before.before in
-    let s = m.before.before.before in (
+    (
       search rules,
       λ f.
-          let g = with_before s.args.before s.args.after (with_below s.args.below s.args.above f) in
-          none_more sibling_join _ g _ (i.loop-y.invariant.1 f)
+          let g = with_before c.args.before c.args.after (with_below c.args.below c.args.above f) in
+          none_more sibling_join _ g _ (c.loop-y.invariant.1 f)
           (elim c.if-s-ne0.branch [
               then-s-ne0+else-a-lt16 w ↦
-                none_missing _ s.requires g _ m.all-vars.ensures _ i.loop-y-test.true _ w.except.ensures _ w.missing.ensures _ w.lowest-a.ensures
+                none_missing _ c.requires g _ c.all-vars.ensures _ c.loop-y-test.true _ w.except.ensures _ w.missing.ensures _ w.lowest-a.ensures
                 w.if-a-lt16.false
-            | else-s-ne0 w ↦ none_alone _ s.requires g _ m.all-vars.ensures _ i.loop-y-test.true w.if-s-ne0.false
+            | else-s-ne0 w ↦ none_alone _ c.requires g _ c.all-vars.ensures _ c.loop-y-test.true w.if-s-ne0.false
           ]),
     )
 
 pub returns : goal.returns
 returns c = λ f.
-    let s = c.before.before.before.before.before in
-    none_first sibling_join _ (with_before s.args.before s.args.after (with_below s.args.below s.args.above f)) _ c.loop-y-test.false (c.loop-y.invariant.1 f)
+    none_first sibling_join _ (with_before c.args.before c.args.after (with_below c.args.below c.args.above f)) _ c.loop-y-test.false (c.loop-y.invariant.1 f)

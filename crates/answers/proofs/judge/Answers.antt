@@ -105,8 +105,8 @@ places_fine-requires c = nodes_within (at c.before.before.before).before.before.
 
 pub returns-then-not-places_fine : goal.returns-then-not-places_fine
 unfolding answer_judgement judged_as placed pick ◌and◌
-returns-then-not-places_fine c = rw (passed_11 c.before.before.before.before, eq-eqb _ _ c.if-answer-nodes.false, sym c.before.before.places_fine.ensures ∙ c.if-not-places_fine.true)
+returns-then-not-places_fine c = rw (passed_11 c.before.before.before.before, eq-eqb _ _ c.if-answer-nodes.false, sym c.places_fine.ensures ∙ c.if-not-places_fine.true)
 
 pub returns : goal.returns
 unfolding answer_judgement judged_as placed pick ◌and◌
-returns c = rw (passed_11 c.before.before.before.before, eq-eqb _ _ c.if-answer-nodes.false, sym c.before.before.places_fine.ensures ∙ c.if-not-places_fine.false, length-map, length-take-le _ _ (nodes_counted (at c.before.before.before.before.before)))
+returns c = rw (passed_11 c.before.before.before.before, eq-eqb _ _ c.if-answer-nodes.false, sym c.places_fine.ensures ∙ c.if-not-places_fine.false, length-map, length-take-le _ _ (nodes_counted (at c.before.before.before.before.before)))

@@ -19,33 +19,26 @@ loop-z-init c = (search rules, λ f S r k x y l. absurd (not-suc-le-zero l))
 pub returns-then-x-lt16 : goal.returns-then-x-lt16
 unfolding join_of
 returns-then-x-lt16 c =
-    let t = c.before.before.before in
-    let l = t.before in
-    let i = l.before in
-    let s = i.before.before.before in
     let x-is = subst (λ (k : ℕ). Lowest k c.lowest-x.result) c.except.ensures c.lowest-x.ensures in
     λ f.
-    parent_first _ s.requires (with_parent s.args.parent (with_below s.args.below s.args.above f)) _ i.all-vars.ensures _ i.loop-z-test.true _ l.lowest-y.ensures
-    t.if-y-lt16.true _ x-is c.if-x-lt16.true (i.loop-z.invariant.1 f)
+    parent_first _ c.requires (with_parent c.args.parent (with_below c.args.below c.args.above f)) _ c.all-vars.ensures _ c.loop-z-test.true _ c.lowest-y.ensures
+    c.if-y-lt16.true _ x-is c.if-x-lt16.true (c.loop-z.invariant.1 f)
 
 pub loop-z-preserved : goal.loop-z-preserved
 loop-z-preserved c =
-    let l = c.before in
-    let i = l.before in
-    let s = i.before.before.before in (
+    (
       search rules,
       λ f.
-          let g = with_parent s.args.parent (with_below s.args.below s.args.above f) in
-          none_more parent_join _ g _ (i.loop-z.invariant.1 f)
+          let g = with_parent c.args.parent (with_below c.args.below c.args.above f) in
+          none_more parent_join _ g _ (c.loop-z.invariant.1 f)
           (elim c.if-y-lt16.branch [
               then-y-lt16+else-x-lt16 w ↦
-                none_without_x _ s.requires g _ i.all-vars.ensures _ i.loop-z-test.true _ l.lowest-y.ensures w.if-y-lt16.true _
+                none_without_x _ c.requires g _ c.all-vars.ensures _ c.loop-z-test.true _ c.lowest-y.ensures w.if-y-lt16.true _
                 (subst (λ (k : ℕ). Lowest k w.lowest-x.result) w.except.ensures w.lowest-x.ensures) w.if-x-lt16.false
-            | else-y-lt16 w ↦ none_without_parent _ s.requires g _ i.all-vars.ensures _ i.loop-z-test.true _ l.lowest-y.ensures w.if-y-lt16.false
+            | else-y-lt16 w ↦ none_without_parent _ c.requires g _ c.all-vars.ensures _ c.loop-z-test.true _ c.lowest-y.ensures w.if-y-lt16.false
           ]),
     )
 
 pub returns : goal.returns
 returns c = λ f.
-    let s = c.before.before.before in
-    none_first parent_join _ (with_parent s.args.parent (with_below s.args.below s.args.above f)) _ c.loop-z-test.false (c.loop-z.invariant.1 f)
+    none_first parent_join _ (with_parent c.args.parent (with_below c.args.below c.args.above f)) _ c.loop-z-test.false (c.loop-z.invariant.1 f)

@@ -18,9 +18,8 @@ returns-then-y-gt15 c =
 
 pub returns-then-values-gt1 : goal.returns-then-values-gt1
 returns-then-values-gt1 c =
-    let p = c.before.before.before.before in
-    let e = sym p.room-values.ensures in
-    asks_6 _ _ _ _ (rw e c.if-values-lt1.false) c.if-x-gt15.false p.requires (λ r. c.if-y-gt15.false) (λ r s. absurd (omega (arith, e, c.if-values-gt1.true)))
+    let e = sym c.room-values.ensures in
+    asks_6 _ _ _ _ (rw e c.if-values-lt1.false) c.if-x-gt15.false c.requires (λ r. c.if-y-gt15.false) (λ r s. absurd (omega (arith, e, c.if-values-gt1.true)))
 
 pub returns-then-label-eq0 : goal.returns-then-label-eq0
 returns-then-label-eq0 c =
@@ -29,14 +28,12 @@ returns-then-label-eq0 c =
 
 pub returns-then-kind-eq8 : goal.returns-then-kind-eq8
 returns-then-kind-eq8 c =
-    let p = c.before.before.before.before.before in
-    let e = sym p.room-values.ensures in
+    let e = sym c.room-values.ensures in
     let low = c.if-x-gt15.false in
-    asks_6 _ _ _ _ (rw e c.if-values-lt1.false) low p.requires (λ r. absurd (omega (arith, e, c.if-values-gt1.false))) (λ r s. c.if-label-eq0.false)
+    asks_6 _ _ _ _ (rw e c.if-values-lt1.false) low c.requires (λ r. absurd (omega (arith, e, c.if-values-gt1.false))) (λ r s. c.if-label-eq0.false)
 
 pub returns : goal.returns
 returns c =
-    let p = c.before.before.before.before in
-    let e = sym p.room-values.ensures in
+    let e = sym c.room-values.ensures in
     let low = c.if-x-gt15.false in
-    asks_6 _ _ _ _ (rw e c.if-values-lt1.false) low p.requires (λ r. absurd (omega (arith, e, c.if-values-gt1.false))) (λ r s. absurd (c.if-kind-eq8.false s))
+    asks_6 _ _ _ _ (rw e c.if-values-lt1.false) low c.requires (λ r. absurd (omega (arith, e, c.if-values-gt1.false))) (λ r s. absurd (c.if-kind-eq8.false s))

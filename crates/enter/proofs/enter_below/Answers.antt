@@ -35,32 +35,24 @@ below_small c i = let h : Fits w16 (get_or c.args.f.below i 0) = search rules in
 
 pub enter_same-requires : goal.enter_same-requires
 enter_same-requires c =
-    let m = c.before in
-    let s = m.before.before.before.before.before.before in
-    (s.requires.0, (_, s.requires.1.0.1, follows _ _ _ _ s.requires.0.2 s.requires.0.0 (above_small s _) _ _ m.has.ensures m.meet.ensures c.if-has-meet.true _ s.requires.1.0.1))
+    let s = c.before.before.before.before.before.before in
+    (s.requires.0, (_, s.requires.1.0.1, follows _ _ _ _ s.requires.0.2 s.requires.0.0 (above_small s _) _ _ c.has.ensures c.meet.ensures c.if-has-meet.true _ s.requires.1.0.1))
 
 pub returns-then-has-meet : goal.returns-then-has-meet
 returns-then-has-meet c =
-    let test = c.before in
-    let m = test.before in
-    let s = m.before.before.before.before.before.before in
-    entered_same _ _ _ _ s.requires.0.2 s.requires.0.0 (above_small s _) _ _ m.has.ensures m.meet.ensures test.if-has-meet.true
+    let s = c.before.before.before.before.before.before in
+    entered_same _ _ _ _ s.requires.0.2 s.requires.0.0 (above_small s _) _ _ c.has.ensures c.meet.ensures c.if-has-meet.true
     _ s.requires.1.0.1 _ s.requires.1.1 _ c.enter_same.ensures
 
 pub returns-then-crossed : goal.returns-then-crossed
 unfolding has
 returns-then-crossed c =
-    let test = c.before in
-    let above = test.before.before.before.before in
-    let below = above.before in
-    let apart = below.before in
-    let m = apart.before in
-    let s = m.before.before.before.before.before.before in
-    let o = or_no _ _ apart.if-has-meet.false in
+    let s = c.before.before.before.before.before.before in
+    let o = or_no _ _ c.if-has-meet.false in
     entered_clash _ _ _ (λ S q. clash_entering _ S _ _ s.args.apart
-    (raised_clash _ s.requires.0.2 S _ _ _ s.requires.0.0 s.requires.0.1 q (above_small s _) (below_small s _) _ _ below.raise-below.ensures above.raise-above.ensures
-    (λ u. false≢true (sym o.0 ∙ m.has.ensures ∙ u))
-    (λ k u v. false≢true (sym o.1 ∙ m.meet.ensures ∙ meets_in _ _ k u v)) _ test.crossed.ensures c.if-crossed.true))
+    (raised_clash _ s.requires.0.2 S _ _ _ s.requires.0.0 s.requires.0.1 q (above_small s _) (below_small s _) _ _ c.raise-below.ensures c.raise-above.ensures
+    (λ u. false≢true (sym o.0 ∙ c.has.ensures ∙ u))
+    (λ k u v. false≢true (sym o.1 ∙ c.meet.ensures ∙ meets_in _ _ k u v)) _ c.crossed.ensures c.if-crossed.true))
 
 -- before is blank, or was tested
 uncrossed : (c : Joined-not-blank) →
@@ -75,15 +67,14 @@ uncrossed c =
 pub returns-then-not-has : goal.returns-then-not-has
 unfolding has
 returns-then-not-has c =
-    let flag = c.before.before.before.before in
-    let rows = flag.before in
+    let rows = c.before in
     let above = rows.before.before.before in
     let below = above.before in
     let apart = below.before in
     let m = apart.before in
     let s = m.before.before.before.before.before.before in
     let o = or_no _ _ apart.if-has-meet.false in
-    entered_as _ _ flag.if-apart.true (entered_well _ _ _ _ (λ S q. raised_ready _ s.requires.0.2 _ _ _ _ s.requires.0.0 s.requires.0.1
+    entered_as _ _ c.if-apart.true (entered_well _ _ _ _ (λ S q. raised_ready _ s.requires.0.2 _ _ _ _ s.requires.0.0 s.requires.0.1
     (differ_ready _ s.requires.0.2 S _ _ _ s.requires.0.0 s.requires.0.1 (below_small s) q (λ u. false≢true (sym o.0 ∙ m.has.ensures ∙ u)) _ c.parted-differ.ensures)
     (above_small s _) (below_small s _) _ _ below.raise-below.ensures above.raise-above.ensures
     (λ u. false≢true (sym o.0 ∙ m.has.ensures ∙ u))
@@ -93,15 +84,14 @@ returns-then-not-has c =
 pub returns-else-not-has : goal.returns-else-not-has
 unfolding has
 returns-else-not-has c =
-    let flag = c.before.before.before in
-    let rows = flag.before in
+    let rows = c.before in
     let above = rows.before.before.before in
     let below = above.before in
     let apart = below.before in
     let m = apart.before in
     let s = m.before.before.before.before.before.before in
     let o = or_no _ _ apart.if-has-meet.false in
-    entered_as _ _ flag.if-apart.true (entered_well _ _ _ _ (λ S q. raised_ready _ s.requires.0.2 _ _ _ _ s.requires.0.0 s.requires.0.1
+    entered_as _ _ c.if-apart.true (entered_well _ _ _ _ (λ S q. raised_ready _ s.requires.0.2 _ _ _ _ s.requires.0.0 s.requires.0.1
     (differ_known _ S _ _ _ q (sym c.has-then-apart.ensures ∙ c.if-not-has.false))
     (above_small s _) (below_small s _) _ _ below.raise-below.ensures above.raise-above.ensures
     (λ u. false≢true (sym o.0 ∙ m.has.ensures ∙ u))

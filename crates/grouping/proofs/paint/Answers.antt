@@ -21,15 +21,11 @@ rest-rest-requires c = c.loop-rest-test.true
 
 pub loop-rest-smaller : goal.loop-rest-smaller
 loop-rest-smaller c =
-    let w = c.before in
-    let l = w.before.before in
-    rw (c.rest-rest.ensures _ w.lowest-x.ensures) (passed_less _ _ _ _ l.loop-rest.invariant.passed w.loop-rest-test.true w.lowest-x.ensures)
+    rw (c.rest-rest.ensures _ c.lowest-x.ensures) (passed_less _ _ _ _ c.loop-rest.invariant.passed c.loop-rest-test.true c.lowest-x.ensures)
 
 pub loop-rest-preserved : goal.loop-rest-preserved
 loop-rest-preserved c =
-    let w = c.before in
-    let l = w.before.before in
-    rw (c.rest-rest.ensures _ w.lowest-x.ensures) (painting_more _ _ _ _ _ _ l.loop-rest.invariant w.loop-rest-test.true w.lowest-x.ensures)
+    rw (c.rest-rest.ensures _ c.lowest-x.ensures) (painting_more _ _ _ _ _ _ c.loop-rest.invariant c.loop-rest-test.true c.lowest-x.ensures)
 
 pub returns : goal.returns
 returns c = was_painted _ _ _ _ _ c.loop-rest.invariant c.loop-rest-test.false

@@ -18,26 +18,19 @@ bounds-t-x c = variable_in c
 
 pub returns-then-v-l : goal.returns-then-v-l
 returns-then-v-l c =
-    let w = c.before in
-    let l = w.before.before in
-    is_two _ _ _ _ (next_named _ _ _ _ l.loop-rest.invariant w.loop-rest-test.true w.lowest-x.ensures) c.if-v-l.true
+    is_two _ _ _ _ (next_named _ _ _ _ c.loop-rest.invariant c.loop-rest-test.true c.lowest-x.ensures) c.if-v-l.true
 
 pub rest-rest-requires : goal.rest-rest-requires
 rest-rest-requires c = c.loop-rest-test.true
 
 pub loop-rest-smaller : goal.loop-rest-smaller
 loop-rest-smaller c =
-    let w = c.before.before in
-    let l = w.before.before in
-    rw (c.rest-rest.ensures _ w.lowest-x.ensures) (passed_less _ _ _ _ l.loop-rest.invariant w.loop-rest-test.true w.lowest-x.ensures)
+    rw (c.rest-rest.ensures _ c.lowest-x.ensures) (passed_less _ _ _ _ c.loop-rest.invariant c.loop-rest-test.true c.lowest-x.ensures)
 
 pub loop-rest-preserved : goal.loop-rest-preserved
 loop-rest-preserved c =
-    let t = c.before in
-    let w = t.before in
-    let l = w.before.before in
-    rw (c.rest-rest.ensures _ w.lowest-x.ensures) (passed_more _ _ _ _ l.loop-rest.invariant w.loop-rest-test.true w.lowest-x.ensures _ (λ i p. p)
-    (only_one l.args.t l.args.l w.lowest-x.result t.if-v-l.false))
+    rw (c.rest-rest.ensures _ c.lowest-x.ensures) (passed_more _ _ _ _ c.loop-rest.invariant c.loop-rest-test.true c.lowest-x.ensures _ (λ i p. p)
+    (only_one c.args.t c.args.l c.lowest-x.result c.if-v-l.false))
 
 pub returns : goal.returns
 returns c = is_one _ _ _ _ c.loop-rest.invariant c.loop-rest-test.false

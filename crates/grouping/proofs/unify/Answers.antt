@@ -30,37 +30,25 @@ leaf_small : (c : Start) → c.args.f.leaf < 65536
 leaf_small c = let h : Fits w16 c.args.f.leaf = search rules in h.fits
 
 -- the group is tested for a leaf and for a label beside a root
-document_seen : (c : After-on_document) → let shown = c.before.before.before in
-    let far = shown.before.before.before.before in
-    let s = far.args in
-    c.on_document.result ≡ on_document s.f.root s.f.leaf (bit_and (bit_or (bit_or s.x s.upper) far.union_rows-far.result) (bit_or s.x s.lower)) shown.label_of-shown.result
+document_seen : (c : After-on_document) →
+    let s = c.args in
+    c.on_document.result ≡ on_document s.f.root s.f.leaf (bit_and (bit_or (bit_or s.x s.upper) c.union_rows-far.result) (bit_or s.x s.lower)) c.label_of-shown.result
 document_seen c = c.on_document.ensures
 
 pub returns-then-meet : goal.returns-then-meet
 returns-then-meet c =
-    let differing = c.before.before in
-    let others = differing.before in
-    let far = others.before in
-    let leafy = far.before in
-    let met = leafy.before in
-    let s = met.before.before.before.before.before.before.before.before.before in
-    unify_differs _ _ _ _ _ _ (x_small s) s.requires.0 s.requires.1 far.union_rows-far.ensures (rw (leafy.when.ensures, met.meet.ensures))
-    _ others.union_rows-others.ensures (sym differing.meet-2.ensures ∙ c.if-meet.true) _ c.refused.ensures
+    let s = c.before.before.before.before.before.before.before.before.before in
+    unify_differs _ _ _ _ _ _ (x_small s) s.requires.0 s.requires.1 c.union_rows-far.ensures (rw (c.when.ensures, c.meet.ensures))
+    _ c.union_rows-others.ensures (sym c.meet-2.ensures ∙ c.if-meet.true) _ c.refused.ensures
 
 pub two_labels-requires : goal.two_labels-requires
 two_labels-requires c = c.label_of-shown.ensures
 
 pub returns-then-two_labels : goal.returns-then-two_labels
 returns-then-two_labels c =
-    let test = c.before.before in
-    let shown = test.before in
-    let others = shown.before.before.before in
-    let far = others.before in
-    let leafy = far.before in
-    let met = leafy.before in
-    let s = met.before.before.before.before.before.before.before.before.before in
-    unify_labels _ _ _ _ _ _ (x_small s) s.requires.0 s.requires.1 far.union_rows-far.ensures (rw (leafy.when.ensures, met.meet.ensures))
-    _ shown.label_of-shown.ensures (test.two_labels.ensures.two c.if-two_labels.true) _ c.refused-then-two_labels.ensures
+    let s = c.before.before.before.before.before.before.before.before.before in
+    unify_labels _ _ _ _ _ _ (x_small s) s.requires.0 s.requires.1 c.union_rows-far.ensures (rw (c.when.ensures, c.meet.ensures))
+    _ c.label_of-shown.ensures (c.two_labels.ensures.two c.if-two_labels.true) _ c.refused-then-two_labels.ensures
 
 pub returns-then-on_document : goal.returns-then-on_document
 returns-then-on_document c =
@@ -79,8 +67,7 @@ paint-new_label-requires c = c.label_of-shown.ensures
 
 pub returns : goal.returns
 returns c =
-    let leaf-met = c.before in
-    let root = leaf-met.before in
+    let root = c.before in
     let root_met = root.before in
     let label = root_met.before in
     let differ = label.before in
@@ -122,6 +109,6 @@ returns c =
       before = refl;
       after = refl;
       root = rw (root.gain-root.ensures, root_met.meet-3.ensures);
-      leaf = rw (c.gain-leaf.ensures, leaf-met.meet-4.ensures);
+      leaf = rw (c.gain-leaf.ensures, c.meet-4.ensures);
       label = label.paint-new_label.ensures;
     })

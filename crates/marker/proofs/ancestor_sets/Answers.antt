@@ -1,5 +1,7 @@
 use mathlib.Core.Path.{◌≡◌}
-use Prim.Native.Nat.{◌≤◌, ◌<◌, ◌-◌}
+use mathlib.Core.List.{List}
+use Rattle.meaning.specs.Tree.{IsTree}
+use Prim.Native.Nat.{ℕ, ◌/◌, ◌≤◌, ◌<◌, ◌-◌}
 use native.Mathlib.Omega.{arith}
 use lib.ListN.{length, get_or}
 use borrow.Author.Rules.{rules}
@@ -8,28 +10,19 @@ use Rattle.rowbits.specs.Bit.{bit}
 use Rattle.theory.specs.Check.{is_above}
 use Rattle.answers.specs.Tree.{tree_in}
 use Rattle.marker.proofs.Sets.{above_first, above_more, set_more}
-use Rattle.marker.proofs.ancestor_sets.Lts
-use Rattle.marker.proofs.ancestor_sets.Tie
-use Rattle.marker.proofs.ancestor_sets.Reads
 use Rattle.marker.proofs.ancestor_sets.Goals as goal
 
--- places of the code, by the names that Rattle gives them
-abbrev After-parent-parent : Type 0
-After-parent-parent = Lts.After-parent Tie.the-claims Reads.Pre Reads.Post goal.the-invariant-loop-i goal.the-decreases-loop-i Tie.handed_clauses
-
 -- the parent of the node at hand has a smaller number
-parent_smaller : (c : After-parent-parent) → c.parent-parent.result.0 < c.loop-i.i
+parent_smaller : (tree : List ℕ) → IsTree (tree_in tree) → (i : ℕ) → 1 ≤ i → i < length tree / 4 → (p : ℕ) → p ≡ (tree_in tree).parent i → p < i
 unfolding tree_in
-parent_smaller c =
-    let l = c.loop-i in
-    omega (arith, c.parent-parent.ensures, c.requires.0.smaller l.i l.invariant.0 c.loop-i-test.true)
+parent_smaller tree w i one l p e = omega (arith, e, w.smaller i one l)
 
 pub bounds-above-0 : goal.bounds-above-0
 unfolding tree_in
 bounds-above-0 c = search rules
 
 pub loop-i-init : goal.loop-i-init
-loop-i-init c = (search rules, search rules, search rules, λ u v l. let z : v ≡ 0 = omega arith in rw z (above_first _ c.requires.0 u))
+loop-i-init c = (search rules, search rules, search rules, λ u v l. let z : v ≡ 0 = omega arith in rw z (above_first _ c.requires.tree u))
 
 pub overflow_cast-node : goal.overflow_cast-node
 unfolding tree_in
@@ -44,7 +37,7 @@ unfolding tree_in
 offset_bounds-above-parent c = search rules
 
 pub bounds-above-parent : goal.bounds-above-parent
-bounds-above-parent c = let s = parent_smaller c.before.before in
+bounds-above-parent c = let s = parent_smaller c.args.tree.now c.requires.tree c.loop-i.i c.loop-i.invariant.0 c.loop-i-test.true _ c.parent-parent.ensures in
     let l = c.loop-i.invariant in
     omega arith
 
@@ -71,13 +64,13 @@ loop-i-smaller c = search rules
 pub loop-i-preserved : goal.loop-i-preserved
 unfolding tree_in
 loop-i-preserved c = let l = c.loop-i in
-    let start = c.before.before.before.before.before.before.before in (
+    (
       search rules,
       search rules,
       search rules,
-      λ u. set_more (λ v a. bit a u ≡ is_above (tree_in start.args.tree.now) u v) l.above l.i c.with.result
+      λ u. set_more (λ v a. bit a u ≡ is_above (tree_in c.args.tree.now) u v) l.above l.i c.with.result
           (omega arith) (λ v h. l.invariant.3 u v h)
-          (rw c.with.ensures (above_more _ start.requires.0 u l.i l.invariant.0 c.loop-i-test.true _ (rw (← c.parent-parent.ensures) (l.invariant.3 u _ (parent_smaller c.before.before.before))))),
+          (rw c.with.ensures (above_more _ c.requires.tree u l.i l.invariant.0 c.loop-i-test.true _ (rw (← c.parent-parent.ensures) (l.invariant.3 u _ (parent_smaller c.args.tree.now c.requires.tree c.loop-i.i c.loop-i.invariant.0 c.loop-i-test.true _ c.parent-parent.ensures))))),
     )
 
 pub returns : goal.returns

@@ -40,7 +40,6 @@ returns-then-later-earlier c = sym (not_earlier _ _ _ c.if-later-earlier.true)
 
 pub returns : goal.returns
 returns c =
-    let start = c.before.before.before.before.before.before.before.before in
     c.is_parent.ensures
-    ∙ ap (λ (p : Node). is_parent (tree_in start.args.tree.now) p start.args.later.0) c.parent.ensures
-    ∙ sym (one_test _ _ _ (pos_of_ne-zero c.if-earlier-eq0.false) start.requires.0 c.if-later-earlier.false)
+    ∙ ap (λ (p : Node). is_parent (tree_in c.args.tree.now) p c.args.later.0) c.parent.ensures
+    ∙ sym (one_test _ _ _ (pos_of_ne-zero c.if-earlier-eq0.false) c.requires.earlier_bound c.if-later-earlier.false)

@@ -14,10 +14,10 @@ parent_smaller : (c : goal.After-parent) → c.parent.result.0 < c.loop-i.i
 unfolding tree_in
 parent_smaller c =
     let l = c.loop-i in
-    omega (arith, c.parent.ensures, c.requires.0.smaller l.i l.invariant.0 c.loop-i-test.true)
+    omega (arith, c.parent.ensures, c.requires.tree.smaller l.i l.invariant.0 c.loop-i-test.true)
 
 pub loop-i-init : goal.loop-i-init
-loop-i-init c = (search rules, search rules, λ u. inner_first _ c.requires.0 u)
+loop-i-init c = (search rules, search rules, λ u. inner_first _ c.requires.tree u)
 
 pub overflow_cast-i : goal.overflow_cast-i
 unfolding tree_in
@@ -39,7 +39,7 @@ loop-i-smaller c = search rules
 pub loop-i-preserved : goal.loop-i-preserved
 unfolding tree_in
 loop-i-preserved c = let l = c.loop-i in
-    (search rules, search rules, λ u. rw (c.with-inner.ensures, c.parent.ensures) (inner_more _ c.requires.0 u l.i l.invariant.0 c.loop-i-test.true _ (l.invariant.2 u)))
+    (search rules, search rules, λ u. rw (c.with-inner.ensures, c.parent.ensures) (inner_more _ c.requires.tree u l.i l.invariant.0 c.loop-i-test.true _ (l.invariant.2 u)))
 
 pub returns : goal.returns
 unfolding tree_in

@@ -9,12 +9,12 @@ use Rattle.marker.specs.Verdict.{marked_of}
 use Rattle.marker.proofs.mark.Goals as goal
 
 pub mark_answer-requires : goal.mark_answer-requires
-mark_answer-requires c = sym c.judge-judged.ensures ∙ c.judged-in-Accepted-1.given.1
+mark_answer-requires c = sym c.judge-judged.ensures ∙ c.in-Accepted.is
 
 pub returns-in-Refused : goal.returns-in-Refused
 unfolding marked_of
-returns-in-Refused c = let e = sym (file_refused c.args.constraints.now c.args.answer.now (sym c.judge-judged.ensures ∙ c.judged-1.given.1)) in
-    (e, rw e (marker_promise _ _ (bytes _ (λ i. omega (arith, c.shared_slice_known-2-1.given i)))))
+returns-in-Refused c = let e = sym (file_refused c.args.constraints.now c.args.answer.now (sym c.judge-judged.ensures ∙ c.in-Refused.is)) in
+    record { is = e; promise = rw e (marker_promise _ _ (bytes _ (λ i. omega (arith, c.shared_slice_known-2-1.given i)))) }
 
 pub returns-in-Accepted : goal.returns-in-Accepted
-returns-in-Accepted c = (c.mark_answer.ensures, rw c.mark_answer.ensures (marker_promise _ _ (bytes _ (λ i. omega (arith, c.shared_slice_known-2-1.given i)))))
+returns-in-Accepted c = record { is = c.mark_answer.ensures; promise = rw c.mark_answer.ensures (marker_promise _ _ (bytes _ (λ i. omega (arith, c.shared_slice_known-2-1.given i)))) }

@@ -10,32 +10,30 @@ use Rattle.theory.proofs.ConstraintFile.{bytes}
 use Rattle.marker.specs.Verdict.{marked_of}
 use Rattle.marker.proofs.mark_answer.Goals as goal
 
-nodes_within : (c : goal.In-Accepted) → c.judged-in-Accepted-1.given.0.0 * 4 ≤ length c.args.answer.now
-nodes_within c =
-    let start = c.before.before.before.before.before.before in
-    whole start.args.constraints.now start.args.answer.now start.args.variables start.requires _ (sym c.judge-judged.ensures ∙ c.judged-in-Accepted-1.given.1)
-
 pub overflow_mul-end : goal.overflow_mul-end
-overflow_mul-end c = omega (arith, nodes_within c)
+overflow_mul-end c = omega (arith, whole c.args.constraints.now c.args.answer.now c.args.variables c.requires _ (sym c.judge-judged.ensures ∙ c.in-Accepted.is))
 
 pub slice_bounds-first_unmet-end : goal.slice_bounds-first_unmet-end
-slice_bounds-first_unmet-end c = sym (length-take-le _ _ (nodes_within c.before))
+slice_bounds-first_unmet-end c = sym (length-take-le _ _ (whole c.args.constraints.now c.args.answer.now c.args.variables c.requires _ (sym c.judge-judged.ensures ∙ c.in-Accepted.is)))
+
+pub slice_bounds-first_unmet-start : goal.slice_bounds-first_unmet-start
+slice_bounds-first_unmet-start c = whole c.args.constraints.now c.args.answer.now c.args.variables c.requires _ (sym c.judge-judged.ensures ∙ c.in-Accepted.is)
 
 pub slice_bounds-first_unmet-count : goal.slice_bounds-first_unmet-count
-slice_bounds-first_unmet-count c = nodes_within c.before
+slice_bounds-first_unmet-count c = whole c.args.constraints.now c.args.answer.now c.args.variables c.requires _ (sym c.judge-judged.ensures ∙ c.in-Accepted.is)
 
 pub first_unmet-requires : goal.first_unmet-requires
-first_unmet-requires c = let start = c.before.before.before.before.before.before.before.before in
+first_unmet-requires c =
     rw rest
-    (all_ready start.args.constraints.now start.args.answer.now start.args.variables start.requires _ (sym c.judge-judged.ensures ∙ c.judged-in-Accepted-1.given.1)
+    (all_ready c.args.constraints.now c.args.answer.now c.args.variables c.requires _ (sym c.judge-judged.ensures ∙ c.in-Accepted.is)
     (bytes _ (λ i. omega (arith, c.shared_slice_known-2-1.given i))))
 
 pub returns-in-Refused : goal.returns-in-Refused
 unfolding marked_of
-returns-in-Refused c = let start = c.before.before.before.before.before.before in
-    sym (answer_refused start.args.constraints.now start.args.answer.now start.args.variables start.requires (sym c.judge-judged.ensures ∙ c.judged-1.given.1))
+returns-in-Refused c =
+    sym (answer_refused c.args.constraints.now c.args.answer.now c.args.variables c.requires (sym c.judge-judged.ensures ∙ c.in-Refused.is))
 
 pub returns-in-Accepted : goal.returns-in-Accepted
-returns-in-Accepted c = let start = c.before.before.before.before.before.before.before.before.before in
+returns-in-Accepted c =
     (rw rest at c.first_unmet.ensures)
-    ∙ sym (both_accepted start.args.constraints.now start.args.answer.now start.args.variables start.requires _ (sym c.judge-judged.ensures ∙ c.judged-in-Accepted-1.given.1))
+    ∙ sym (both_accepted c.args.constraints.now c.args.answer.now c.args.variables c.requires _ (sym c.judge-judged.ensures ∙ c.in-Accepted.is))

@@ -36,38 +36,24 @@ next_round-r-requires c = let h = c.loop-x.invariant.2 c.loop-x-test.true in (h.
 
 pub returns-then-r : goal.returns-then-r
 returns-then-r c =
-    let u = c.before in
-    let l = u.before.before in
-    let a = l.before.before.before in
-    let s = a.before.before.before.before.before in
-    merged_clash _ _ _ _ s.requires.0.2 s.requires.0.0 s.requires.0.1 _ a.two_with_gap-x.ensures (λ T p. u.next_round-r.ensures.clashes c.if-r.true _ T (l.loop-x.invariant.0 T p))
+    merged_clash _ _ _ _ c.requires.0.2 c.requires.0.0 c.requires.0.1 _ c.two_with_gap-x.ensures (λ T p. c.next_round-r.ensures.clashes c.if-r.true _ T (c.loop-x.invariant.0 T p))
 
 pub loop-x-smaller : goal.loop-x-smaller
 loop-x-smaller c =
-    let e = c.before.before.before.before.before in
-    let u = e.before in
-    u.next_round-r.ensures.falls e.if-r.false (u.loop-x.invariant.2 u.loop-x-test.true).0
+    c.next_round-r.ensures.falls c.if-r.false (c.loop-x.invariant.2 c.loop-x-test.true).0
 
 -- what the round says of its next set it says of pending tables: these are so for the set that the call is about
 pub loop-x-preserved : goal.loop-x-preserved
 loop-x-preserved c =
-    let e = c.before.before.before.before.before in
-    let u = e.before in
-    let r = u.next_round-r.ensures in
-    let l = u.before.before in
-    let a = l.before.before.before in
-    let s = a.before.before.before.before.before in
-    let j = s.requires.1 in
-    let p = l.loop-x.invariant.0 _ (begun _ _ _ _ s.requires.0.2 s.requires.0.0 s.requires.0.1 _ a.two_with_gap-x.ensures j.0 j.1 j.2) in (
-      (λ T p. r.goes_on e.if-r.false _ T (l.loop-x.invariant.0 T p)),
-      r.top e.if-r.false _ _ p,
-      λ z. (r.gap e.if-r.false _ _ p z, c.union_rows-lower.ensures, c.union_rows-upper.ensures),
+    let r = c.next_round-r.ensures in
+    let j = c.requires.1 in
+    let p = c.loop-x.invariant.0 _ (begun _ _ _ _ c.requires.0.2 c.requires.0.0 c.requires.0.1 _ c.two_with_gap-x.ensures j.0 j.1 j.2) in (
+      (λ T p. r.goes_on c.if-r.false _ T (c.loop-x.invariant.0 T p)),
+      r.top c.if-r.false _ _ p,
+      λ z. (r.gap c.if-r.false _ _ p z, c.union_rows-lower.ensures, c.union_rows-upper.ensures),
     )
 
 pub returns : goal.returns
 returns c =
-    let l = c.before in
-    let a = l.before.before.before in
-    let s = a.before.before.before.before.before in
-    merged_well _ _ _ _ s.requires.0.2 s.requires.0.0 s.requires.0.1 _ a.two_with_gap-x.ensures
-    _ (l.loop-x.invariant.1 c.loop-x-test.false) (λ T p. subst (λ (k : ℕ). Pending s.args.n T k l.loop-x.g) c.loop-x-test.false (l.loop-x.invariant.0 T p))
+    merged_well _ _ _ _ c.requires.0.2 c.requires.0.0 c.requires.0.1 _ c.two_with_gap-x.ensures
+    _ (c.loop-x.invariant.1 c.loop-x-test.false) (λ T p. subst (λ (k : ℕ). Pending c.args.n T k c.loop-x.g) c.loop-x-test.false (c.loop-x.invariant.0 T p))

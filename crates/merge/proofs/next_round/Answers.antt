@@ -29,24 +29,13 @@ returns-then-r c = round_refused _ _ _ c.unify-r.ensures c.if-r.true
 
 pub returns-then-blank : goal.returns-then-blank
 returns-then-blank c =
-    let none = c.before.before.before.before in
-    let test = none.before in
-    let made = test.before.before in
-    let u = made.before in
-    round_blank _ _ _ u.unify-r.ensures made.if-r.false (group_small u) (after_small u.before) _ test.blank.ensures none.if-blank.true _ c.next_set.ensures
+    let u = c.before in
+    round_blank _ _ _ u.unify-r.ensures c.if-r.false (group_small u) (after_small u.before) _ c.blank.ensures c.if-blank.true _ c.next_set.ensures
 
 pub returns-then-crossed : goal.returns-then-crossed
 returns-then-crossed c =
-    let crosses = c.before in
-    let test = crosses.before in
-    let passed = test.before.before.before.before in
-    let made = passed.before.before.before.before.before in
-    round_crossed _ _ _ made.unify-r.ensures made.if-r.false _ passed.pass_on-g.ensures _ test.crossed.ensures crosses.if-crossed.true _ c.refused.ensures
+    round_crossed _ _ _ c.unify-r.ensures c.if-r.false _ c.pass_on-g.ensures _ c.crossed.ensures c.if-crossed.true _ c.refused.ensures
 
 pub returns : goal.returns
 returns c =
-    let clear = c.before.before in
-    let test = clear.before in
-    let passed = test.before.before.before.before in
-    let made = passed.before.before.before.before.before in
-    round_passed _ _ _ made.unify-r.ensures made.if-r.false _ passed.pass_on-g.ensures _ test.crossed.ensures clear.if-crossed.false _ c.next_set-2.ensures
+    round_passed _ _ _ c.unify-r.ensures c.if-r.false _ c.pass_on-g.ensures _ c.crossed.ensures c.if-crossed.false _ c.next_set-2.ensures

@@ -30,9 +30,9 @@ After-lowest-x = Lts.After-lowest Tie.the-claims Reads.Pre Reads.Post
 parents_seen : (c : After-with_gap-next) → let s = c.args in Chained s.below s.above → WithGap s.below s.parents c.with_gap-next.result
 parents_seen c h = c.with_gap-next.ensures h
 
-elements_seen : (c : After-with_gap) → let l = c.before in
-    let s = l.args in
-    Chained s.below s.above → WithGap s.below (row s.t3 l.lowest-x.result) c.with_gap.result
+elements_seen : (c : After-with_gap) →
+    let s = c.args in
+    Chained s.below s.above → WithGap s.below (row s.t3 c.lowest-x.result) c.with_gap.result
 elements_seen c h = c.with_gap.ensures h
 
 variable_in : (c : After-lowest-x) → c.lowest-x.result < 16
@@ -46,8 +46,7 @@ returns-then-next-ne0 c h a = inl (parents_seen c.before h, c.if-next-ne0.true)
 
 pub returns-then-root-eq0 : goal.returns-then-root-eq0
 returns-then-root-eq0 c h a =
-    let n = c.before in
-    inr (0, rw (← n.if-next-ne0.false) (parents_seen n.before h), none_union _ _ c.if-root-eq0.true, none_apart _ 0 refl)
+    inr (0, rw (← c.if-next-ne0.false) (parents_seen c.before h), none_union _ _ c.if-root-eq0.true, none_apart _ 0 refl)
 
 pub offset_bounds-child-x : goal.offset_bounds-child-x
 offset_bounds-child-x c = omega (arith, variable_in c)

@@ -27,14 +27,8 @@ bounds-above-x c = variable_in c
 
 pub returns-then-except-ne0 : goal.returns-then-except-ne0
 returns-then-except-ne0 c h =
-    let e = c.before in
-    let l = e.before in
-    let s = l.before.before in
-    is_apart s.args.below s.args.above _ _ s.ranges.rows.fits l.if-rows-eq0.false l.lowest-x.ensures h (rw (← e.except.ensures) c.if-except-ne0.true)
+    is_apart c.args.below c.args.above _ _ c.ranges.rows.fits c.if-rows-eq0.false c.lowest-x.ensures h (rw (← c.except.ensures) c.if-except-ne0.true)
 
 pub returns : goal.returns
 returns c h =
-    let e = c.before in
-    let l = e.before in
-    let s = l.before.before in
-    not_apart s.args.below s.args.above _ _ s.ranges.rows.fits l.if-rows-eq0.false l.lowest-x.ensures h (sym e.except.ensures ∙ c.if-except-ne0.false)
+    not_apart c.args.below c.args.above _ _ c.ranges.rows.fits c.if-rows-eq0.false c.lowest-x.ensures h (sym c.except.ensures ∙ c.if-except-ne0.false)

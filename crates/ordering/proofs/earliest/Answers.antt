@@ -12,7 +12,7 @@ variable_in : (c : goal.After-lowest-x) → c.lowest-x.result < 16
 variable_in c = next_in_lem _ _ _ _ c.loop-left.invariant c.loop-left-test.true c.lowest-x.ensures
 
 -- a member that is passed has one that goes before it
-not_free : (c : goal.Else-row-earlier-eq0) → let w = c.before in let s = w.before.before.before in bit_and s.args.row (row s.args.after w.lowest-x.result) ≢ 0
+not_free : (c : goal.Else-row-earlier-eq0) → bit_and c.args.row (row c.args.after c.lowest-x.result) ≢ 0
 not_free c = c.if-row-earlier-eq0.false
 
 pub loop-left-init : goal.loop-left-init
@@ -35,17 +35,13 @@ rest-left-requires c = c.loop-left-test.true
 
 pub loop-left-smaller : goal.loop-left-smaller
 loop-left-smaller c =
-    let w = c.before.before in
-    rw (c.rest-left.ensures _ w.lowest-x.ensures) (passed_less _ _ _ _ w.loop-left.invariant w.loop-left-test.true w.lowest-x.ensures)
+    rw (c.rest-left.ensures _ c.lowest-x.ensures) (passed_less _ _ _ _ c.loop-left.invariant c.loop-left-test.true c.lowest-x.ensures)
 
 pub loop-left-preserved : goal.loop-left-preserved
 loop-left-preserved c =
-    let w = c.before.before in
-    rw (c.rest-left.ensures _ w.lowest-x.ensures)
-    (passed_more _ _ _ _ w.loop-left.invariant w.loop-left-test.true w.lowest-x.ensures _ (λ i p. p) (not_free c.before))
+    rw (c.rest-left.ensures _ c.lowest-x.ensures)
+    (passed_more _ _ _ _ c.loop-left.invariant c.loop-left-test.true c.lowest-x.ensures _ (λ i p. p) (not_free c.before))
 
 pub returns : goal.returns
 returns c =
-    let i = c.before in
-    let s = i.before in
-    absurd (some_earliest s.args.after s.args.row s.ranges.row.fits s.requires.0 s.requires.1 (passed_all _ _ _ i.loop-left.invariant c.loop-left-test.false))
+    absurd (some_earliest c.args.after c.args.row c.ranges.row.fits c.requires.0 c.requires.1 (passed_all _ _ _ c.loop-left.invariant c.loop-left-test.false))

@@ -10,16 +10,13 @@ loop-d-init c = (search rules, listed_none _ _ _)
 
 pub append-o-requires : goal.append-o-requires
 append-o-requires c =
-    let i = c.before in
-    let s = i.before in
-    (i.loop-d.invariant.1.small, listed_room s.args.after s.args.layer s.args.n i.loop-d.d s.requires.1 c.loop-d-test.true i.loop-d.o i.loop-d.invariant.1, s.requires.2)
+    (c.loop-d.invariant.1.small, listed_room c.args.after c.args.layer c.args.n c.loop-d.d c.requires.1 c.loop-d-test.true c.loop-d.o c.loop-d.invariant.1, c.requires.2)
 
 pub loop-d-preserved : goal.loop-d-preserved
 loop-d-preserved c =
-    let i = c.before.before in
-    let s = i.before in (
+    (
       search rules,
-      listed_next s.args.after s.args.layer s.args.n i.loop-d.d s.requires.1 c.loop-d-test.true i.loop-d.o i.loop-d.invariant.1 c.append-o.result c.append-o.ensures,
+      listed_next c.args.after c.args.layer c.args.n c.loop-d.d c.requires.1 c.loop-d-test.true c.loop-d.o c.loop-d.invariant.1 c.append-o.result c.append-o.ensures,
     )
 
 pub returns : goal.returns

@@ -12,11 +12,11 @@ loop-x-init c = (search rules, search rules, layered_none _ _ _ _)
 pub loop-x-preserved : goal.loop-x-preserved
 unfolding deep
 loop-x-preserved c =
-    let i = c.before.before.before.before.before in (
+    (
       search rules,
       search rules,
-      layered_more _ _ _ _ i.loop-x.x _ _ _ _ i.loop-x.layer i.loop-x.invariant.1 c.over.ensures
-          c.count-depth.ensures.0 c.has.ensures c.gain_one.ensures i.loop-x.invariant.2,
+      layered_more _ _ _ _ c.loop-x.x _ _ _ _ c.loop-x.layer c.loop-x.invariant.1 c.over.ensures
+          c.count-depth.ensures.0 c.has.ensures c.gain_one.ensures c.loop-x.invariant.2,
     )
 
 pub returns : goal.returns

@@ -15,7 +15,5 @@ loop-x-preserved c = (search rules, gather_more _ _ _ _ _ c.is_low.ensures c.gai
 pub returns : goal.returns
 unfolding is_lowest
 returns c =
-    let i = c.before.before in
-    let s = i.before in
-    let e : i.loop-x.x ≡ s.args.n = search rules in
-    gather_except (is_low s.args.below s.args.above) _ i.loop-x.a s.args.root _ s.requires c.except.ensures (rw (← e) i.loop-x.invariant.1)
+    let e : c.loop-x.x ≡ c.args.n = search rules in
+    gather_except (is_low c.args.below c.args.above) _ c.loop-x.a c.args.root _ c.requires c.except.ensures (rw (← e) c.loop-x.invariant.1)

@@ -30,15 +30,13 @@ is_near-requires c = inside_at c.args.order (search (rules, length_mapped)) c.re
 pub returns-then-is_near : goal.returns-then-is_near
 unfolding near
 returns-then-is_near c =
-    let i = c.before.before.before.before.before in
-    scan_here (near i.args.below i.args.above i.args.over) i.args.order (search (rules, length_mapped)) i.requires i.loop-i.i (search rules)
-    (sym c.is_near.ensures ∙ c.if-is_near.true) i.loop-i.invariant.1
+    scan_here (near c.args.below c.args.above c.args.over) c.args.order (search (rules, length_mapped)) c.requires c.loop-i.i (search rules)
+    (sym c.is_near.ensures ∙ c.if-is_near.true) c.loop-i.invariant.1
 
 pub loop-i-preserved : goal.loop-i-preserved
 unfolding near
 loop-i-preserved c =
-    let i = c.before.before.before.before.before in
-    (search rules, scan_next (near i.args.below i.args.above i.args.over) i.args.order (search (rules, length_mapped)) i.requires i.loop-i.i (search rules) (sym c.is_near.ensures ∙ c.if-is_near.false) i.loop-i.invariant.1)
+    (search rules, scan_next (near c.args.below c.args.above c.args.over) c.args.order (search (rules, length_mapped)) c.requires c.loop-i.i (search rules) (sym c.is_near.ensures ∙ c.if-is_near.false) c.loop-i.invariant.1)
 
 pub returns : goal.returns
-returns c = let i = c.before in scan_end (near i.args.below i.args.above i.args.over) i.args.order (search (rules, length_mapped)) i.requires i.loop-i.i (search rules) (search rules) i.loop-i.invariant.1
+returns c = scan_end (near c.args.below c.args.above c.args.over) c.args.order (search (rules, length_mapped)) c.requires c.loop-i.i (search rules) (search rules) c.loop-i.invariant.1

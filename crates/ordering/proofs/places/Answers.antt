@@ -11,19 +11,18 @@ pub loop-i-init : goal.loop-i-init
 loop-i-init c = (search rules, search rules, placing_none _ _ _ (omega (arith, count_is c.args.order (search (rules, length_mapped)) c.requires)))
 
 pub bounds-a-g : goal.bounds-a-g
-bounds-a-g c = let i = c.before.before.before in inside_at i.args.order (search (rules, length_mapped)) i.requires (i.loop-i.i - 1) (search rules)
+bounds-a-g c = inside_at c.args.order (search (rules, length_mapped)) c.requires (c.loop-i.i - 1) (search rules)
 
 pub loop-i-preserved : goal.loop-i-preserved
 loop-i-preserved c =
-    let i = c.before.before.before in
-    let o = i.args.order in
+    let o = c.args.order in
     let long : length o.group ≡ 16 = search (rules, length_mapped) in
-    let l : i.loop-i.i - 1 < o.len = search rules in
-    let e : i.loop-i.i - 1 + 1 ≡ i.loop-i.i = search rules in (
+    let l : c.loop-i.i - 1 < o.len = search rules in
+    let e : c.loop-i.i - 1 + 1 ≡ c.loop-i.i = search rules in (
       search rules,
       search rules,
-      placing_more (groups o) (i.loop-i.i - 1) i.loop-i.a _ (omega (arith, l, count_is o long i.requires)) (member_at o long i.requires _ l)
-          (omega (arith, inside_at o long i.requires _ l, i.loop-i.invariant.1)) (rw e i.loop-i.invariant.2),
+      placing_more (groups o) (c.loop-i.i - 1) c.loop-i.a _ (omega (arith, l, count_is o long c.requires)) (member_at o long c.requires _ l)
+          (omega (arith, inside_at o long c.requires _ l, c.loop-i.invariant.1)) (rw e c.loop-i.invariant.2),
     )
 
 pub returns : goal.returns

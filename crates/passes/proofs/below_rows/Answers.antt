@@ -14,5 +14,4 @@ loop-x-preserved c = (search rules, rowing_more _ _ _ _ _ _ (search rules) c.fir
 
 pub returns : goal.returns
 returns c =
-    let l = c.before.before in
-    chained_rows _ (search rules) _ _ _ _ _ _ (search rules) l.loop-x.invariant.0 l.loop-x.invariant.1 c.chain_rows.ensures
+    chained_rows _ (search rules) _ _ _ _ _ _ (search rules) c.loop-x.invariant.0 c.loop-x.invariant.1 c.chain_rows.ensures

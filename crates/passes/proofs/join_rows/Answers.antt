@@ -9,9 +9,7 @@ loop-x-init c = (search rules, joining_none _ _ _ _ _ _ (search rules))
 
 pub loop-x-preserved : goal.loop-x-preserved
 loop-x-preserved c =
-    let u = c.before in
-    let t = u.before in
-    (add-one-le t.loop-x-test.true, joining_more _ _ _ _ _ _ _ _ _ _ _ (search rules) t.loop-x.invariant.1 u.union_rows.ensures c.union_rows-in-loop-x.ensures)
+    (add-one-le c.loop-x-test.true, joining_more _ _ _ _ _ _ _ _ _ _ _ (search rules) c.loop-x.invariant.1 c.union_rows.ensures c.union_rows-in-loop-x.ensures)
 
 pub returns : goal.returns
 returns c = let i = c.loop-x.invariant in joining_all _ _ _ _ _ _ i.0 c.loop-x-test.false i.1

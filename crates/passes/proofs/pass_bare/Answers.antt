@@ -18,6 +18,4 @@ leaf_small c = let h : Fits w16 c.pass-p.result.facts.leaf = search rules in h.f
 
 pub returns : goal.returns
 returns c =
-    let d = c.before in
-    let l = d.before in
-    pass_looked l.pass-p.ensures _ l.label_of-l.ensures (leaf_small l.before.before) _ d.on_document.ensures
+    pass_looked c.pass-p.ensures _ c.label_of-l.ensures (leaf_small c.before.before) _ c.on_document.ensures

@@ -19,7 +19,7 @@ use borrow.Author.Rules.{rules}
 use Rattle.readoff.proofs.assign.Goals as goal
 
 -- it is not on the document node
-under : (c : goal.Else-has) → let i = c.before.before.before in ¬ Yes (bit i.args.root i.loop-x.x)
+under : (c : goal.Else-has) → ¬ Yes (bit c.args.root c.loop-x.x)
 under c = not_yes (sym c.has.ensures ∙ c.if-has.false)
 
 -- the place that is read is that of the variable's group
@@ -32,12 +32,10 @@ place_read c gs p w =
     place_led s.args.below s.args.above _ _ gs i.places-at.result w p i.loop-x.x _ (search rules) (under c.before) c.lowest-low.ensures
 
 -- it is a place of the order
-place_small : (c : goal.After-lowest-low) → let p = c.before.before.before.before.before in row p.places-at.result c.lowest-low.result ≤ p.args.order.len
+place_small : (c : goal.After-lowest-low) → row c.places-at.result c.lowest-low.result ≤ c.args.order.len
 place_small c =
-    let i = c.before.before.before.before in
-    let s = i.before.before in
-    rw (place_read c (groups s.args.order) i.places-at.ensures s.requires.3)
-    (place_most (bit (bit_and (row s.args.above i.loop-x.x) (row s.args.below i.loop-x.x))) s.args.order (search (rules, length_mapped)) s.requires.0)
+    rw (place_read c (groups c.args.order) c.places-at.ensures c.requires.3)
+    (place_most (bit (bit_and (row c.args.above c.loop-x.x) (row c.args.below c.loop-x.x))) c.args.order (search (rules, length_mapped)) c.requires.0)
 
 pub places-at-requires : goal.places-at-requires
 places-at-requires c = c.requires.0
@@ -48,19 +46,16 @@ loop-x-init c = (search rules, search rules, λ gs p w. assigned_none _ _)
 pub loop-x-preserved-then-has : goal.loop-x-preserved-then-has
 unfolding place_in
 loop-x-preserved-then-has c =
-    let i = c.before.before.before in
-    let s = i.before.before in (
+    (
       search rules,
       search rules,
-      λ gs p v. assigned_more i.loop-x.nodes i.loop-x.x _ (place_in s.args.below s.args.above s.args.root s.args.element gs) (search rules)
-          (pick_on _ _ _ (sym c.has.ensures ∙ c.if-has.true)) (i.loop-x.invariant.2 gs p v),
+      λ gs p v. assigned_more c.loop-x.nodes c.loop-x.x _ (place_in c.args.below c.args.above c.args.root c.args.element gs) (search rules)
+          (pick_on _ _ _ (sym c.has.ensures ∙ c.if-has.true)) (c.loop-x.invariant.2 gs p v),
     )
 
 pub bounds-at-low : goal.bounds-at-low
 bounds-at-low c =
-    let i = c.before.before.before.before in
-    let s = i.before.before in
-    s.requires.0.inside _ (s.requires.3 i.loop-x.x _ (search rules) (under c.before) c.lowest-low.ensures).0
+    c.requires.0.inside _ (c.requires.3 c.loop-x.x _ (search rules) (under c.before) c.lowest-low.ensures).0
 
 pub node_at-requires : goal.node_at-requires
 node_at-requires c = numbered_fits _ _ _ (place_small c) c.requires.1
@@ -79,6 +74,5 @@ loop-x-preserved c =
 
 pub returns : goal.returns
 returns c =
-    let p = c.before.before in
-    let e : c.loop-x.x ≡ p.args.n = search rules in
-    rw (← e) (c.loop-x.invariant.2 (groups p.args.order) p.places-at.ensures p.requires.3)
+    let e : c.loop-x.x ≡ c.args.n = search rules in
+    rw (← e) (c.loop-x.invariant.2 (groups c.args.order) c.places-at.ensures c.requires.3)

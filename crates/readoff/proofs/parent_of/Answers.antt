@@ -31,11 +31,9 @@ returns-then-over-lows-eq0 c = on_top c.before c.if-over-lows-eq0.true
 
 pub node_at-requires : goal.node_at-requires
 node_at-requires c =
-    let s = c.before.before in
-    numbered_fits _ _ _ (rw c.nearest.ensures (place_most (near s.args.below s.args.above s.args.over) s.args.order (search (rules, length_mapped)) s.requires.0)) s.requires.1
+    numbered_fits _ _ _ (rw c.nearest.ensures (place_most (near c.args.below c.args.above c.args.over) c.args.order (search (rules, length_mapped)) c.requires.0)) c.requires.1
 
 pub returns : goal.returns
 unfolding parent_in
 returns c =
-    let n = c.before in
-    c.node_at.ensures ∙ ap (numbered n.args.element) n.nearest.ensures ∙ pick_off _ _ _ (yes_not (λ y. n.if-over-lows-eq0.false (is_eq y)))
+    c.node_at.ensures ∙ ap (numbered c.args.element) c.nearest.ensures ∙ pick_off _ _ _ (yes_not (λ y. c.if-over-lows-eq0.false (is_eq y)))

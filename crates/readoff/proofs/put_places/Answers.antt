@@ -13,17 +13,15 @@ pub loop-x-init : goal.loop-x-init
 loop-x-init c = (search rules, recorded_none _ _ _)
 
 pub put_place-requires : goal.put_place-requires
-put_place-requires c = let i = c.before.before.before in omega (arith, i.requires, i.loop-x.invariant.1.long)
+put_place-requires c = omega (arith, c.requires, c.loop-x.invariant.1.long)
 
 pub loop-x-preserved : goal.loop-x-preserved
 unfolding place_bytes
 loop-x-preserved c =
-    let l = c.before.before.before.before.before in
-    let i = l.before in
-    let s = i.before.before in (
+    (
       search rules,
-      recorded_more _ _ (λ j k m. omega arith) i.loop-x.x (s.args.first + i.loop-x.x) _ s.args.answer.now i.loop-x.answer c.put_place.new.answer refl
-          (ap (λ (v : ℕ). 2 ∷ i.loop-x.x ∷ v ∷ 0 ∷ []) (number_at s.args.n s.args.nodes i.loop-x.x l.loop-x-test.true)) i.loop-x.invariant.1 c.put_place.ensures,
+      recorded_more _ _ (λ j k m. omega arith) c.loop-x.x (c.args.first + c.loop-x.x) _ c.args.answer.now c.loop-x.answer c.put_place.new.answer refl
+          (ap (λ (v : ℕ). 2 ∷ c.loop-x.x ∷ v ∷ 0 ∷ []) (number_at c.args.n c.args.nodes c.loop-x.x c.loop-x-test.true)) c.loop-x.invariant.1 c.put_place.ensures,
     )
 
 pub shape_of-answer : goal.shape_of-answer

@@ -12,24 +12,20 @@ returns-in-Nothing c = step_solved _ _ _ c.first_join-found.ensures c.enum_told-
 
 pub returns-in-Parent : goal.returns-in-Parent
 returns-in-Parent c =
-    let e = c.before.before.before in let j = e.before.before in
-    step_split _ _ _ j.first_join-found.ensures _ j.requires.1.1 _ (joined e.found-1.given.1 c.enum_told-in-Parent-1.given.1) _ _ false never_apart
+    step_split _ _ _ c.first_join-found.ensures _ c.requires.1.1 _ (joined c.found-1.given.1 c.enum_told-in-Parent-1.given.1) _ _ false never_apart
     (λ S q. (enters_one _ S _, enters_two _ S _ _ q.above))
 
 pub returns-in-Chain : goal.returns-in-Chain
 returns-in-Chain c =
-    let e = c.before.before.before in let j = e.before.before in
-    step_split _ _ _ j.first_join-found.ensures _ j.requires.1.1 _ (joined e.found-1.given.1 c.enum_told-in-Chain-1.given.1) _ _ true (λ _ q. chain_forked _ _ _ j.requires.1.1 _ _ _ q)
+    step_split _ _ _ c.first_join-found.ensures _ c.requires.1.1 _ (joined c.found-1.given.1 c.enum_told-in-Chain-1.given.1) _ _ true (λ _ q. chain_forked _ _ _ c.requires.1.1 _ _ _ q)
     (λ S q. (enters_one _ S _, enters_apart _ S _))
 
 pub returns-in-Sibling : goal.returns-in-Sibling
 returns-in-Sibling c =
-    let e = c.before.before.before in let j = e.before.before in
-    step_split _ _ _ j.first_join-found.ensures _ j.requires.1.1 _ (joined e.found-1.given.1 c.enum_told-in-Sibling-1.given.1) _ _ false never_apart
+    step_split _ _ _ c.first_join-found.ensures _ c.requires.1.1 _ (joined c.found-1.given.1 c.enum_told-in-Sibling-1.given.1) _ _ false never_apart
     (λ S q. (enters_one _ S _, enters_two _ S _ _ q.above))
 
 pub returns-in-Document : goal.returns-in-Document
 returns-in-Document c =
-    let e = c.before.before.before in let j = e.before.before in
-    step_split _ _ _ j.first_join-found.ensures _ j.requires.1.1 _ (joined e.found-1.given.1 c.enum_told-in-Document-1.given.1) _ _ false never_apart
+    step_split _ _ _ c.first_join-found.ensures _ c.requires.1.1 _ (joined c.found-1.given.1 c.enum_told-in-Document-1.given.1) _ _ false never_apart
     (λ S q. (enters_one _ S _, enters_first _ S _ _ (root_below q.document q.variable)))

@@ -14,17 +14,9 @@ loop-position-init c = (omega arith, seeding_start _)
 
 pub returns-then-second_label : goal.returns-then-second_label
 returns-then-second_label c =
-    let seconds = c.before.before in
-    let names = seconds.before in
-    let small = names.before in
-    let ys = small.before.before in
-    let xs = ys.before.before in
-    let kinds = xs.before.before in
-    let inside = kinds.before.before in
-    let start = inside.before.before.before in
-    let file = (accepted_file start.args.file.now start.requires.0 start.requires.1).0 in
-    let two = seeding_clash start.args.file.now _ file (λ i. omega (arith, kinds.shared_slice_known-in-loop-position-1.given i)) _ (omega arith) _ _ _ inside.loop-position.invariant.1
-    _ _ _ _ kinds.index-kind.ensures xs.index-x.ensures ys.index-y.ensures small.folded-name.ensures _ names.label_with-new.ensures _ seconds.second_label.ensures c.if-second_label.true in
+    let file = (accepted_file c.args.file.now c.requires.0 c.requires.1).0 in
+    let two = seeding_clash c.args.file.now _ file (λ i. omega (arith, c.shared_slice_known-in-loop-position-1.given i)) _ (omega arith) _ _ _ c.loop-position.invariant.1
+    _ _ _ _ c.index-kind.ensures c.index-x.ensures c.index-y.ensures c.folded-name.ensures _ c.label_with-new.ensures _ c.second_label.ensures c.if-second_label.true in
     record {
       clashes = (λ e. two, λ t. refl);
       cleared = λ e. c.blank.ensures;
@@ -35,32 +27,20 @@ returns-then-second_label c =
 
 pub loop-position-preserved : goal.loop-position-preserved
 loop-position-preserved c =
-    let rights = c.before in
-    let free = rights.before in
-    let seconds = free.before in
-    let names = seconds.before in
-    let small = names.before in
-    let ys = small.before.before in
-    let xs = ys.before.before in
-    let kinds = xs.before.before in
-    let inside = kinds.before.before in
-    let start = inside.before.before.before in
-    let file = (accepted_file start.args.file.now start.requires.0 start.requires.1).0 in (
+    let file = (accepted_file c.args.file.now c.requires.0 c.requires.1).0 in (
       omega arith,
-      seeding_step start.args.file.now _ file (λ i. omega (arith, kinds.shared_slice_known-in-loop-position-1.given i)) _ (omega arith) _ _ _ inside.loop-position.invariant.1
-          _ _ _ _ kinds.index-kind.ensures xs.index-x.ensures ys.index-y.ensures small.folded-name.ensures _ names.label_with-new.ensures _ seconds.second_label.ensures free.if-second_label.false
-          _ _ rights.one.ensures c.one-in-loop-position.ensures,
+      seeding_step c.args.file.now _ file (λ i. omega (arith, c.shared_slice_known-in-loop-position-1.given i)) _ (omega arith) _ _ _ c.loop-position.invariant.1
+          _ _ _ _ c.index-kind.ensures c.index-x.ensures c.index-y.ensures c.folded-name.ensures _ c.label_with-new.ensures _ c.second_label.ensures c.if-second_label.false
+          _ _ c.one.ensures c.one-in-loop-position.ensures,
     )
 
 pub returns : goal.returns
 returns c =
-    let loop = c.before.before in
-    let start = loop.before.before in
-    let file = start.args.file.now in
-    let accepts = (accepted_file file start.requires.0 start.requires.1).0 in
-    let over = no_more file _ accepts loop.loop-position.position (omega arith) in
-    let low = few file _ accepts (λ i. omega (arith, loop.shared_slice_known-1.given i)) in
-    let s = loop.loop-position.invariant.1 in
+    let file = c.args.file.now in
+    let accepts = (accepted_file file c.requires.0 c.requires.1).0 in
+    let over = no_more file _ accepts c.loop-position.position (omega arith) in
+    let low = few file _ accepts (λ i. omega (arith, c.shared_slice_known-1.given i)) in
+    let s = c.loop-position.invariant.1 in
     let w = c.put_together.ensures in
     record {
       clashes = (λ e. let z : ◌≡◌ {A = ℕ} 0 1 = cc in absurd (omega arith), λ t. absurd (one_label _ _ over low _ _ _ s _ w t));

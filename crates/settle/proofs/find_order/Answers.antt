@@ -4,12 +4,10 @@ use Rattle.settle.proofs.find_order.Goals as goal
 
 pub returns : goal.returns
 returns c =
-    let t = c.before in
-    let o = t.before in
     record {
-      same = o.common-same.result;
-      common = o.common-same.ensures;
-      ordered = o.order_rows-before.ensures;
-      columns = t.transpose-after.ensures;
+      same = c.common-same.result;
+      common = c.common-same.ensures;
+      ordered = c.order_rows-before.ensures;
+      columns = c.transpose-after.ensures;
       crossed = c.crossed.ensures;
     }

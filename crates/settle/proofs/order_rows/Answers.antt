@@ -7,6 +7,4 @@ returns-then-grouped-eq0 c = ordered_alone c.requires c.grouped.ensures c.if-gro
 
 pub returns : goal.returns
 returns c =
-    let b = c.before in
-    let a = b.before in
-    ordered a.requires a.reach-lasts.ensures b.reach-firsts.ensures c.chain_rows-2.ensures
+    ordered c.requires c.reach-lasts.ensures c.reach-firsts.ensures c.chain_rows-2.ensures

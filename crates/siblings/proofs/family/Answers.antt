@@ -9,18 +9,12 @@ loop-before-init c = relating_none _ _ _ c.ranges.group.fits
 
 pub returns-then-more-eq0 : goal.returns-then-more-eq0
 returns-then-more-eq0 c =
-    let e = c.before in
-    let u = e.before in
-    related _ _ _ _ _ _ u.loop-before.invariant u.union_rows-later.ensures u.union_rows-earlier.ensures (sym e.except-more.ensures ∙ c.if-more-eq0.true)
+    related _ _ _ _ _ _ c.loop-before.invariant c.union_rows-later.ensures c.union_rows-earlier.ensures (sym c.except-more.ensures ∙ c.if-more-eq0.true)
 
 pub loop-before-smaller : goal.loop-before-smaller
 loop-before-smaller c =
-    let e = c.before in
-    let u = e.before in
-    rw e.except-more.ensures (relating_less _ _ _ _ _ _ u.loop-before.invariant u.union_rows-later.ensures u.union_rows-earlier.ensures (rw (← e.except-more.ensures) c.if-more-eq0.false))
+    rw c.except-more.ensures (relating_less _ _ _ _ _ _ c.loop-before.invariant c.union_rows-later.ensures c.union_rows-earlier.ensures (rw (← c.except-more.ensures) c.if-more-eq0.false))
 
 pub loop-before-preserved : goal.loop-before-preserved
 loop-before-preserved c =
-    let e = c.before in
-    let u = e.before in
-    rw e.except-more.ensures (relating_more _ _ _ _ _ _ u.loop-before.invariant u.union_rows-later.ensures u.union_rows-earlier.ensures)
+    rw c.except-more.ensures (relating_more _ _ _ _ _ _ c.loop-before.invariant c.union_rows-later.ensures c.union_rows-earlier.ensures)

@@ -27,15 +27,13 @@ returns-then-earlier-later-eq0 c =
 
 pub returns : goal.returns
 returns c =
-    let after = c.before in
-    let before = after.before in
-    let earlier = before.before.before in
+    let earlier = c.before.before in
     let later = earlier.before in
     record {
       earlier = _;
       later = _;
       b = _;
       a = _;
-      shares = record { is_earlier = earlier.union_rows-earlier.ensures; is_later = later.union_rows-later.ensures; shared_before = before.spread-new_before.ensures; shared_after = after.spread-new_after.ensures };
+      shares = record { is_earlier = earlier.union_rows-earlier.ensures; is_later = later.union_rows-later.ensures; shared_before = c.spread-new_before.ensures; shared_after = c.spread-new_after.ensures };
       passes = inr c.to_family.ensures;
     }

@@ -5,5 +5,4 @@ use Rattle.siblings.proofs.spread.Goals as goal
 
 pub returns : goal.returns
 returns c =
-    let s = c.before.before in
-    was_spread s.ranges.group.fits s.ranges.across.fits (record { half = _; first = c.raise.ensures; last = c.raise-2.ensures })
+    was_spread c.ranges.group.fits c.ranges.across.fits (record { half = _; first = c.raise.ensures; last = c.raise-2.ensures })

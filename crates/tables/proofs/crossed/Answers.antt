@@ -12,9 +12,8 @@ loop-x-init c = (search rules, crossing_none _ _ _)
 
 pub loop-x-preserved : goal.loop-x-preserved
 loop-x-preserved c =
-    let l = c.before in
-    let v : Fits w16 (row l.args.t l.loop-x.x) = search rules in
-    (search rules, crossing_more _ _ _ _ _ (search rules) v.fits l.loop-x.invariant.1)
+    let v : Fits w16 (row c.args.t c.loop-x.x) = search rules in
+    (search rules, crossing_more _ _ _ _ _ (search rules) v.fits c.loop-x.invariant.1)
 
 pub returns : goal.returns
 returns c = was_crossed _ _ _ _ _ (search rules) c.loop-x.invariant.1 _ refl

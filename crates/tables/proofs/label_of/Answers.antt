@@ -15,25 +15,18 @@ bounds-t-x c = variable_in c
 
 pub returns-then-v-ne0 : goal.returns-then-v-ne0
 returns-then-v-ne0 c =
-    let w = c.before in
-    let l = w.before.before in
-    is_label _ _ _ _ l.loop-left.invariant w.lowest-x.ensures (next_named _ _ _ _ l.loop-left.invariant w.loop-left-test.true w.lowest-x.ensures) c.if-v-ne0.true
+    is_label _ _ _ _ c.loop-left.invariant c.lowest-x.ensures (next_named _ _ _ _ c.loop-left.invariant c.loop-left-test.true c.lowest-x.ensures) c.if-v-ne0.true
 
 pub rest-left-requires : goal.rest-left-requires
 rest-left-requires c = c.loop-left-test.true
 
 pub loop-left-smaller : goal.loop-left-smaller
 loop-left-smaller c =
-    let w = c.before.before in
-    let l = w.before.before in
-    rw (c.rest-left.ensures _ w.lowest-x.ensures) (passed_less _ _ _ _ l.loop-left.invariant w.loop-left-test.true w.lowest-x.ensures)
+    rw (c.rest-left.ensures _ c.lowest-x.ensures) (passed_less _ _ _ _ c.loop-left.invariant c.loop-left-test.true c.lowest-x.ensures)
 
 pub loop-left-preserved : goal.loop-left-preserved
 loop-left-preserved c =
-    let t = c.before in
-    let w = t.before in
-    let l = w.before.before in
-    rw (c.rest-left.ensures _ w.lowest-x.ensures) (passed_more _ _ _ _ l.loop-left.invariant w.loop-left-test.true w.lowest-x.ensures _ (λ i p. p) t.if-v-ne0.false)
+    rw (c.rest-left.ensures _ c.lowest-x.ensures) (passed_more _ _ _ _ c.loop-left.invariant c.loop-left-test.true c.lowest-x.ensures _ (λ i p. p) c.if-v-ne0.false)
 
 pub returns : goal.returns
 returns c = no_label _ _ _ c.loop-left.invariant c.loop-left-test.false

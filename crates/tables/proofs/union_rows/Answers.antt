@@ -24,16 +24,12 @@ rest-left-requires c = c.loop-left-test.true
 
 pub loop-left-smaller : goal.loop-left-smaller
 loop-left-smaller c =
-    let w = c.before in
-    let l = w.before.before in
-    rw (c.rest-left.ensures _ w.lowest-x.ensures) (passed_less _ _ _ _ l.loop-left.invariant.passed w.loop-left-test.true w.lowest-x.ensures)
+    rw (c.rest-left.ensures _ c.lowest-x.ensures) (passed_less _ _ _ _ c.loop-left.invariant.passed c.loop-left-test.true c.lowest-x.ensures)
 
 pub loop-left-preserved : goal.loop-left-preserved
 loop-left-preserved c =
-    let w = c.before in
-    let l = w.before.before in
-    let v : Fits w16 (row l.args.t w.lowest-x.result) = search rules in
-    rw (c.rest-left.ensures _ w.lowest-x.ensures) (uniting_more _ _ _ _ _ l.loop-left.invariant w.loop-left-test.true w.lowest-x.ensures v.fits)
+    let v : Fits w16 (row c.args.t c.lowest-x.result) = search rules in
+    rw (c.rest-left.ensures _ c.lowest-x.ensures) (uniting_more _ _ _ _ _ c.loop-left.invariant c.loop-left-test.true c.lowest-x.ensures v.fits)
 
 pub returns : goal.returns
 returns c = is_union _ _ _ _ c.loop-left.invariant c.loop-left-test.false
