@@ -85,5 +85,6 @@ returns-else-y-lt16 c =
 
 pub returns-else-r-lt16 : goal.returns-else-r-lt16
 returns-else-r-lt16 c =
-    let s = c.before in
-    λ f. none_first document_join _ (tables s f) _ (le_refl _) (none_without_root _ s.requires (tables s f) _ c.all-vars.ensures _ (root c.before) c.if-r-lt16.false)
+    let a = c.before.before in
+    let s = a.before in
+    λ f. none_first document_join _ (tables s f) _ (le_refl _) (none_without_root _ s.requires (tables s f) _ a.all-vars.ensures _ (root c.before) c.if-r-lt16.false)

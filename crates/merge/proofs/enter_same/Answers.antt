@@ -26,7 +26,7 @@ union_two-upper-requires c = (search rules, search rules)
 pub loop-x-init : goal.loop-x-init
 loop-x-init c = (
   (λ T p. p),
-  (λ _. ready_top _ _ _ c.requires.1.1),
+  (λ _. ready_top _ _ _ c.requires.joining.1),
   λ z. let h = c.two_with_gap-x.ensures.some z in
       (subst (Gap _) (sym h.0) h.1, union_at _ _ _ _ h.0 c.union_two-lower.ensures, union_at _ _ _ _ h.0 c.union_two-upper.ensures),
 )
@@ -36,7 +36,7 @@ next_round-r-requires c = let h = c.loop-x.invariant.2 c.loop-x-test.true in (h.
 
 pub returns-then-r : goal.returns-then-r
 returns-then-r c =
-    merged_clash _ _ _ _ c.requires.0.2 c.requires.0.0 c.requires.0.1 _ c.two_with_gap-x.ensures (λ T p. c.next_round-r.ensures.clashes c.if-r.true _ T (c.loop-x.invariant.0 T p))
+    merged_clash _ _ _ _ c.requires.a_lt_n.2 c.requires.a_lt_n.0 c.requires.a_lt_n.1 _ c.two_with_gap-x.ensures (λ T p. c.next_round-r.ensures.clashes c.if-r.true _ T (c.loop-x.invariant.0 T p))
 
 pub loop-x-smaller : goal.loop-x-smaller
 loop-x-smaller c =
@@ -46,8 +46,8 @@ loop-x-smaller c =
 pub loop-x-preserved : goal.loop-x-preserved
 loop-x-preserved c =
     let r = c.next_round-r.ensures in
-    let j = c.requires.1 in
-    let p = c.loop-x.invariant.0 _ (begun _ _ _ _ c.requires.0.2 c.requires.0.0 c.requires.0.1 _ c.two_with_gap-x.ensures j.0 j.1 j.2) in (
+    let j = c.requires.joining in
+    let p = c.loop-x.invariant.0 _ (begun _ _ _ _ c.requires.a_lt_n.2 c.requires.a_lt_n.0 c.requires.a_lt_n.1 _ c.two_with_gap-x.ensures j.0 j.1 j.2) in (
       (λ T p. r.goes_on c.if-r.false _ T (c.loop-x.invariant.0 T p)),
       r.top c.if-r.false _ _ p,
       λ z. (r.gap c.if-r.false _ _ p z, c.union_rows-lower.ensures, c.union_rows-upper.ensures),
@@ -55,5 +55,5 @@ loop-x-preserved c =
 
 pub returns : goal.returns
 returns c =
-    merged_well _ _ _ _ c.requires.0.2 c.requires.0.0 c.requires.0.1 _ c.two_with_gap-x.ensures
+    merged_well _ _ _ _ c.requires.a_lt_n.2 c.requires.a_lt_n.0 c.requires.a_lt_n.1 _ c.two_with_gap-x.ensures
     _ (c.loop-x.invariant.1 c.loop-x-test.false) (λ T p. subst (λ (k : ℕ). Pending c.args.n T k c.loop-x.g) c.loop-x-test.false (c.loop-x.invariant.0 T p))

@@ -73,4 +73,6 @@ loop-rest-preserved c =
 
 pub returns : goal.returns
 returns c =
-    appending_all c.loop-rest.invariant c.loop-rest-test.false c.requires.0.inside
+    let i = c.before in
+    let s = i.before in
+    appending_all i.loop-rest.invariant c.loop-rest-test.false s.requires.0.inside

@@ -25,8 +25,12 @@ started c =
     }
 
 pub returns-then-shared : goal.returns-then-shared
-returns-then-shared c = ended_clash (started c.before.before.before.before) c.share_rows-shared.ensures _ _ c.if-shared.true
+returns-then-shared c = let s = c.before in ended_clash (started s.before.before.before.before) s.share_rows-shared.ensures _ _ c.if-shared.true
 
 pub returns : goal.returns
 returns c =
-    ended_well (started c.before.before.before) c.share_rows-shared.ensures c.if-shared.false c.join_rows-joined.ensures c.whole_groups-root.ensures c.whole_groups-leaf.ensures
+    let j = c.before in
+    let e = j.before.before.before.before.before.before.before in
+    let s = e.before in
+    let l = s.before in
+    ended_well (started l.before.before.before) s.share_rows-shared.ensures e.if-shared.false j.join_rows-joined.ensures l.whole_groups-root.ensures l.whole_groups-leaf.ensures

@@ -18,4 +18,6 @@ leaf_small c = let h : Fits w16 c.pass-p.result.facts.leaf = search rules in h.f
 
 pub returns : goal.returns
 returns c =
-    pass_looked c.pass-p.ensures _ c.label_of-l.ensures (leaf_small c.before.before) _ c.on_document.ensures
+    let d = c.before in
+    let l = d.before in
+    pass_looked l.pass-p.ensures _ l.label_of-l.ensures (leaf_small l.before.before) _ d.on_document.ensures

@@ -30,8 +30,10 @@ put_node-requires-then-element-eq1 c =
 pub returns-then-element-eq1 : goal.returns-then-element-eq1
 unfolding node_bytes
 returns-then-element-eq1 c =
-    recorded_all _ _ 2 _ _ _ (omega (arith, c.if-element-eq1.true))
-    (recorded_more _ _ (λ i j l. l) 1 1 _ _ _ _ refl refl (document c.before.before.before) c.put_node-then-element-eq1.ensures)
+    let q = c.before.before.before in
+    let t = q.before.before in
+    recorded_all _ _ 2 _ _ _ (omega (arith, t.if-element-eq1.true))
+    (recorded_more _ _ (λ i j l. l) 1 1 _ _ _ _ refl refl (document t.before.before.before) q.put_node-then-element-eq1.ensures)
 
 pub returns-else-element-eq1 : goal.returns-else-element-eq1
 returns-else-element-eq1 c =

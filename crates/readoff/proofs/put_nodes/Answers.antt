@@ -63,14 +63,20 @@ node_at-requires c =
 
 pub put_node-requires : goal.put_node-requires
 put_node-requires c =
-    omega (arith, c.node_at.ensures, numbered_later c.args.element _ _ c.loop-i-test.true, c.requires.3, c.loop-i.invariant.1.long)
+    let l = c.before.before.before.before.before.before in
+    let s = l.before.before.before in
+    omega (arith, c.node_at.ensures, numbered_later s.args.element _ _ l.loop-i-test.true, s.requires.3, l.loop-i.invariant.1.long)
 
 pub loop-i-preserved : goal.loop-i-preserved
 loop-i-preserved c =
-    let s = c.before.before in (
+    let a = c.before.before.before.before in
+    let p = a.before.before in
+    let l = p.before.before.before.before in
+    let i = l.before in
+    let s = i.before.before in (
       search rules,
-      recorded_more (numbered s.args.element) _ (numbered_later s.args.element) c.loop-i.i _ _ s.args.answer.now c.loop-i.answer c.put_node.new.answer c.node_at.ensures
-          (group_record_lem _ _ _ _ _ _ _ (order_long s) s.requires.0 c.loop-i.i c.loop-i-test.true _ _ _ c.node_at.ensures c.over.ensures c.parent_of-parent.ensures) c.loop-i.invariant.1 c.put_node.ensures,
+      recorded_more (numbered s.args.element) _ (numbered_later s.args.element) i.loop-i.i _ _ s.args.answer.now i.loop-i.answer c.put_node.new.answer a.node_at.ensures
+          (group_record_lem _ _ _ _ _ _ _ (order_long s) s.requires.0 i.loop-i.i l.loop-i-test.true _ _ _ a.node_at.ensures p.over.ensures p.parent_of-parent.ensures) i.loop-i.invariant.1 c.put_node.ensures,
     )
 
 pub shape_of-answer : goal.shape_of-answer

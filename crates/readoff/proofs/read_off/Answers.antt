@@ -118,8 +118,9 @@ put_front-requires c = ((few c.before).1, omega (arith, (few c.before).1, (s c.b
 
 pub put_nodes-requires : goal.put_nodes-requires
 put_nodes-requires c =
-    let b = c.before.before in
-    (b.in_order-order.ensures.small, omega (arith, (few b).0), (s b).requires.0, omega (arith, (few b).0, (s b).requires.1, c.put_front.auto.0))
+    let p = c.before.before.before in
+    let b = p.before.before in
+    (b.in_order-order.ensures.small, omega (arith, (few b).0), (s b).requires.0, omega (arith, (few b).0, (s b).requires.1, p.put_front.auto.0))
 
 pub node_at-size-requires : goal.node_at-size-requires
 node_at-size-requires c = omega (arith, (few c.before.before.before.before.before.before.before.before.before).0)
@@ -150,9 +151,11 @@ overflow_mul-result c = omega (arith, all_few c.before.before.before.before.befo
 
 pub returns : goal.returns
 returns c =
-    let a = c.before.before in
+    let p = c.before.before.before in
+    let g = p.before.before in
+    let a = g.before.before in
     let b = known a in
     λ S t r.
     file_written (ordered b.before S t r) b.element_of-element.result b.element_of-element.ensures
-    a.node_at-size.result.0 (s b).args.answer.now (front_put a).put_front.new.answer (nodes_put a).put_nodes.new.answer c.put_places.new.answer _ a.node_at-size.ensures (s b).requires.1 (label_bytes (s b))
-    (front_put a).put_front.ensures (nodes_put a).put_nodes.ensures c.put_places.ensures c.assign-nodes.ensures
+    a.node_at-size.result.0 (s b).args.answer.now (front_put a).put_front.new.answer (nodes_put a).put_nodes.new.answer p.put_places.new.answer _ a.node_at-size.ensures (s b).requires.1 (label_bytes (s b))
+    (front_put a).put_front.ensures (nodes_put a).put_nodes.ensures p.put_places.ensures g.assign-nodes.ensures

@@ -94,9 +94,10 @@ bounds-t-y-in-loop-ys-3 c = y_small c.before.before.before.before.before
 
 pub loop-zs-init : goal.loop-zs-init
 loop-zs-init c =
-    let i = c.loop-ys.invariant in
-    let own = next_named _ _ _ _ i.1.1 c.loop-ys-test.true c.lowest-y.ensures in
-    (i.0, (added _ _ _ _ i.1.0 own c.with_rows-s.ensures, passed_none _ _ (visits_small (at_x c.before.before).before.before _ _), grown_none _))
+    let w = c.before.before.before.before.before.before.before in
+    let i = w.loop-ys.invariant in
+    let own = next_named _ _ _ _ i.1.1 w.loop-ys-test.true w.lowest-y.ensures in
+    (i.0, (added _ _ _ _ i.1.0 own c.with_rows-s.ensures, passed_none _ _ (visits_small (at_x w.before.before).before.before _ _), grown_none _))
 
 pub offset_bounds-same-z : goal.offset_bounds-same-z
 offset_bounds-same-z c = doubled _ (z_small c)
@@ -119,12 +120,16 @@ loop-zs-smaller c =
 
 pub loop-zs-preserved : goal.loop-zs-preserved
 loop-zs-preserved c =
-    let l = c.before.before in
+    let g = c.before in
+    let h = g.before in
+    let e = h.before.before in
+    let w = e.before.before in
+    let l = w.before.before in
     let y = at_y l in
     let own = next_named _ _ _ _ y.loop-ys.invariant.1.1 y.loop-ys-test.true y.lowest-y.ensures in (
       l.loop-zs.invariant.0,
-      rw (c.rest-zs.ensures _ c.lowest-z.ensures) (z_step _ _ _ _ _ _ _ _ _ _ _ _ _ l.loop-zs.invariant.1 own c.loop-zs-test.true c.lowest-z.ensures
-          (sym c.has.ensures ∙ c.if-has.false) c.has-in-loop-zs.ensures c.has-in-loop-zs-2.ensures c.with_group-s.ensures),
+      rw (c.rest-zs.ensures _ w.lowest-z.ensures) (z_step _ _ _ _ _ _ _ _ _ _ _ _ _ l.loop-zs.invariant.1 own w.loop-zs-test.true w.lowest-z.ensures
+          (sym e.has.ensures ∙ e.if-has.false) h.has-in-loop-zs.ensures h.has-in-loop-zs-2.ensures g.with_group-s.ensures),
     )
 
 pub loop-ys-smaller : goal.loop-ys-smaller
@@ -134,13 +139,14 @@ loop-ys-smaller c =
 
 pub loop-ys-preserved : goal.loop-ys-preserved
 loop-ys-preserved c =
-    let l = c.before in
+    let z = c.before in
+    let l = z.before in
     let w = at_y l in
     let m = l.before in
     let e = m.before.before.before.before in (
       l.loop-zs.invariant.0,
       rw (c.rest-ys.ensures _ w.lowest-y.ensures) (y_step _ _ _ _ _ _ _ _ _ _ _ w.loop-ys.invariant.1 w.loop-ys-test.true w.lowest-y.ensures
-          (subst (Clashing _ _) e.if-clashes.false e.clashes.ensures) m.with_rows-s.ensures c.loop-zs-test.false l.loop-zs.invariant.1),
+          (subst (Clashing _ _) e.if-clashes.false e.clashes.ensures) m.with_rows-s.ensures z.loop-zs-test.false l.loop-zs.invariant.1),
     )
 
 pub offset_bounds-shares-x : goal.offset_bounds-shares-x
@@ -179,16 +185,18 @@ returns-after-pass c = let i = c.pass.invariant in shared_rows _ _ _ _ _ _ _ i.0
 
 pub returns-then-clashes : goal.returns-then-clashes
 returns-then-clashes c =
-    let l = c.before.before in
+    let w = c.before.before.before in
+    let l = w.before.before in
     let q = c.clashes.ensures.clash c.if-clashes.true in
     let v = l.loop-ys.invariant.1.0.label q.0 in
-    let own = next_named _ _ _ _ l.loop-ys.invariant.1.1 c.loop-ys-test.true c.lowest-y.ensures in
+    let own = next_named _ _ _ _ l.loop-ys.invariant.1.1 w.loop-ys-test.true w.lowest-y.ensures in
     shared_clash _ _ _ _ _ (two_labels _ v.0 _ (at_x l).pass-test.true v.1 own (λ e. q.0 (sym v.2 ∙ e)) q.1 (λ e. q.2 (sym v.2 ∙ e)))
 
 pub returns-then-has : goal.returns-then-has
 returns-then-has c =
-    let l = c.before.before in
+    let w = c.before.before in
+    let l = w.before.before in
     let y = at_y l in
     let own = next_named _ _ _ _ y.loop-ys.invariant.1.1 y.loop-ys-test.true y.lowest-y.ensures in
-    let far = (in_both _ _ _ (next_named _ _ _ _ l.loop-zs.invariant.1.1 c.loop-zs-test.true c.lowest-z.ensures)).0 in
+    let far = (in_both _ _ _ (next_named _ _ _ _ l.loop-zs.invariant.1.1 w.loop-zs-test.true w.lowest-z.ensures)).0 in
     shared_clash _ _ _ _ _ (apart _ _ _ (at_x y.before.before).pass-test.true own far (sym c.has.ensures ∙ c.if-has.true))
