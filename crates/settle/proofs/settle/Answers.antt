@@ -108,7 +108,7 @@ returns-then-blank c =
       kept = λ d. absurd (false≢true d);
       settles = λ d S s.
           let g = seeds e S s in
-          ready _ S _ g (closes m S s).passed (closes m S s).bare (no_siblings (start e).requires.0 g c.blank.ensures c.if-blank.true);
+          ready _ S _ g (closes m S s).passed (closes m S s).bare (no_siblings (start e).requires.n_bound g c.blank.ensures c.if-blank.true);
     }
 
 -- where before was shared and chained
@@ -119,7 +119,7 @@ rowed : (c : After-find_order-o) → let e = (ends c).before.before in Rowed (st
 rowed c =
     let m = ends c in
     let s = (start m.before.before).requires in
-    record { few = s.0; columns = (closes m s.1.0 s.1.1).passed.ancestors; order = c.find_order-o.ensures; after_long = search rules }
+    record { few = s.n_bound; columns = (closes m s.seeded.0 s.seeded.1).passed.ancestors; order = c.find_order-o.ensures; after_long = search rules }
 
 pub returns-then-o : goal.returns-then-o
 returns-then-o c = record {
