@@ -18,25 +18,6 @@ use Rattle.readoff.proofs.Written.{assigned_none, assigned_more}
 use borrow.Author.Rules.{rules}
 use Rattle.readoff.proofs.assign.Goals as goal
 
--- it is not on the document node
-under : (c : goal.Else-has) → ¬ Yes (bit c.args.root c.loop-x.x)
-under c = not_yes (sym c.has.ensures ∙ c.if-has.false)
-
--- the place that is read is that of the variable's group
-place_read : (c : goal.After-lowest-low) → let i = c.before.before.before.before in let s = i.before.before in (gs : List ℕ)
-    → Placed gs i.places-at.result → Led s.args.below s.args.above s.args.root s.args.n gs
-    → row i.places-at.result c.lowest-low.result ≡ position (bit (bit_and (row s.args.above i.loop-x.x) (row s.args.below i.loop-x.x))) gs
-place_read c gs p w =
-    let i = c.before.before.before.before in
-    let s = i.before.before in
-    place_led s.args.below s.args.above _ _ gs i.places-at.result w p i.loop-x.x _ (search rules) (under c.before) c.lowest-low.ensures
-
--- it is a place of the order
-place_small : (c : goal.After-lowest-low) → row c.places-at.result c.lowest-low.result ≤ c.args.order.len
-place_small c =
-    rw (place_read c (groups c.args.order) c.places-at.ensures c.requires.3)
-    (place_most (bit (bit_and (row c.args.above c.loop-x.x) (row c.args.below c.loop-x.x))) c.args.order (search (rules, length_mapped)) c.requires.0)
-
 pub places-at-requires : goal.places-at-requires
 places-at-requires c = c.requires.0
 
@@ -55,21 +36,29 @@ loop-x-preserved-then-has c =
 
 pub bounds-at-low : goal.bounds-at-low
 bounds-at-low c =
-    c.requires.0.inside _ (c.requires.3 c.loop-x.x _ (search rules) (under c.before) c.lowest-low.ensures).0
+    c.requires.0.inside _ (c.requires.3 c.loop-x.x _ (search rules) (not_yes (sym c.has.ensures ∙ c.if-has.false)) c.lowest-low.ensures).0
 
+-- the place that is read is that of the variable's group, a place of the order
 pub node_at-requires : goal.node_at-requires
-node_at-requires c = numbered_fits _ _ _ (place_small c) c.requires.1
+node_at-requires c =
+    let gs = groups c.args.order in
+    let p = c.places-at.ensures in
+    let v = c.requires.3 in
+    let at : row c.places-at.result c.lowest-low.result ≡ position (bit (bit_and (row c.args.above c.loop-x.x) (row c.args.below c.loop-x.x))) gs =
+        place_led c.args.below c.args.above _ _ gs c.places-at.result v p c.loop-x.x _ (search rules) (not_yes (sym c.has.ensures ∙ c.if-has.false)) c.lowest-low.ensures in
+    numbered_fits _ _ _
+    (rw at (place_most (bit (bit_and (row c.args.above c.loop-x.x) (row c.args.below c.loop-x.x))) c.args.order (search (rules, length_mapped)) c.requires.0))
+    c.requires.1
 
 pub loop-x-preserved : goal.loop-x-preserved
 unfolding place_in
 loop-x-preserved c =
-    let w = c.before in
-    let i = w.before.before.before.before in
-    let s = i.before.before in (
+    (
       search rules,
       search rules,
-      λ gs p v. assigned_more i.loop-x.nodes i.loop-x.x _ (place_in s.args.below s.args.above s.args.root s.args.element gs) (search rules)
-          (c.node_at.ensures ∙ ap (numbered s.args.element) (place_read w gs p v) ∙ pick_off _ _ _ (yes_not (under w.before))) (i.loop-x.invariant.2 gs p v),
+      λ gs p v. assigned_more c.loop-x.nodes c.loop-x.x _ (place_in c.args.below c.args.above c.args.root c.args.element gs) (search rules)
+          (c.node_at.ensures ∙ ap (numbered c.args.element) (place_led c.args.below c.args.above _ _ gs c.places-at.result v p c.loop-x.x _ (search rules) (not_yes (sym c.has.ensures ∙ c.if-has.false)) c.lowest-low.ensures)
+          ∙ pick_off _ _ _ (yes_not (not_yes (sym c.has.ensures ∙ c.if-has.false)))) (c.loop-x.invariant.2 gs p v),
     )
 
 pub returns : goal.returns

@@ -109,7 +109,7 @@ in_order-order-requires c =
     let s = c.before.before.before.before in
     let p = s.requires.2 in (
       s.requires.0,
-      room_for (ready s) s.args.n c.lows-low.result c.layers-layer.result s.requires.0 p.2.mirrored.ancestors c.lows-low.ensures (layered c) (says s p.0 p.1 p.2),
+      room_for (ready s) s.args.n c.lows-low.result c.layers-layer.result s.requires.0 p.2.mirrored.ancestors c.lows-low.ensures (layered c.before) (says s p.0 p.1 p.2),
       strict (ready s) s.args.n s.requires.0 p.0 p.2 (search rules) (after_rows s),
     )
 
@@ -120,7 +120,7 @@ pub put_nodes-requires : goal.put_nodes-requires
 put_nodes-requires c =
     let p = c.before.before.before in
     let b = p.before.before in
-    (b.in_order-order.ensures.small, omega (arith, (few b).0), (s b).requires.0, omega (arith, (few b).0, (s b).requires.1, p.put_front.auto.0))
+    (b.in_order-order.ensures.small, omega (arith, (few b).0), (s b).requires.0, omega (arith, (few b).0, (s b).requires.1, p.put_front.auto.answer))
 
 pub node_at-size-requires : goal.node_at-size-requires
 node_at-size-requires c = omega (arith, (few c.before.before.before.before.before.before.before.before.before).0)
@@ -141,7 +141,7 @@ pub put_places-requires : goal.put_places-requires
 put_places-requires c =
     let a = c.before.before.before in
     let b = known a in
-    ((s b).requires.0, omega (arith, all_few a, (s b).requires.1, (front_put a).put_front.auto.0, (nodes_put a).put_nodes.auto.0))
+    ((s b).requires.0, omega (arith, all_few a, (s b).requires.1, (front_put a).put_front.auto.answer, (nodes_put a).put_nodes.auto.answer))
 
 pub overflow_add-result : goal.overflow_add-result
 overflow_add-result c = omega (arith, all_few c.before.before.before.before.before.before.before)
