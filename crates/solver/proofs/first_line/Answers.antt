@@ -10,7 +10,7 @@ returns-then-seeds c = seeds_clash _ _ c.requires _ c.seed-seeds.ensures c.if-se
 
 pub settle-requires : goal.settle-requires
 settle-requires c =
-    (c.requires.few, (_, seeds_seeded _ _ c.requires _ c.seed-seeds.ensures c.if-seeds.false))
+    record { n_bound = c.requires.few; seeded = (_, seeds_seeded _ _ c.requires _ c.seed-seeds.ensures c.if-seeds.false) }
 
 pub returns : goal.returns
 returns c =

@@ -4,7 +4,7 @@ use borrow.Author.Rules.{rules}
 use Rattle.solver.proofs.search_over.Goals as goal
 
 pub search-requires : goal.search-requires
-search-requires c = ((c.requires.few, omega arith), (_, c.first_line-first.ensures))
+search-requires c = record { n_bound = (c.requires.few, omega arith); line = (_, c.first_line-first.ensures) }
 
 pub returns : goal.returns
 returns c = c.search.ensures _ c.first_line-first.ensures
