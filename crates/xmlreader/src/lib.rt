@@ -1,6 +1,7 @@
 // Reads a tree that was written as XML: the outermost element to the end of the text, the elements inside it, and theirs. Parents and labels are
 // gathered in document order; all of the text is read before a byte is written.
 #![tactic(auto)]
+
 ghost use Rattle.std.specs.Prelude.{◌≡◌, ◌*◌, ◌≤◌, length};
 ghost use Rattle.meaning.specs.Results.{fill_wrote};
 ghost use Rattle.lent.specs.Filling.{AnswerOf};
@@ -75,6 +76,7 @@ fn closes(text: &[u8], at: usize, name: u8) -> bool
 
 // One element under the node `up`, and all that is inside it. That none starts there is an answer of its own, so that nobody asks before.
 #[cycle(element_elements)]
+#[tactic(auto, using(crate::proofs::Single::miss_many))]
 fn element(
     text: &[u8],
     at: usize,

@@ -1,6 +1,7 @@
 // Writes a tree as XML. Its node records are asked 8 to 11, the lent buffer 17, its labels 15. Then each node's first child and next sibling are linked,
 // and the elements are written from the outermost one on: everything is read before a byte is written.
 #![tactic(auto)]
+
 ghost use Rattle.std.specs.Prelude.{◌≡◌, [], ◌∷◌, map, ◌+◌, ◌≤◌, length, get_or, replicate};
 ghost use Rattle.meaning.specs.Files.{quads, node_of};
 ghost use Rattle.meaning.specs.Results.{fill_wrote};

@@ -5,7 +5,6 @@ use native.Mathlib.Omega.{arith}
 use lib.Dec.{eqb}
 use Rattle.xmlreader.specs.Reading.{empty_at}
 use Rattle.xmlreader.proofs.Bytes.{first_no, first_yes, byte_there}
-use borrow.Author.Rules.{rules}
 use Rattle.xmlreader.proofs.is_empty.Goals as goal
 
 pub returns-then-byte_at-ne47 : goal.returns-then-byte_at-ne47

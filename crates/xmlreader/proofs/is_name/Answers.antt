@@ -2,7 +2,6 @@
 use borrow.Author.Tests.{eq-eqb, ne_eqb}
 use Rattle.meaning.specs.Finite.{◌or◌}
 use Rattle.theory.specs.Xml.{is_name}
-use borrow.Author.Rules.{rules}
 use Rattle.xmlreader.proofs.is_name.Goals as goal
 
 pub returns-then-byte-eq95 : goal.returns-then-byte-eq95

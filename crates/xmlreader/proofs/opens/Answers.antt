@@ -4,7 +4,6 @@ use native.Mathlib.Omega.{arith}
 use Rattle.theory.specs.Xml.{is_name}
 use Rattle.xmlreader.specs.Reading.{opens_at}
 use Rattle.xmlreader.proofs.Bytes.{first_no, first_yes, byte_there}
-use borrow.Author.Rules.{rules}
 use Rattle.xmlreader.proofs.opens.Goals as goal
 
 pub returns-then-byte_at-ne60 : goal.returns-then-byte_at-ne60

@@ -1,12 +1,5 @@
-use mathlib.Core.Path.{◌≡◌, refl, sym, ◌∙◌}
-use mathlib.Core.List.{map}
-use Prim.Native.Nat.{◌-◌, ◌/◌}
-use lib.ListN.{length, drop}
-use borrow.Author.Tests.{not-true, not-false}
-use Rattle.meaning.specs.Files.{quads, node_of}
-use Rattle.meaning.specs.Xml.{records_nameable}
+use mathlib.Core.Path.{refl, sym, ◌∙◌}
 use Rattle.xmlwriter.proofs.Labels.{labels_none, labels_one, labels_stop}
-use borrow.Author.Rules.{rules}
 use Rattle.xmlwriter.proofs.all_nameable.Goals as goal
 
 pub loop-i-init : goal.loop-i-init

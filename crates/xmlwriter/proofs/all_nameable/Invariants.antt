@@ -1,13 +1,10 @@
 -- `xmlwriter::all_nameable` meets its contract: at every record the question of the rest is the question of all.
-use mathlib.Core.Path.{◌≡◌, refl, sym, ◌∙◌}
+use mathlib.Core.Path.{◌≡◌}
 use mathlib.Core.List.{map}
 use Prim.Native.Nat.{◌-◌, ◌/◌}
 use lib.ListN.{length, drop}
-use borrow.Author.Tests.{not-true, not-false}
 use Rattle.meaning.specs.Files.{quads, node_of}
 use Rattle.meaning.specs.Xml.{records_nameable}
-use Rattle.xmlwriter.proofs.Labels.{labels_none, labels_one, labels_stop}
-use borrow.Author.Rules.{rules}
 use Rattle.xmlwriter.proofs.all_nameable.Given as goal
 
 abbrev pub invariant-loop-i : goal.invariant-loop-i

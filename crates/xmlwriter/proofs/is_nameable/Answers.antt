@@ -1,5 +1,4 @@
 -- `xmlwriter::is_nameable` meets its contract: 0, or what `is_letter` says.
-use borrow.Author.Rules.{rules}
 use borrow.Author.Tests.{eq-eqb, ne_eqb}
 use Rattle.meaning.specs.Finite.{◌or◌}
 use Rattle.meaning.specs.Xml.{is_nameable}

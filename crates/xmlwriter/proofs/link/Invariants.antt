@@ -1,10 +1,8 @@
 -- `xmlwriter::link` meets its contract: at k the links of the nodes from k on hold all children from k on.
-use mathlib.Core.Path.{◌≡◌, ap, ◌∙◌}
-use Prim.Native.Nat.{ℕ, ◌+◌, ◌-◌, ◌*◌, ◌/◌, ◌≤◌}
-use native.Mathlib.Omega.{arith}
-use lib.ListN.{length, length-set, length-replicate}
-use Rattle.xmlwriter.proofs.Linking.{HeldFrom, link_start, up_small, link_step, link_end}
-use borrow.Author.Rules.{rules}
+use mathlib.Core.Path.{◌≡◌}
+use Prim.Native.Nat.{◌/◌, ◌≤◌}
+use lib.ListN.{length}
+use Rattle.xmlwriter.proofs.Linking.{HeldFrom}
 use Rattle.xmlwriter.proofs.link.Given as goal
 
 abbrev pub invariant-loop-k : goal.invariant-loop-k

@@ -1,7 +1,6 @@
 -- `xmlwriter::put_four` meets its contract.
 use native.Mathlib.Omega.{arith}
 use lib.ListN.{length-set}
-use borrow.Author.Rules.{rules}
 use Rattle.lent.proofs.Stores.{put_four}
 use Rattle.xmlwriter.proofs.put_four.Goals as goal
 
