@@ -1,5 +1,6 @@
 // A step's axis and test at a place in a text of paths: what the axis writes, the byte of the test, and the place behind them.
 #![tactic(auto)]
+
 ghost use Rattle.std.specs.Prelude.{◌≡◌, true, ◌+◌, ◌<◌, ◌≤◌, length, drop};
 ghost use Rattle.theory.specs.PathReader.{axis_at, move_at};
 ghost use Rattle.theory.specs.Reader.{front};

@@ -18,7 +18,6 @@ use Rattle.meaning.specs.PathRecords.{Sheet, next_taken, with_records, rooted_by
 use Rattle.meaning.proofs.Tests.{clash, yes_case, pick_yes, pick_no, is_lt, lt_yes, eq_yes, is_eq}
 use Rattle.theory.proofs.PathFile.{file_length}
 use Rattle.meaning.proofs.PathSheets.{letter_range, rooted_next}
-use Rattle.axes.specs.declared.Axis.{Axis}
 use Rattle.axes.specs.Moving.{axis_for}
 use Rattle.sheet.specs.Bytes.{next_in, root_in, bytes_in, numbered_in, put_in, rooted_in, axis_in, move_in, Follows, For}
 

@@ -1,5 +1,6 @@
 // The sheet on which the records of a text are gathered: numbers are given away, and records put. What is pub is so only because crates are split.
 #![tactic(auto)]
+
 ghost use Rattle.std.specs.Prelude.{◌≡◌};
 ghost use Rattle.sheet.specs.Bytes.{next_in, root_in, numbered_in, put_in, rooted_in, axis_in, move_in};
 

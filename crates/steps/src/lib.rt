@@ -1,5 +1,6 @@
 // The steps of a path: of one in brackets, and of a line. `end_steps` is pub only because crates are split: the caller shows what it requires.
 #![tactic(auto)]
+
 ghost use Rattle.std.specs.Prelude.{◌≡◌, ◌<◌, ◌≤◌, length, drop};
 ghost use Rattle.theory.specs.PathReader.{goes_on};
 ghost use Rattle.steps.specs.Reading.{end_number, end_numbered, Ahead, Level, PathRead, StepsRead, StepRead, BracketsRead, EndRead};

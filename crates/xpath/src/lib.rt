@@ -1,5 +1,6 @@
 // Questions set as paths: a text of 1 to 8 lines is read, its nodes are numbered and its records are gathered on a sheet; then they are written.
 #![tactic(auto)]
+
 ghost use Rattle.std.specs.Prelude.{◌≡◌, ◌++◌, ◌≤◌, length, take, drop};
 ghost use Rattle.meaning.specs.Results.{fill_wrote};
 ghost use Rattle.theory.specs.PathReader.{read_paths};
@@ -13,6 +14,12 @@ use steps::end_steps;
 
 // The kind of record of a line that is `/` alone.
 const SAME: u8 = 4;
+
+// The fewest bytes of a buffer for records.
+const BUFFER: usize = 1024;
+
+// The most variables of a text.
+const VARIABLES: u8 = 16;
 
 fn line(s: &[u8], at: usize, sheet: &mut [u8; SHEET_BYTES]) -> usize
     requires { at ≤ length s.now }
@@ -72,7 +79,7 @@ pub fn read(text: &[u8], records: &mut [u8]) -> Answer
     ensures answer_of { AnswerOf (read_paths text.now records.old) result }
     ensures wrote { records.new ≡ fill_wrote (read_paths text.now records.old) records.old }
 {
-    if records.len() < 1024 {
+    if records.len() < BUFFER {
         return Answer::Refused(7);
     }
     if 1024 < text.len() {
@@ -86,7 +93,7 @@ pub fn read(text: &[u8], records: &mut [u8]) -> Answer
     if !lines(text, 0, 8, &mut sheet) {
         return Answer::Refused(13);
     }
-    if 16 < sheet[NEXT] {
+    if VARIABLES < sheet[NEXT] {
         return Answer::Refused(14);
     }
     let bytes = sheet[LENGTH] as usize;

@@ -1,12 +1,7 @@
-use mathlib.Core.Path.{◌≡◌, sym, ◌∙◌}
-use mathlib.Core.Bool.{false≢true}
+use mathlib.Core.Path.{◌≡◌}
 use Prim.Native.Nat.{◌+◌, ◌≤◌, ◌-◌}
-use native.Mathlib.Nat.{add-zero, add_assoc}
-use native.Mathlib.Omega.{arith}
-use lib.ListN.{length, drop, length-drop}
+use lib.ListN.{length, drop}
 use Rattle.theory.specs.Reader.{front}
-use Rattle.axes.proofs.Front.{front_short, front_more, front_miss, front_end}
-use borrow.Author.Rules.{rules}
 use Rattle.axes.proofs.starts.Given as goal
 
 abbrev pub invariant-loop-i : goal.invariant-loop-i

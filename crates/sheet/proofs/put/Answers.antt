@@ -1,5 +1,4 @@
 use Rattle.sheet.proofs.Small.{put_full, put_more}
-use borrow.Author.Rules.{rules}
 use Rattle.sheet.proofs.put.Goals as goal
 
 pub returns-then-bytes-gt188 : goal.returns-then-bytes-gt188

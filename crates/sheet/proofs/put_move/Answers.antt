@@ -1,9 +1,8 @@
 use Rattle.sheet.proofs.Small.{move_any, move_letter}
-use borrow.Author.Rules.{rules}
 use Rattle.sheet.proofs.put_move.Goals as goal
 
 pub returns-then-test-eq42 : goal.returns-then-test-eq42
-returns-then-test-eq42 c = let p = c.before in let a = p.args in move_any a.sheet.now a.axis a.test a.x a.y p.put_axis.ensures c.if-test-eq42.true
+returns-then-test-eq42 c = let a = c.args in move_any a.sheet.now a.axis a.test a.x a.y c.put_axis.ensures c.if-test-eq42.true
 
 pub returns : goal.returns
-returns c = let e = c.before.before in let p = e.before in let a = p.args in move_letter a.sheet.now a.axis a.test a.x a.y p.put_axis.ensures e.if-test-eq42.false c.put.ensures
+returns c = let a = c.args in move_letter a.sheet.now a.axis a.test a.x a.y c.put_axis.ensures c.if-test-eq42.false c.put.ensures

@@ -1,16 +1,7 @@
-use mathlib.Core.Path.{refl, sym, ◌∙◌}
 use mathlib.Core.List.{List}
 use Prim.Native.Nat.{ℕ, ◌-◌, ◌≤◌}
-use native.Mathlib.Nat.{le_refl, lt_irrefl}
-use native.Mathlib.Omega.{arith}
-use lib.Dec.{lit<}
-use lib.ListN.{length, drop}
-use Rattle.theory.specs.PathReader.{move_at, goes_on}
+use lib.ListN.{length}
 use Rattle.steps.specs.Reading.{EndRead}
-use Rattle.axes.proofs.Moves.{byte_inside}
-use Rattle.steps.proofs.Returns.{above, move_some}
-use Rattle.steps.proofs.EndReturns.{end_not, end_bad, end_one, end_more}
-use borrow.Author.Rules.{rules}
 use Rattle.steps.proofs.end_steps.Given as goal
 
 abbrev pub invariant-loop-axis : goal.invariant-loop-axis

@@ -1,12 +1,7 @@
-use mathlib.Core.Path.{◌≡◌, sym, ap, ◌∙◌}
-use Prim.Native.Nat.{ℕ, ◌+◌, ◌-◌, ◌≤◌, ◌<◌}
-use native.Mathlib.Omega.{arith}
-use lib.Dec.{eqb, lit<}
+use mathlib.Core.Path.{◌≡◌}
+use Prim.Native.Nat.{◌-◌, ◌≤◌, ◌<◌}
 use lib.ListN.{length, drop}
 use Rattle.theory.specs.PathReader.{goes_on}
-use Rattle.axes.proofs.Moves.{byte_inside}
-use Rattle.steps.proofs.Scan.{goes_on_end, goes_on_open, goes_on_close, goes_on_inside, goes_on_now, goes_on_last, goes_on_next, other_one}
-use borrow.Author.Rules.{rules}
 use Rattle.steps.proofs.goes_on.Given as goal
 
 abbrev pub invariant-loop-i : goal.invariant-loop-i

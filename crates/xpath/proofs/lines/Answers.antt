@@ -1,15 +1,11 @@
 use mathlib.Core.Path.{sym, ◌∙◌}
-use mathlib.Core.Bool.{Bool, true, false}
-use mathlib.Core.List.{List}
-use Prim.Native.Nat.{ℕ, ◌-◌, ◌≤◌}
+use mathlib.Core.Bool.{true, false}
 use native.Mathlib.Omega.{arith}
 use lib.Dec.{lit<}
 use lib.ListN.{length}
-use Rattle.xpath.specs.Reading.{LinesRead}
 use Rattle.axes.proofs.Moves.{byte_inside}
 use Rattle.steps.proofs.Returns.{above}
 use Rattle.xpath.proofs.LineReturns.{other, lines_end, lines_over, lines_bad, lines_open, lines_more}
-use borrow.Author.Rules.{rules}
 use Rattle.xpath.proofs.lines.Goals as goal
 
 pub loop-i-init : goal.loop-i-init
@@ -25,7 +21,6 @@ returns-then-left-eq0 c =
 
 pub line-end-requires : goal.line-end-requires
 line-end-requires c =
-    let s = c.args.s.now in
     let l = c.loop-i in
     l.invariant.0
 
@@ -36,7 +31,7 @@ returns-then-end-eq0 c =
     let e = other l.i (length s) l.invariant.0 c.loop-i-test.true in
     let t = c.line-end in
     let n = c.if-left-eq0.false in
-    l.invariant.1 false t.new.1.1.0 (lines_bad s l.i l.sheet e t.result t.new.1.1.0 t.ensures.0 l.left n c.if-end-eq0.true)
+    l.invariant.1 false t.new.sheet (lines_bad s l.i l.sheet e t.result t.new.sheet t.ensures.line_read l.left n c.if-end-eq0.true)
 
 pub returns-then-byte_at-ne10 : goal.returns-then-byte_at-ne10
 returns-then-byte_at-ne10 c =
@@ -45,41 +40,29 @@ returns-then-byte_at-ne10 c =
     let e = other l.i (length s) l.invariant.0 c.loop-i-test.true in
     let t = c.line-end in
     let n = c.if-left-eq0.false in
-    l.invariant.1 false t.new.1.1.0 (lines_open s l.i l.sheet e t.result t.new.1.1.0 t.ensures.0 c.if-end-eq0.false l.left n (λ h. c.if-byte_at-ne10.true (c.byte_at.ensures ∙ h)))
+    l.invariant.1 false t.new.sheet (lines_open s l.i l.sheet e t.result t.new.sheet t.ensures.line_read c.if-end-eq0.false l.left n (λ h. c.if-byte_at-ne10.true (c.byte_at.ensures ∙ h)))
 
 pub overflow_add-i : goal.overflow_add-i
 overflow_add-i c =
     let s = c.args.s.now in
-    let l = c.loop-i in
-    let e = other l.i (length s) l.invariant.0 c.loop-i-test.true in
     let t = c.line-end in
-    let n = c.if-left-eq0.false in
-    let g = c.if-end-eq0.false in
     let u = sym c.byte_at.ensures ∙ c.if-byte_at-ne10.false in
     let i = byte_inside s t.result 10 (sym u) (lit< tt) in
-    let f = t.ensures.1 (above g) in
     omega (arith, i)
 
 pub overflow_sub-left : goal.overflow_sub-left
 overflow_sub-left c =
-    let s = c.args.s.now in
-    let l = c.loop-i in
-    let e = other l.i (length s) l.invariant.0 c.loop-i-test.true in
-    let t = c.line-end in
     let n = c.if-left-eq0.false in
     omega (arith, above n)
 
 pub loop-i-smaller : goal.loop-i-smaller
 loop-i-smaller c =
     let s = c.args.s.now in
-    let l = c.loop-i in
-    let e = other l.i (length s) l.invariant.0 c.loop-i-test.true in
     let t = c.line-end in
-    let n = c.if-left-eq0.false in
     let g = c.if-end-eq0.false in
     let u = sym c.byte_at.ensures ∙ c.if-byte_at-ne10.false in
     let i = byte_inside s t.result 10 (sym u) (lit< tt) in
-    let f = t.ensures.1 (above g) in
+    let f = t.ensures.ahead (above g) in
     omega (arith, i, f.0)
 
 pub loop-i-preserved : goal.loop-i-preserved
@@ -92,8 +75,7 @@ loop-i-preserved c =
     let g = c.if-end-eq0.false in
     let u = sym c.byte_at.ensures ∙ c.if-byte_at-ne10.false in
     let i = byte_inside s t.result 10 (sym u) (lit< tt) in
-    let f = t.ensures.1 (above g) in
-    (omega (arith, i), λ r q h. l.invariant.1 r q (lines_more s l.i l.sheet e t.result t.new.1.1.0 t.ensures.0 g l.left r q n u h))
+    (omega (arith, i), λ r q h. l.invariant.1 r q (lines_more s l.i l.sheet e t.result t.new.sheet t.ensures.line_read g l.left r q n u h))
 
 pub returns : goal.returns
 returns c =

@@ -1,95 +1,79 @@
 use native.Mathlib.Omega.{arith}
-use borrow.Author.Tests.{not-true, not-false}
 use Rattle.xpath.proofs.Answering.{short_answer, long_answer, empty_answer, bad_answer, many_answer, room, written_answer}
-use borrow.Author.Rules.{rules}
 use Rattle.xpath.proofs.read.Goals as goal
 
-pub returns-then-records-lt1024 : goal.returns-then-records-lt1024
-returns-then-records-lt1024 c =
+pub returns-then-records-lt-BUFFER : goal.returns-then-records-lt-BUFFER
+returns-then-records-lt-BUFFER c =
     let a = c.args in
-    short_answer a.text.now a.records-1.now (omega (arith, c.if-records-lt1024.true))
+    let h = short_answer a.text.now a.records.now (omega (arith, c.if-records-lt-BUFFER.true)) in
+    record { answer_of = h.0; wrote = h.1 }
 
 pub returns-then-text-gt1024 : goal.returns-then-text-gt1024
 returns-then-text-gt1024 c =
-    let f = c.before in
-    let a = f.args in
+    let a = c.args in
     let s = a.text.now in
-    let b = a.records-1.now in
-    long_answer s b f.if-records-lt1024.false c.if-text-gt1024.true
+    let b = a.records.now in
+    let h = long_answer s b c.if-records-lt-BUFFER.false c.if-text-gt1024.true in
+    record { answer_of = h.0; wrote = h.1 }
 
 pub returns-then-text-eq0 : goal.returns-then-text-eq0
 returns-then-text-eq0 c =
-    let f = c.before.before in
-    let a = f.args in
+    let a = c.args in
     let s = a.text.now in
-    let b = a.records-1.now in
-    empty_answer s b f.if-records-lt1024.false c.if-text-eq0.true
+    let b = a.records.now in
+    let h = empty_answer s b c.if-records-lt-BUFFER.false c.if-text-eq0.true in
+    record { answer_of = h.0; wrote = h.1 }
 
 pub returns-then-not-lines : goal.returns-then-not-lines
 returns-then-not-lines c =
-    let f = c.before.before.before.before.before in
-    let a = f.args in
+    let a = c.args in
     let s = a.text.now in
-    let b = a.records-1.now in
+    let b = a.records.now in
     let t = c.lines in
     let few = c.if-text-gt1024.false in
     let some = c.if-text-eq0.false in
-    bad_answer s b f.if-records-lt1024.false few some t.result t.new.1.1.1.0 t.ensures c.if-not-lines.true
+    let h = bad_answer s b c.if-records-lt-BUFFER.false few some t.result t.new.sheet t.ensures c.if-not-lines.true in
+    record { answer_of = h.0; wrote = h.1 }
 
-pub returns-then-sheet-gt16 : goal.returns-then-sheet-gt16
-returns-then-sheet-gt16 c =
-    let f = c.before.before.before.before.before.before in
-    let a = f.args in
+pub returns-then-sheet-gt-VARIABLES : goal.returns-then-sheet-gt-VARIABLES
+returns-then-sheet-gt-VARIABLES c =
+    let a = c.args in
     let s = a.text.now in
-    let b = a.records-1.now in
+    let b = a.records.now in
     let t = c.lines in
     let few = c.if-text-gt1024.false in
     let some = c.if-text-eq0.false in
-    many_answer s b f.if-records-lt1024.false few some t.result t.new.1.1.1.0 t.ensures c.if-not-lines.false (omega (arith, c.if-sheet-gt16.true))
+    let h = many_answer s b c.if-records-lt-BUFFER.false few some t.result t.new.sheet t.ensures c.if-not-lines.false (omega (arith, c.if-sheet-gt-VARIABLES.true)) in
+    record { answer_of = h.0; wrote = h.1 }
 
 pub overflow_cast-bytes : goal.overflow_cast-bytes
 overflow_cast-bytes c =
-    let f = c.before.before.before.before.before.before in
-    let a = f.args in
+    let a = c.args in
     let s = a.text.now in
-    let b = a.records-1.now in
+    let b = a.records.now in
     let t = c.lines in
     let few = c.if-text-gt1024.false in
     let some = c.if-text-eq0.false in
-    omega (arith, (room s b f.if-records-lt1024.false few some t.result t.new.1.1.1.0 t.ensures c.if-not-lines.false c.if-sheet-gt16.false).0)
+    omega (arith, (room s b c.if-records-lt-BUFFER.false few some t.result t.new.sheet t.ensures c.if-not-lines.false c.if-sheet-gt-VARIABLES.false).0)
 
 pub copy-requires : goal.copy-requires
 copy-requires c =
-    let f = c.before.before.before.before.before.before.before.before in
-    let a = f.args in
+    let a = c.args in
     let s = a.text.now in
-    let b = a.records-1.now in
+    let b = a.records.now in
     let t = c.lines in
     let few = c.if-text-gt1024.false in
     let some = c.if-text-eq0.false in
-    let e = c.before.before in
-    let m = room s b f.if-records-lt1024.false few some t.result t.new.1.1.1.0 t.ensures e.if-not-lines.false e.if-sheet-gt16.false in
-    (omega (arith, m.0), omega (arith, m.0, m.1), omega (arith, m.0, f.if-records-lt1024.false))
-
-pub shape_of-records : goal.shape_of-records
-shape_of-records c =
-    let f = c.before.before.before.before.before.before.before.before.before.before.before in
-    let a = f.args in
-    let s = a.text.now in
-    let b = a.records-1.now in
-    let t = c.lines in
-    let few = c.if-text-gt1024.false in
-    let some = c.if-text-eq0.false in
-    search rules
+    let m = room s b c.if-records-lt-BUFFER.false few some t.result t.new.sheet t.ensures c.if-not-lines.false c.if-sheet-gt-VARIABLES.false in
+    (omega (arith, m.0), omega (arith, m.0, m.1), omega (arith, m.0, c.if-records-lt-BUFFER.false))
 
 pub returns : goal.returns
 returns c =
-    let f = c.before.before.before.before.before.before.before.before.before.before.before in
-    let a = f.args in
+    let a = c.args in
     let s = a.text.now in
-    let b = a.records-1.now in
+    let b = a.records.now in
     let t = c.lines in
     let few = c.if-text-gt1024.false in
     let some = c.if-text-eq0.false in
-    let e = c.before.before.before.before.before in
-    written_answer s b f.if-records-lt1024.false few some t.result t.new.1.1.1.0 t.ensures e.if-not-lines.false e.if-sheet-gt16.false c.copy.new.1.1.0 c.copy.ensures
+    let h = written_answer s b c.if-records-lt-BUFFER.false few some t.result t.new.sheet t.ensures c.if-not-lines.false c.if-sheet-gt-VARIABLES.false c.copy.new.records c.copy.ensures in
+    record { answer_of = h.0; wrote = h.1 }
