@@ -17,7 +17,7 @@ import sys
 WORD = r"[^\s(){}.;,@\"«»\[\]\\]+"
 DECLARED = re.compile(r"^( *)((?:abbrev |unfoldable |pub )*)(" + WORD + r") :(?: |$)(.*)")
 # Constructors of one type stand on one line.
-SEVERAL = re.compile(r"^ +((?:[a-z]" + WORD + r" +)+): (.*)")
+SEVERAL = re.compile(r"^ +((?!let |in |pub |abbrev |module |record |data |use |λ )(?:" + WORD + r" +)+): (.*)")
 USED = re.compile(r"^\s*(?:pub |ghost )*use ([^{;]*?)(?:\.\{([^}]*)\})?;?\s*$")
 CAMEL = re.compile(r"(?<=[a-z0-9])(?=[A-Z])")
 

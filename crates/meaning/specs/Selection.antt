@@ -8,7 +8,7 @@ use Rattle.meaning.specs.Paths.{Axis, to_self, to_child, to_parent, to_descendan
 -- the expressions of definition 2.2 that the paths need: ε ↑ ↓ ↑* ↓*, ← and → (long here, since → is a word of antt), the document root, a tag,
 -- p₁/p₂ and p₁[p₂]
 pub data Expr : Type 0 where
-  ε ↑ ↓ ↑* ↓* ⟵ ⟶ document-root : Expr
+  ε ↑ ↓ ↑* ↓* ⟵ ⟶ document_root : Expr
   tag : Label → Expr
   over filter : Expr → Expr → Expr
 
@@ -23,7 +23,7 @@ Denotes t ↓* n n' = Above t n n'
 Denotes t ⟵ n n' = EarlierSibling t n' n
 Denotes t ⟶ n n' = EarlierSibling t n n'
 -- (8)
-Denotes t document-root n n' = n' ≡ 0
+Denotes t document_root n n' = n' ≡ 0
 -- (9), labels compared with capitals as small letters
 Denotes t (tag l) n n' = (n ≡ n') × SameLabel (t.label n) l
 -- (10) p₁/p₂
@@ -54,8 +54,8 @@ unfoldable mutual
   unfolding axis_expr test_expr
 
   pub path_expr : Path → Expr
-  path_expr alone = document-root
-  path_expr (from_root ss) = over document-root (steps_expr ss)
+  path_expr alone = document_root
+  path_expr (from_root ss) = over document_root (steps_expr ss)
   path_expr (from_here ss) = steps_expr ss
 
   pub steps_expr : Steps → Expr
@@ -92,7 +92,7 @@ DenotesAny T ↑* n n' = Reaches T.IsParent n' n
 DenotesAny T ↓* n n' = Reaches T.IsParent n n'
 DenotesAny T ⟵ n n' = PrecedesSibling T n' n
 DenotesAny T ⟶ n n' = PrecedesSibling T n n'
-DenotesAny T document-root n n' = n' ≡ T.root
+DenotesAny T document_root n n' = n' ≡ T.root
 DenotesAny T (tag l) n n' = (n ≡ n') × SameLabel (T.label n) l
 DenotesAny {N} T (over p₁ p₂) n n' = (n'' : N) × DenotesAny T p₁ n n'' × DenotesAny T p₂ n'' n'
 DenotesAny {N} T (filter p₁ p₂) n n' = DenotesAny T p₁ n n' × ((n'' : N) × DenotesAny T p₂ n' n'')

@@ -9,7 +9,7 @@ use Rattle.meaning.specs.Tree.{Node, folded, Tree, IsTree}
 use Rattle.meaning.specs.Constraint.{CanBeMet, vars}
 use Rattle.meaning.specs.AnyTree.{AnyTree, Numbering}
 use Rattle.meaning.specs.Paths.{Axis, to_self, to_child, to_parent, to_descendant, to_ancestor, to_descendant_or_self, to_ancestor_or_self, to_following_sibling, to_preceding_sibling, Test, letter, any, Path, alone, from_root, from_here, Steps, one, more, Step, move, having}
-use Rattle.meaning.specs.Selection.{Expr, ε, ↑, ↓, ↑*, ↓*, ⟵, ⟶, document-root, tag, over, filter, Denotes, DenotesAny, axis_expr, test_expr, path_expr, steps_expr, step_expr, SomeTreeSelects, SomeAnyTreeSelects}
+use Rattle.meaning.specs.Selection.{Expr, ε, ↑, ↓, ↑*, ↓*, ⟵, ⟶, document_root, tag, over, filter, Denotes, DenotesAny, axis_expr, test_expr, path_expr, steps_expr, step_expr, SomeTreeSelects, SomeAnyTreeSelects}
 use Rattle.meaning.specs.PathRecords.{records_of}
 use Rattle.meaning.proofs.Trees.{no_parent}
 use Rattle.theory.proofs.Numbering.{numbered}
@@ -32,7 +32,7 @@ module _ {N : Type 0} (T : AnyTree N) (t : Tree) (i : IsTree t) (s : Numbering T
   denotes_number ↓* u v d = number_reaches T t s d
   denotes_number ⟵ u v d = number_sibling T t s d
   denotes_number ⟶ u v d = number_sibling T t s d
-  denotes_number document-root u v d = ap s.number d ∙ root_first
+  denotes_number document_root u v d = ap s.number d ∙ root_first
   denotes_number (tag l) u v d = (ap s.number d.0, ap folded (s.same_labels u) ∙ d.1)
   denotes_number (over p q) u v d = (s.number d.0, s.inside d.0, denotes_number p u d.0 d.1, denotes_number q d.0 v d.2)
   denotes_number (filter p q) u v d = (denotes_number p u v d.0, (s.number d.1.0, s.inside d.1.0, denotes_number q v d.1.0 d.1.1))
@@ -45,7 +45,7 @@ module _ {N : Type 0} (T : AnyTree N) (t : Tree) (i : IsTree t) (s : Numbering T
   number_denotes ↓* u v d = above_numbered T t i s d v refl u refl
   number_denotes ⟵ u v d = sibling_numbered T t i s d
   number_denotes ⟶ u v d = sibling_numbered T t i s d
-  number_denotes document-root u v d = first_root v d
+  number_denotes document_root u v d = first_root v d
   number_denotes (tag l) u v d = (s.one_to_one u v d.0, sym (ap folded (s.same_labels u)) ∙ d.1)
   number_denotes (over p q) u v d =
       let w = s.onto d.0 d.1 in (
@@ -68,7 +68,7 @@ ByteTags ↑* = Unit {0}
 ByteTags ↓* = Unit {0}
 ByteTags ⟵ = Unit {0}
 ByteTags ⟶ = Unit {0}
-ByteTags document-root = Unit {0}
+ByteTags document_root = Unit {0}
 ByteTags (tag l) = l ≤ 255
 ByteTags (over p q) = ByteTags p × ByteTags q
 ByteTags (filter p q) = ByteTags p × ByteTags q
@@ -114,7 +114,7 @@ denotes_bytes T ↑* b u v d = d
 denotes_bytes T ↓* b u v d = d
 denotes_bytes T ⟵ b u v d = record { above = d.above; parent_u = d.parent_u; parent_v = d.parent_v; first = d.first }
 denotes_bytes T ⟶ b u v d = record { above = d.above; parent_u = d.parent_u; parent_v = d.parent_v; first = d.first }
-denotes_bytes T document-root b u v d = d
+denotes_bytes T document_root b u v d = d
 denotes_bytes T (tag l) b u v d = (d.0, byte_same (T.label u) b d.1)
 denotes_bytes T (over p q) b u v d = (d.0, denotes_bytes T p b.0 u d.0 d.1, denotes_bytes T q b.1 d.0 v d.2)
 denotes_bytes T (filter p q) b u v d = (denotes_bytes T p b.0 u v d.0, (d.1.0, denotes_bytes T q b.1 v d.1.0 d.1.1))
