@@ -1,15 +1,15 @@
 -- The question that the code finds is that of the draw as it is meant.
-use mathlib.Core.Path.{◌≡◌, refl, ap, ◌∙◌}
+use mathlib.Core.Path.{◌≡◌, refl, sym, ap, ◌∙◌}
 use mathlib.Core.Logic.{◌≢◌, ⊎_elim}
 use mathlib.Core.List.{List}
 use Prim.Native.Nat.{ℕ, ◌+◌, ◌-◌, ◌≤◌, ◌<◌, ◌^◌}
 use native.Mathlib.Omega.{arith}
-use lib.ListN.{length, drop, drop_of_length-le}
+use lib.ListN.{length, set, drop, drop_of_length-le}
 use lib.Dec.{leb}
 use Rattle.meaning.specs.declared.Centre.{Centre}
 use Rattle.meaning.specs.Finite.{pick}
 use Rattle.meaning.specs.Centres as meant
-use Rattle.meaning.specs.Centres.{centre_at, sum_of, claimed, Sound, added, list_after, draw_granted, draw_refused}
+use Rattle.meaning.specs.Centres.{centre_at, sum_of, claimed, Sound, with_draw, added, list_after, draw_granted, draw_refused}
 use Rattle.meaning.proofs.Tests.{yes_case, clash, pick_yes, pick_no, is_le, le_yes, le_no, no_le}
 use Rattle.theory.specs.Centres.{capped, drawing}
 use Rattle.theory.proofs.Centres.{made_sound, sound_capped, claimed_but, Case, by_list, by_centre, by_cap, by_rest, by_none, computed_case, drawing_keeps}
@@ -71,11 +71,11 @@ module _ {total : ℕ} {cs : List Centre} (small : total < 2 ^ 32) (few : length
 -- ---- when the loop is left
 
 -- the sum is that of all records, if the centre is one that was looked at
-pub question_found : (total : ℕ) (cs : List Centre) (i amount : ℕ) (p : Progress cs)
-    → total < 2 ^ 32 → looked_at (length cs) ≤ p.reached → i < looked_at (length cs)
-    → question_from p.sum total (centre_at cs i) amount ≡ number_of (drawing total cs i amount)
+pub question_found : (total : ℕ) (cs : List Centre) (i amount : ℕ) {reached sum : ℕ} → Progress cs reached sum
+    → total < 2 ^ 32 → looked_at (length cs) ≤ reached → i < looked_at (length cs)
+    → question_from sum total (centre_at cs i) amount ≡ number_of (drawing total cs i amount)
 unfolding sum_of
-question_found total cs i amount p small over l =
+question_found total cs i amount {reached} {sum} p small over l =
     ap (λ (m : ℕ). question_from m total (centre_at cs i) amount) (omega (arith, e, was)) ∙ found small few i amount (inside cs i l) computed_case
   where
     few : length cs ≤ 8
@@ -83,13 +83,13 @@ question_found total cs i amount p small over l =
         (λ z. let a = looked_none {n = length cs} (no_le (λ y. clash y z)) in absurd (omega (arith, l, a)))
         (yes_case (leb (length cs) 8))
 
-    past : length cs ≤ p.reached
+    past : length cs ≤ reached
     past = let a = looked_all few in omega (arith, over, a)
 
-    e : claims (drop p.reached cs) ≡ 0
+    e : claims (drop reached cs) ≡ 0
     e = ap claims (drop_of_length-le cs past)
 
-    was : p.sum + claims (drop p.reached cs) ≡ claims cs
+    was : sum + claims (drop reached cs) ≡ claims cs
     was = p.sums
 
 -- a list that is too long, or a centre that is not there
@@ -127,3 +127,28 @@ module _ (total : ℕ) (cs : List Centre) (i amount : ℕ) where
 
   pub refused_list : number_of (drawing total cs i amount) ≢ 0 → list_after (drawing total cs i amount) cs i amount ≡ cs
   refused_list n = (said computed_case).1.1 n
+
+  -- the question that is asked of the centre's own record, after the loop
+  pub asked : {reached sum q : ℕ} → Progress cs reached sum → total < 2 ^ 32 → looked_at (length cs) ≤ reached → i < looked_at (length cs)
+      → q ≡ question_from sum total (centre_at cs i) amount → q ≡ number_of (drawing total cs i amount)
+  asked p small over l e = e ∙ question_found total cs i amount p small over l
+
+  -- the three ways to end: what is answered, and the list afterwards
+  abbrev Ends : Drawn → List Centre → Type 0
+  Ends r zs = (r ≡ answer_of (drawing total cs i amount)) × (zs ≡ list_after (drawing total cs i amount) cs i amount)
+
+  pub granted_ends : {q : ℕ} {r : Drawn} {zs : List Centre}
+      → q ≡ number_of (drawing total cs i amount) → number_of (drawing total cs i amount) ≡ 0 → r ≡ answered q
+      → zs ≡ set cs i (record { guarantee = (centre_at cs i).guarantee; cap = (centre_at cs i).cap; drawn = (centre_at cs i).drawn + amount }) → Ends r zs
+  unfolding added with_draw
+  granted_ends e z a s = (a ∙ (ap answered e ∙ answer_is), s ∙ sym (granted_list z))
+
+  pub refused_ends : {q : ℕ} {r : Drawn} {zs : List Centre}
+      → q ≡ number_of (drawing total cs i amount) → number_of (drawing total cs i amount) ≢ 0 → r ≡ answered q → zs ≡ cs → Ends r zs
+  refused_ends e n a s = (a ∙ (ap answered e ∙ answer_is), s ∙ sym (refused_list n))
+
+  pub missed_ends : {q : ℕ} {r : Drawn} {zs : List Centre} → looked_at (length cs) ≤ i → q ≡ 18 → r ≡ answered q → zs ≡ cs → Ends r zs
+  unfolding number_of
+  missed_ends past e a s =
+      let d = question_missed total cs i amount past in let k = ap number_of d in
+      refused_ends (e ∙ sym k) (λ z. absurd (omega (arith, k, z))) a s

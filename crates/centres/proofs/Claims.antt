@@ -89,26 +89,22 @@ claims_on (c ∷ cs) zero l = refl
 claims_on (c ∷ cs) (suc i) l = claims_on cs i (le_of_suc-le-suc l)
 
 -- after some turns: how many records were looked at, and what they claim
-pub record Progress (cs : List Centre) : Type 0 where
-  pub reached : ℕ
-  pub sum : ℕ
+pub record Progress (cs : List Centre) (reached sum : ℕ) : Type 0 where
   pub upto : reached ≤ looked_at (length cs)
   pub sums : sum + claims (drop reached cs) ≡ claims cs
   pub small : sum ≤ reached * 2 ^ 32
 
-abbrev pub started : (cs : List Centre) → Progress cs
-started cs = record { reached = 0; sum = 0; upto = omega arith; sums = omega arith; small = omega arith }
+pub started : (cs : List Centre) → Progress cs 0 0
+started cs = record { upto = omega arith; sums = omega arith; small = omega arith }
 
-pub sum_fits : (cs : List Centre) (p : Progress cs) → p.sum < 2 ^ 63
-sum_fits cs p = let a = p.small in let b = p.upto in let c = looked_few (length cs) in omega (arith, a, b, c)
+pub sum_fits : {cs : List Centre} {reached sum : ℕ} → Progress cs reached sum → sum < 2 ^ 63
+sum_fits {cs} p = let c = looked_few (length cs) in omega (arith, c)
 
-abbrev pub one_on : (cs : List Centre) (p : Progress cs) → p.reached < looked_at (length cs) → (centre_at cs p.reached).cap < 2 ^ 32 → Progress cs
-one_on cs p l fits = record {
-  reached = p.reached + 1;
-  sum = p.sum + claim_of (centre_at cs p.reached);
-  upto = omega (arith, l);
-  sums = let on = claims_on cs p.reached (inside cs p.reached l) in let was = p.sums in
-      let next = ap (λ (k : ℕ). claims (drop k cs)) (add-one p.reached) in omega (arith, on, was, next);
-  small = let c = centre_at cs p.reached in let w = claim_small c.guarantee c.cap c.drawn fits in let s = p.small in
-      omega (arith, w, s);
+pub one_on : {cs : List Centre} {reached sum next : ℕ}
+    → Progress cs reached sum → reached < looked_at (length cs) → next ≡ sum + claim_of (centre_at cs reached) → next ≤ sum + 2 ^ 32
+    → Progress cs (reached + 1) next
+one_on {cs} {reached} p l e w = record {
+  upto = omega arith;
+  sums = let on = claims_on cs reached (inside cs reached l) in let step = ap (λ (k : ℕ). claims (drop k cs)) (add-one reached) in omega (arith, on, step);
+  small = omega arith;
 }

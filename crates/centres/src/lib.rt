@@ -1,6 +1,7 @@
 // Centres draw choices from one session total. Their records lie in one lent list and are changed there.
 #![tactic(auto)]
-ghost use Rattle.std.specs.Prelude.{◌≡◌, ◌+◌, ◌-◌, ◌<◌, ◌^◌, max};
+
+ghost use Rattle.std.specs.Prelude.{◌≡◌, ◌+◌, ◌-◌, ◌<◌, ◌≤◌, ◌^◌, max};
 ghost use Rattle.meaning.specs.Centres.{list_after};
 ghost use Rattle.theory.specs.Centres.{drawing};
 ghost use Rattle.centres.specs.Plain.{looked_at, claim, question_of};
@@ -42,7 +43,8 @@ fn undrawn(guarantee: u32, drawn: u32) -> u32
 // The claims with one record's more. A record above its cap claims more than any total, so that the sum alone tells a sound list.
 fn with_claim(claims: u64, guarantee: u32, cap: u32, drawn: u32) -> u64
     requires { claims < 2 ^ 63 }
-    ensures { result ≡ claims + claim guarantee cap drawn }
+    ensures sum { result ≡ claims + claim guarantee cap drawn }
+    ensures small { result ≤ claims + 2 ^ 32 }
 {
     let most = larger(guarantee, drawn);
     if most <= cap {

@@ -1,7 +1,6 @@
 -- `question`: each test that refuses is the question that `question_of` asks next.
 use mathlib.Core.Path.{sym}
 use native.Mathlib.Omega.{arith}
-use borrow.Author.Rules.{rules}
 use Rattle.centres.proofs.Asked.{asks_18, asks_19, asks_20, asks_none}
 use Rattle.centres.proofs.question.Goals as goal
 

@@ -2,7 +2,6 @@
 use mathlib.Core.Path.{◌≡◌}
 use Prim.Native.Nat.{ℕ, max, ◌+◌, ◌≤◌, ◌<◌}
 use native.Mathlib.Omega.{arith}
-use borrow.Author.Rules.{rules}
 use Rattle.centres.specs.Plain.{claim}
 use Rattle.centres.proofs.Claims.{claim_in, claim_above}
 use Rattle.centres.proofs.with_claim.Goals as goal
@@ -14,8 +13,8 @@ adds_larger s g k d e l = let c = claim_in g k d (omega (arith, e, l)) in omega 
 adds_most : (s g k d : ℕ) {m : ℕ} → m ≡ max g d → k < m → s + 4294967296 ≡ s + claim g k d
 adds_most s g k d e h = let c = claim_above g k d (omega (arith, e, h)) in omega (arith, c)
 
-pub returns-then-most-cap : goal.returns-then-most-cap
-returns-then-most-cap c = adds_larger _ _ _ _ c.larger-most.ensures c.if-most-cap.true
+pub returns-then-most-cap-clause-sum : goal.returns-then-most-cap-clause-sum
+returns-then-most-cap-clause-sum c = adds_larger _ _ _ _ c.larger-most.ensures c.if-most-cap.true
 
-pub returns-else-most-cap : goal.returns-else-most-cap
-returns-else-most-cap c = adds_most _ _ _ _ c.larger-most.ensures c.if-most-cap.false
+pub returns-else-most-cap-clause-sum : goal.returns-else-most-cap-clause-sum
+returns-else-most-cap-clause-sum c = adds_most _ _ _ _ c.larger-most.ensures c.if-most-cap.false
