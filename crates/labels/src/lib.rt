@@ -1,5 +1,6 @@
 // Labels are bytes. Capitals count as small letters wherever two of them are compared.
 #![tactic(auto)]
+
 ghost use Rattle.std.specs.Prelude.{◌≡◌, eqb};
 ghost use Rattle.meaning.specs.Tree.{is_capital, folded};
 ghost use Rattle.meaning.specs.Paths.{is_small, is_letter};

@@ -1,5 +1,6 @@
 // What is lent: bytes that are read at a place, and a buffer that is filled at its front.
 #![tactic(auto)]
+
 ghost use Rattle.std.specs.Prelude.{◌≡◌, get_or};
 
 // What a part answers that fills a lent buffer: it writes the front and tells how many bytes, or it refuses and leaves the buffer as it was.

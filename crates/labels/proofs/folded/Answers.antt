@@ -1,7 +1,6 @@
 -- `folded` meets its contract: a capital has room for its small letter.
 use mathlib.Core.Path.{sym, ◌∙◌}
 use native.Mathlib.Omega.{arith}
-use borrow.Author.Rules.{rules}
 use Rattle.meaning.proofs.Tests.{not_yes}
 use Rattle.meaning.proofs.Labels.{capital_range, folded_capital, folded_other}
 use Rattle.labels.proofs.folded.Goals as goal

@@ -1,5 +1,4 @@
 use mathlib.Core.Path.{sym, ◌∙◌}
-use borrow.Author.Rules.{rules}
 use Rattle.labels.proofs.Range.{letter_small, letter_other}
 use Rattle.labels.proofs.is_letter.Goals as goal
 
