@@ -1,6 +1,7 @@
 // The stages that look for two variables above a third that are not yet one above the other: parent joins and chain joins. They are pub only because
 // crates are split: the caller shows what they require.
 #![tactic(auto)]
+
 ghost use Rattle.std.specs.Prelude.{◌≤◌};
 ghost use Rattle.chains.specs.Rows.{Incomparable, ParentIn, ChainIn};
 

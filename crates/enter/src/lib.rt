@@ -1,5 +1,6 @@
 // Entering below(a, b) into settled tables, alone or with differ(a, b).
 #![tactic(auto)]
+
 ghost use Rattle.std.specs.Prelude.{List, ◌<◌, ◌≤◌};
 ghost use Rattle.meaning.specs.Constraint.{Fact};
 ghost use Rattle.meaning.specs.Finite.{Yes};

@@ -8,7 +8,7 @@ use native.Mathlib.Nat.{le_trans}
 use native.Mathlib.Omega.{arith}
 use lib.Bits.{bit_or, or_lt}
 use Rattle.meaning.specs.Tree.{Var}
-use Rattle.meaning.specs.Constraint.{Fact, below, leaf}
+use Rattle.meaning.specs.Constraint.{Fact, below}
 use Rattle.meaning.specs.Finite.{Yes, pick}
 use Rattle.meaning.proofs.Least.{settled_within}
 use Rattle.rowbits.specs.Bit.{bit}

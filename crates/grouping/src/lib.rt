@@ -1,5 +1,6 @@
 // Variables become one group, by rows. What `merge` uses of it is pub only because crates are split: the caller shows what `unify` requires.
 #![tactic(auto)]
+
 ghost use Rattle.std.specs.Prelude.{◌≡◌, true};
 ghost use Rattle.tables.specs.Rows.{Union, LabelOf};
 ghost use Rattle.grouping.specs.Rows.{TwoLabels, Painted};

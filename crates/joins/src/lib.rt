@@ -1,6 +1,7 @@
 // The first join of a settled set, in the fixed order of kinds: parent joins, chain joins, joins of siblings, joins of the document node.
 // Within a kind the smallest first variable, then the second, then the third.
 #![tactic(auto)]
+
 ghost use Rattle.std.specs.Prelude.{List, ◌≤◌};
 ghost use Rattle.meaning.specs.Constraint.{Fact};
 ghost use Rattle.tables.specs.Tables.{Ready};

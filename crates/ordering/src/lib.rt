@@ -1,6 +1,7 @@
 // The groups in the order of their nodes: by depth, then siblings in their order and otherwise by lowest variable; the place of each and of the nearest over
 // one, and the node of a place. Functions are `pub` here only because crates are split: each keeps its `requires`, which every caller shows.
 #![tactic(auto)]
+
 ghost use Rattle.std.specs.Prelude.{◌≡◌, ◌≢◌, ◌++◌, ℕ, ◌+◌, ◌-◌, ◌^◌, ◌<◌, ◌≤◌, eqb, length};
 ghost use Rattle.std.specs.Int.Bits.{bit_and};
 ghost use Rattle.std.specs.Int.Count.{ones};

@@ -1,5 +1,6 @@
 // One pass of settling over x, y and z. What `settle` uses of it is pub only because crates are split: each caller shows what a helper requires.
 #![tactic(auto)]
+
 ghost use Rattle.std.specs.Prelude.{◌≡◌, ◌<◌, ◌≤◌};
 ghost use Rattle.passes.specs.Rows.{first_row, Grouped, ChainOf, Chained, GroupsOf, WholeGroups, JoinedOf};
 ghost use Rattle.passes.specs.Steps.{SteppedOf, PassRules, BareRules};

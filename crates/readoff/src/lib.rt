@@ -1,6 +1,7 @@
 // The answer file of settled tables: the document node, with the variables that are root on it, and a blank element unless one group stands next under
 // it; a node for each group of the other variables, by depth, then siblings in their order and otherwise by lowest variable; and the node of each variable.
 #![tactic(auto)]
+
 ghost use Rattle.std.specs.Prelude.{◌≡◌, List, [], ◌∷◌, suc, ◌+◌, ◌*◌, ◌<◌, ◌≤◌, length};
 ghost use Rattle.meaning.specs.Constraint.{Fact};
 ghost use Rattle.meaning.specs.Finite.{tab};

@@ -1,6 +1,7 @@
 // The fixed search under an allowance: the first alternative of the first join is searched to its end, the second only if that found
 // none. The count of alternatives entered goes through every level.
 #![tactic(auto)]
+
 ghost use Rattle.std.specs.Prelude.{◌≡◌, List, ◌≤◌};
 ghost use Rattle.meaning.specs.Constraint.{Fact};
 ghost use Rattle.tables.specs.Tables.{Ready};

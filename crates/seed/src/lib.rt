@@ -1,5 +1,6 @@
 // The given facts of an accepted constraint file, as tables to settle from.
 #![tactic(auto)]
+
 ghost use Rattle.std.specs.Prelude.{◌≡◌, ℕ, ◌%◌, ◌<◌};
 ghost use Rattle.constraints.specs.Judgement.{judgement};
 ghost use Rattle.constraints.specs.declared.Judgement.TheVariants.{Accepted};

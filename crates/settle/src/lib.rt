@@ -1,5 +1,6 @@
 // Settling: the tables of rows, closed under the rules of docs/FORMAT.md by passes over x, y and z, and for siblings by rows of before and of child.
 #![tactic(auto)]
+
 ghost use Rattle.std.specs.Prelude.{List, ◌≤◌};
 ghost use Rattle.meaning.specs.Constraint.{Fact};
 ghost use Rattle.tables.specs.Tables.{Seeded};

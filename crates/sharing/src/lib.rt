@@ -1,5 +1,6 @@
 // Sharing: each variable takes what its group has. `share_rows` is pub only because crates are split: its caller shows what it requires.
 #![tactic(auto)]
+
 ghost use Rattle.std.specs.Prelude.{◌≡◌, ◌≤◌, eqb};
 ghost use Rattle.meaning.specs.Finite.{pick};
 ghost use Rattle.sharing.specs.Shares.{Clashing, WithRows, WithGroup, SharedOf};

@@ -1,5 +1,6 @@
 // What a group that was made passes on to its siblings, by rows. `pass_on` is pub only because crates are split.
 #![tactic(auto)]
+
 ghost use Rattle.grouping.specs.Rows.{Spread};
 ghost use Rattle.siblings.specs.Rows.{Family};
 ghost use Rattle.siblings.specs.Passing.{GivenToFamily, PassedOf};

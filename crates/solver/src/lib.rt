@@ -1,5 +1,6 @@
 // The solver: the questions, the given facts settled, the fixed search under an allowance, and the tree read off into the lent buffer.
 #![tactic(auto)]
+
 ghost use Rattle.std.specs.Prelude.{◌≡◌, ◌≤◌, length};
 ghost use Rattle.meaning.specs.Constraint.{facts_of};
 ghost use Rattle.theory.specs.Solve.{solve};

@@ -1,5 +1,6 @@
 // What a stage answers. Each kind of join has a stage, which finds the first of its kind: the smallest first variable, then the second, then the third.
 #![tactic(auto)]
+
 use ids::Var;
 
 #[derive(Clone, Copy)]

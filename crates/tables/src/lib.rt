@@ -1,6 +1,7 @@
 // The facts of a settled set as tables of rows, one row for each variable. A row is a set of variables: bit y of row x of `below` says
 // below(x, y). They go into an alternative by value.
 #![tactic(auto)]
+
 ghost use Rattle.std.specs.Prelude.{◌≡◌, ◌≢◌, ◌<◌, ◌≤◌, ◌^◌, ◌-◌};
 ghost use Rattle.meaning.specs.Finite.{pick};
 ghost use Rattle.tables.specs.Rows.{gained, meets, gained_one, without, on_document, Gathers, Transposed, Raised, RaisedAlike, United, Common, Lowest, Rest, Union, LabelOf, Crossed, Blank};

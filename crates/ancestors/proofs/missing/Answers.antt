@@ -1,8 +1,7 @@
 use Prim.Native.Nat.{◌<◌}
 use native.Mathlib.Omega.{arith}
 use Rattle.tables.proofs.Members.{next_in_lem, passed_less}
-use Rattle.ancestors.proofs.Lacks.{Lacks, lacks_none, lacks_more, lacks_all}
-use borrow.Author.Rules.{rules}
+use Rattle.ancestors.proofs.Lacks.{lacks_none, lacks_more, lacks_all}
 use Rattle.ancestors.proofs.missing.Goals as goal
 
 variable_in : (c : goal.After-lowest-x) → c.lowest-x.result < 16

@@ -1,9 +1,5 @@
 -- `ancestors::missing` meets its contract: at every turn it holds what is missing in the rows that were passed.
-use Prim.Native.Nat.{◌<◌}
-use native.Mathlib.Omega.{arith}
-use Rattle.tables.proofs.Members.{next_in_lem, passed_less}
-use Rattle.ancestors.proofs.Lacks.{Lacks, lacks_none, lacks_more, lacks_all}
-use borrow.Author.Rules.{rules}
+use Rattle.ancestors.proofs.Lacks.{Lacks}
 use Rattle.ancestors.proofs.missing.Given as goal
 
 abbrev pub invariant-loop-left : goal.invariant-loop-left

@@ -1,14 +1,12 @@
 use mathlib.Core.Path.{subst}
-use mathlib.Core.Logic.{⊎_elim}
-use Prim.Native.Nat.{ℕ, ◌≤◌, ◌-◌}
+use Prim.Native.Nat.{ℕ}
 use native.Mathlib.Nat.{not-suc-le-zero}
 use borrow.Author.Rules.{rules}
 use Rattle.meaning.specs.FixedSearch.{sibling_join}
 use Rattle.tables.specs.Rows.{Lowest}
-use Rattle.tables.specs.declared.Facts.{Facts}
 use Rattle.stages.specs.Found.{join_of, with_below}
 use Rattle.ancestors.specs.Rows.{with_before}
-use Rattle.stages.proofs.Stage.{NoneBefore, none_more, none_first}
+use Rattle.stages.proofs.Stage.{none_more, none_first}
 use Rattle.ancestors.proofs.Siblings.{none_alone, none_missing, sibling_first, none_ordered}
 use Rattle.ancestors.proofs.sibling_join.Goals as goal
 use Rattle.ancestors.proofs.sibling_join.Goals.{then-s-ne0+else-a-lt16, else-s-ne0}
@@ -29,19 +27,18 @@ returns-then-a-lt16 c =
     _ c.except.ensures _ c.missing.ensures _ c.lowest-a.ensures c.if-a-lt16.true _ x-is (c.loop-y.invariant.1 f)
 
 pub loop-y-preserved : goal.loop-y-preserved
-loop-y-preserved c =
-    (
-      search rules,
-      λ f.
-          let g = with_before c.args.before c.args.after (with_below c.args.below c.args.above f) in
-          none_more sibling_join _ g _ (c.loop-y.invariant.1 f)
-          (elim c.if-s-ne0.branch [
-              then-s-ne0+else-a-lt16 w ↦
-                none_missing _ c.requires g _ c.all-vars.ensures _ c.loop-y-test.true _ w.except.ensures _ w.missing.ensures _ w.lowest-a.ensures
-                w.if-a-lt16.false
-            | else-s-ne0 w ↦ none_alone _ c.requires g _ c.all-vars.ensures _ c.loop-y-test.true w.if-s-ne0.false
-          ]),
-    )
+loop-y-preserved c = (
+  search rules,
+  λ f.
+      let g = with_before c.args.before c.args.after (with_below c.args.below c.args.above f) in
+      none_more sibling_join _ g _ (c.loop-y.invariant.1 f)
+      (elim c.if-s-ne0.branch [
+        | then-s-ne0+else-a-lt16 w ↦
+            none_missing _ c.requires g _ c.all-vars.ensures _ c.loop-y-test.true _ w.except.ensures _ w.missing.ensures _ w.lowest-a.ensures
+            w.if-a-lt16.false
+        | else-s-ne0 w ↦ none_alone _ c.requires g _ c.all-vars.ensures _ c.loop-y-test.true w.if-s-ne0.false
+      ]),
+)
 
 pub returns : goal.returns
 returns c = λ f.

@@ -1,10 +1,5 @@
-use mathlib.Core.Path.{◌≡◌}
-use Prim.Native.Nat.{◌≤◌, ◌+◌, ◌-◌, ◌/◌}
 use native.Mathlib.Omega.{arith}
-use lib.ListN.{length, drop}
 use borrow.Author.Rules.{rules}
-use Rattle.meaning.specs.Files.{quads}
-use Rattle.answers.specs.Judgement.{leading}
 use Rattle.answers.proofs.Steps.{leading_none, leading_one, leading_stop}
 use Rattle.answers.proofs.count_nodes.Goals as goal
 

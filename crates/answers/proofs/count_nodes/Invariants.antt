@@ -1,12 +1,9 @@
 -- `answers::count_nodes` meets its contract: at every record the nodes so far and those that lead the rest make the whole.
 use mathlib.Core.Path.{◌≡◌}
 use Prim.Native.Nat.{◌≤◌, ◌+◌, ◌-◌, ◌/◌}
-use native.Mathlib.Omega.{arith}
 use lib.ListN.{length, drop}
-use borrow.Author.Rules.{rules}
 use Rattle.meaning.specs.Files.{quads}
 use Rattle.answers.specs.Judgement.{leading}
-use Rattle.answers.proofs.Steps.{leading_none, leading_one, leading_stop}
 use Rattle.answers.proofs.count_nodes.Given as goal
 
 abbrev pub invariant-loop-nodes : goal.invariant-loop-nodes

@@ -5,8 +5,7 @@ use Prim.Native.Nat.{ℕ, ◌≤◌, ◌/◌}
 use native.Mathlib.Omega.{arith}
 use lib.ListN.{length, take, length-map}
 use lib.Seq.{length-take-le}
-use borrow.Author.Tests.{lt-leb, le-leb, eq-eqb, ne_eqb, not-true, not-false}
-use borrow.Author.Rules.{rules}
+use borrow.Author.Tests.{lt-leb, le-leb, eq-eqb, ne_eqb}
 use Rattle.meaning.specs.Files.{quads, nodes_fine, refused_answer, judge_answer}
 use Rattle.meaning.specs.Finite.{pick, ◌and◌}
 use Rattle.answers.proofs.Questions.{later, placed, refused_8, nodes_most, refused_9, asked}

@@ -3,8 +3,6 @@ use mathlib.Core.Path.{◌≡◌}
 use mathlib.Core.List.{List, map}
 use Prim.Native.Nat.{ℕ, ◌≤◌}
 use lib.ListN.{length, length-map}
-use borrow.Author.Tests.{not-true, not-false}
-use borrow.Author.Rules.{rules}
 use Rattle.meaning.specs.Finite.{pick}
 use Rattle.meaning.specs.Files.{quads, node_of, refused_nodes, accepted_nodes, judge_nodes}
 use Rattle.answers.specs.Judgement.{judged_nodes_as, nodes_judgement}

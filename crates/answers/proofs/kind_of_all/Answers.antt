@@ -1,7 +1,6 @@
 -- `answers::kind_of_all` meets its contract: by the order of the records and by whether all are nodes.
 use mathlib.Core.Path.{sym, ◌∙◌}
-use borrow.Author.Tests.{eq-eqb, ne_eqb, not-true, not-false}
-use borrow.Author.Rules.{rules}
+use borrow.Author.Tests.{eq-eqb, ne_eqb}
 use Rattle.meaning.specs.Finite.{pick}
 use Rattle.meaning.proofs.Records.{length_quads}
 use Rattle.answers.specs.Shorter.{kind_of_all}

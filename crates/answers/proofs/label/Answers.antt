@@ -1,5 +1,4 @@
 -- `answers::label` meets its contract: it reads the fourth byte of the node's record.
-use borrow.Author.Rules.{rules}
 use Rattle.answers.specs.Tree.{tree_in}
 use Rattle.answers.proofs.label.Goals as goal
 

@@ -1,5 +1,4 @@
 -- `answers::node_of` meets its contract: it reads the third byte of the variable's record.
-use borrow.Author.Rules.{rules}
 use Rattle.answers.specs.Tree.{places_in}
 use Rattle.answers.proofs.node_of.Goals as goal
 

@@ -1,10 +1,6 @@
-use mathlib.Core.Path.{◌≡◌, refl, sym, ◌∙◌}
-use Prim.Native.Nat.{◌≤◌, ◌-◌}
+use mathlib.Core.Path.{refl, sym, ◌∙◌}
 use native.Mathlib.Omega.{arith}
-use lib.ListN.{take, drop}
-use borrow.Author.Tests.{not-true, not-false}
 use borrow.Author.Rules.{rules}
-use Rattle.meaning.specs.Files.{quads, nodes_fine}
 use Rattle.answers.proofs.Steps.{numbered_none, numbered_one, numbered_stop}
 use Rattle.answers.proofs.nodes_fine.Goals as goal
 

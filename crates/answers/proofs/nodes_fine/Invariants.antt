@@ -1,12 +1,8 @@
 -- `answers::nodes_fine` meets its contract: at every node the question of the rest is the question of all.
-use mathlib.Core.Path.{◌≡◌, refl, sym, ◌∙◌}
+use mathlib.Core.Path.{◌≡◌}
 use Prim.Native.Nat.{◌≤◌, ◌-◌}
-use native.Mathlib.Omega.{arith}
 use lib.ListN.{take, drop}
-use borrow.Author.Tests.{not-true, not-false}
-use borrow.Author.Rules.{rules}
 use Rattle.meaning.specs.Files.{quads, nodes_fine}
-use Rattle.answers.proofs.Steps.{numbered_none, numbered_one, numbered_stop}
 use Rattle.answers.proofs.nodes_fine.Given as goal
 
 abbrev pub invariant-loop-i : goal.invariant-loop-i

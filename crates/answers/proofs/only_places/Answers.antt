@@ -1,8 +1,4 @@
-use mathlib.Core.Path.{◌≡◌, refl, sym, ◌∙◌}
-use Prim.Native.Nat.{◌-◌, ◌/◌}
-use lib.ListN.{length, drop}
-use borrow.Author.Rules.{rules}
-use Rattle.meaning.specs.Files.{quads, all_places}
+use mathlib.Core.Path.{refl, sym, ◌∙◌}
 use Rattle.answers.proofs.Steps.{places_none, places_one, places_stop}
 use Rattle.answers.proofs.only_places.Goals as goal
 

@@ -1,10 +1,8 @@
 -- `answers::only_places` meets its contract: at every record the question of the rest is the question of all.
-use mathlib.Core.Path.{◌≡◌, refl, sym, ◌∙◌}
+use mathlib.Core.Path.{◌≡◌}
 use Prim.Native.Nat.{◌-◌, ◌/◌}
 use lib.ListN.{length, drop}
-use borrow.Author.Rules.{rules}
 use Rattle.meaning.specs.Files.{quads, all_places}
-use Rattle.answers.proofs.Steps.{places_none, places_one, places_stop}
 use Rattle.answers.proofs.only_places.Given as goal
 
 abbrev pub invariant-loop-i : goal.invariant-loop-i

@@ -1,5 +1,4 @@
 -- `answers::parent` meets its contract: it reads the third byte of the node's record.
-use borrow.Author.Rules.{rules}
 use Rattle.answers.specs.Tree.{tree_in}
 use Rattle.answers.proofs.parent.Goals as goal
 

@@ -1,15 +1,12 @@
 use mathlib.Core.Path.{sym, ◌∙◌}
-use mathlib.Core.Logic.{⊎_elim}
-use Prim.Native.Nat.{◌≤◌, ◌-◌}
 use native.Mathlib.Nat.{not-suc-le-zero}
 use lib.ListN.{get_or}
 use mir.Val.{Fits}
 use mir.Syntax.{w16}
 use borrow.Author.Rules.{rules}
 use Rattle.meaning.specs.FixedSearch.{chain_join}
-use Rattle.tables.specs.declared.Facts.{Facts}
 use Rattle.stages.specs.Found.{join_of, with_below}
-use Rattle.stages.proofs.Stage.{NoneBefore, none_more, none_first}
+use Rattle.stages.proofs.Stage.{none_more, none_first}
 use Rattle.chains.proofs.First.{none_loose, none_apart, chain_first}
 use Rattle.chains.proofs.chain_join.Goals as goal
 use Rattle.chains.proofs.chain_join.Goals.{then-except-ne0+else-x-lt16, else-except-ne0}
@@ -26,21 +23,20 @@ returns-then-x-lt16 c =
     _ c.lowest-x.ensures c.if-x-lt16.true h.fits _ c.lowest-y.ensures (c.loop-z.invariant.1 f)
 
 pub loop-z-preserved : goal.loop-z-preserved
-loop-z-preserved c =
-    (
-      search rules,
-      λ f.
-          let t = with_below c.args.below c.args.above f in
-          none_more chain_join _ t _ (c.loop-z.invariant.1 f)
-          (elim c.if-except-ne0.branch [
-              then-except-ne0+else-x-lt16 w ↦
-                none_apart _ c.requires t _ c.all-vars.ensures c.incomparable_rows-apart.result c.incomparable_rows-apart.ensures _ c.loop-z-test.true _
-                w.meeting.ensures _ w.lowest-x.ensures w.if-x-lt16.false
-            | else-except-ne0 w ↦
-                none_loose _ c.requires t _ c.all-vars.ensures c.incomparable_rows-apart.result c.incomparable_rows-apart.ensures _ c.meeting-loose.ensures _
-                c.loop-z-test.true (sym c.except.ensures ∙ w.if-except-ne0.false)
-          ]),
-    )
+loop-z-preserved c = (
+  search rules,
+  λ f.
+      let t = with_below c.args.below c.args.above f in
+      none_more chain_join _ t _ (c.loop-z.invariant.1 f)
+      (elim c.if-except-ne0.branch [
+        | then-except-ne0+else-x-lt16 w ↦
+            none_apart _ c.requires t _ c.all-vars.ensures c.incomparable_rows-apart.result c.incomparable_rows-apart.ensures _ c.loop-z-test.true _
+            w.meeting.ensures _ w.lowest-x.ensures w.if-x-lt16.false
+        | else-except-ne0 w ↦
+            none_loose _ c.requires t _ c.all-vars.ensures c.incomparable_rows-apart.result c.incomparable_rows-apart.ensures _ c.meeting-loose.ensures _
+            c.loop-z-test.true (sym c.except.ensures ∙ w.if-except-ne0.false)
+      ]),
+)
 
 pub returns : goal.returns
 returns c = λ f.

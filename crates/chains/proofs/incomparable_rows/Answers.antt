@@ -1,10 +1,7 @@
 use mathlib.Core.Path.{refl}
-use Prim.Native.Nat.{◌≤◌, ◌-◌}
 use native.Mathlib.Nat.{le_trans}
-use lib.Bits.{bit_or, bit_xor}
 use borrow.Author.Rules.{rules}
-use Rattle.tables.specs.Tables.{row}
-use Rattle.tables.proofs.Loops.{Rowing, rowing_none, rowing_more}
+use Rattle.tables.proofs.Loops.{rowing_none, rowing_more}
 use Rattle.chains.proofs.incomparable_rows.Goals as goal
 
 pub loop-x-init : goal.loop-x-init

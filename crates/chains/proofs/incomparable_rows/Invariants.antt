@@ -1,11 +1,8 @@
 -- `chains::incomparable_rows` meets its contract: the loop has changed the rows below x.
-use mathlib.Core.Path.{refl}
 use Prim.Native.Nat.{◌≤◌, ◌-◌}
-use native.Mathlib.Nat.{le_trans}
 use lib.Bits.{bit_or, bit_xor}
-use borrow.Author.Rules.{rules}
 use Rattle.tables.specs.Tables.{row}
-use Rattle.tables.proofs.Loops.{Rowing, rowing_none, rowing_more}
+use Rattle.tables.proofs.Loops.{Rowing}
 use Rattle.chains.proofs.incomparable_rows.Given as goal
 
 abbrev pub invariant-loop-x : goal.invariant-loop-x

@@ -1,16 +1,10 @@
 -- `chains::parent_join` meets its contract: the loop has passed no z with a parent join.
-use mathlib.Core.Path.{subst}
-use mathlib.Core.Logic.{⊎_elim}
-use Prim.Native.Nat.{ℕ, ◌≤◌, ◌-◌}
-use native.Mathlib.Nat.{not-suc-le-zero}
-use borrow.Author.Rules.{rules}
+use Prim.Native.Nat.{◌≤◌, ◌-◌}
 use Rattle.meaning.specs.FixedSearch.{parent_join}
-use Rattle.tables.specs.Rows.{Lowest}
 use Rattle.tables.specs.declared.Facts.{Facts}
-use Rattle.stages.specs.Found.{join_of, with_below}
+use Rattle.stages.specs.Found.{with_below}
 use Rattle.chains.specs.Rows.{with_parent}
-use Rattle.stages.proofs.Stage.{NoneBefore, none_more, none_first}
-use Rattle.chains.proofs.First.{none_without_parent, none_without_x, parent_first}
+use Rattle.stages.proofs.Stage.{NoneBefore}
 use Rattle.chains.proofs.parent_join.Given as goal
 
 abbrev pub invariant-loop-z : goal.invariant-loop-z

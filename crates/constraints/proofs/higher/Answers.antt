@@ -1,5 +1,4 @@
 -- `constraints::higher` meets its contract: the larger of two, twice.
-use borrow.Author.Rules.{rules}
 use Rattle.constraints.proofs.higher.Goals as goal
 
 pub returns : goal.returns

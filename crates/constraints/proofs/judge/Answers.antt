@@ -1,13 +1,11 @@
-use mathlib.Core.Path.{◌≡◌, refl, sym, ◌∙◌}
-use Prim.Native.Nat.{◌≤◌, ◌-◌, ◌%◌}
+use mathlib.Core.Path.{refl, sym, ◌∙◌}
 use native.Mathlib.Omega.{arith}
-use lib.ListN.{length}
-use borrow.Author.Tests.{lt-leb, le-leb, ne_eqb, not-true, not-false}
+use borrow.Author.Tests.{lt-leb, le-leb, ne_eqb}
 use borrow.Author.Rules.{rules}
 use Rattle.meaning.specs.Files.{judge}
 use Rattle.meaning.specs.Finite.{pick}
 use Rattle.meaning.specs.OnePass.{kept_of}
-use Rattle.constraints.proofs.OnePass.{Keeps, none_read, no_records, refused_here, one_read, all_read}
+use Rattle.constraints.proofs.OnePass.{none_read, no_records, refused_here, one_read, all_read}
 use Rattle.constraints.specs.Judgement.{judgement_of, judgement}
 use Rattle.constraints.proofs.judge.Goals as goal
 

@@ -1,5 +1,4 @@
 -- `constraints::kind_number` meets its contract: kind by kind.
-use borrow.Author.Rules.{rules}
 use Rattle.constraints.specs.Record.{kind_number}
 use Rattle.constraints.proofs.kind_number.Goals as goal
 

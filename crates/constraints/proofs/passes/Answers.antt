@@ -1,6 +1,5 @@
 -- `constraints::passes` meets its contract: whatever the kind, x is a variable, y has room, and there is a label exactly in kind 8.
 use mathlib.Core.Path.{sym}
-use borrow.Author.Rules.{rules}
 use Rattle.constraints.proofs.Passing.{high_x, no_room, with_room}
 use Rattle.constraints.proofs.passes.Goals as goal
 

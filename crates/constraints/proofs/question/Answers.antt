@@ -1,7 +1,6 @@
 -- `constraints::question` meets its contract: the questions in their order, by the room that the kind has for y.
 use mathlib.Core.Path.{sym}
 use native.Mathlib.Omega.{arith}
-use borrow.Author.Rules.{rules}
 use Rattle.constraints.proofs.Passing.{asks_3, asks_4_of_x, asks_4_of_y, asks_5, asks_6}
 use Rattle.constraints.proofs.question.Goals as goal
 

@@ -1,6 +1,5 @@
 -- `constraints::record_at` meets its contract: the record is found exactly below the number of whole records.
 use borrow.Author.Tests.{lt-ltb, le-ltb}
-use borrow.Author.Rules.{rules}
 use Rattle.meaning.specs.Finite.{pick}
 use Rattle.constraints.specs.Record.{record_at, record_of}
 use Rattle.constraints.proofs.record_at.Goals as goal

@@ -1,13 +1,10 @@
 -- `enter::enter_below` meets its contract: by rows or by merging, as the test says; with differ before below.
-use Prim.Native.Nat.{ℕ, ◌<◌}
 use lib.ListN.{get_or}
 use mir.Val.{Fits}
 use mir.Syntax.{w16}
 use mathlib.Core.Path.{ap, refl, sym, ◌∙◌, subst}
-use mathlib.Core.Logic.{⊎_elim}
 use mathlib.Core.Bool.{not, false, false≢true}
 use borrow.Author.Rules.{rules}
-use borrow.Author.Tests.{not-false}
 use Rattle.tables.specs.Tables.{has}
 use Rattle.tables.specs.Rows.{Crossed}
 use Rattle.tables.proofs.Bits.{meets_in}
@@ -41,9 +38,9 @@ pub returns-then-not-has : goal.returns-then-not-has
 unfolding has
 returns-then-not-has c =
     let u : Crossed c.args.f.before c.raise-below.result c.raise-above.result false = elim c.if-not-blank.branch [
-          then-not-blank+else-crossed w ↦ subst (Crossed _ _ _) w.if-crossed.false w.crossed.ensures
-        | else-not-blank w ↦ blank_crossed _ _ _ _ c.blank.ensures (ap not w.if-not-blank.false)
-      ] in
+      | then-not-blank+else-crossed w ↦ subst (Crossed _ _ _) w.if-crossed.false w.crossed.ensures
+      | else-not-blank w ↦ blank_crossed _ _ _ _ c.blank.ensures (ap not w.if-not-blank.false)
+    ] in
     let o = or_no _ _ c.if-has-meet.false in
     entered_as _ _ c.if-apart.true (entered_well _ _ _ _ (λ S q. raised_ready _ c.requires.a_lt_n.2 _ _ _ _ c.requires.a_lt_n.0 c.requires.a_lt_n.1
     (differ_ready _ c.requires.a_lt_n.2 S _ _ _ c.requires.a_lt_n.0 c.requires.a_lt_n.1 (λ i. let h : Fits w16 (get_or c.args.f.below i 0) = search rules in h.fits) q (λ u. false≢true (sym o.0 ∙ c.has.ensures ∙ u)) _ c.parted-differ.ensures)
@@ -56,9 +53,9 @@ pub returns-else-not-has : goal.returns-else-not-has
 unfolding has
 returns-else-not-has c =
     let u : Crossed c.args.f.before c.raise-below.result c.raise-above.result false = elim c.if-not-blank.branch [
-          then-not-blank+else-crossed w ↦ subst (Crossed _ _ _) w.if-crossed.false w.crossed.ensures
-        | else-not-blank w ↦ blank_crossed _ _ _ _ c.blank.ensures (ap not w.if-not-blank.false)
-      ] in
+      | then-not-blank+else-crossed w ↦ subst (Crossed _ _ _) w.if-crossed.false w.crossed.ensures
+      | else-not-blank w ↦ blank_crossed _ _ _ _ c.blank.ensures (ap not w.if-not-blank.false)
+    ] in
     let o = or_no _ _ c.if-has-meet.false in
     entered_as _ _ c.if-apart.true (entered_well _ _ _ _ (λ S q. raised_ready _ c.requires.a_lt_n.2 _ _ _ _ c.requires.a_lt_n.0 c.requires.a_lt_n.1
     (differ_known _ S _ _ _ q (sym c.has-then-apart.ensures ∙ c.if-not-has.false))
@@ -70,9 +67,9 @@ pub returns-else-apart : goal.returns-else-apart
 unfolding has
 returns-else-apart c =
     let u : Crossed c.args.f.before c.raise-below.result c.raise-above.result false = elim c.if-not-blank.branch [
-          then-not-blank+else-crossed w ↦ subst (Crossed _ _ _) w.if-crossed.false w.crossed.ensures
-        | else-not-blank w ↦ blank_crossed _ _ _ _ c.blank.ensures (ap not w.if-not-blank.false)
-      ] in
+      | then-not-blank+else-crossed w ↦ subst (Crossed _ _ _) w.if-crossed.false w.crossed.ensures
+      | else-not-blank w ↦ blank_crossed _ _ _ _ c.blank.ensures (ap not w.if-not-blank.false)
+    ] in
     let o = or_no _ _ c.if-has-meet.false in
     entered_as _ _ c.if-apart.false (entered_well _ _ _ _ (λ S q. raised_ready _ c.requires.a_lt_n.2 S _ _ _ c.requires.a_lt_n.0 c.requires.a_lt_n.1 q (let h : Fits w16 (get_or c.args.f.above c.args.a.0 0) = search rules in h.fits) (let h : Fits w16 (get_or c.args.f.below c.args.b.0 0) = search rules in h.fits) _ _ c.raise-below.ensures c.raise-above.ensures
     (λ u. false≢true (sym o.0 ∙ c.has.ensures ∙ u))

@@ -1,5 +1,4 @@
 -- `enter::parted` meets its contract: the two groups are raised one after the other.
-use borrow.Author.Rules.{rules}
 use Rattle.enter.proofs.parted.Goals as goal
 
 pub returns : goal.returns

@@ -1,8 +1,5 @@
 -- `grouping::paint` meets its contract: with no label nothing changes; else the rows named are painted but for those that are left.
-use Prim.Native.Nat.{◌<◌}
-use Rattle.tables.proofs.Members.{passed_less, next_in_lem}
-use Rattle.grouping.proofs.Loops.{Painting, painting_none, painting_more, was_painted, none_painted}
-use borrow.Author.Rules.{rules}
+use Rattle.grouping.proofs.Loops.{Painting}
 use Rattle.grouping.proofs.paint.Given as goal
 
 abbrev pub invariant-loop-rest : goal.invariant-loop-rest

@@ -1,7 +1,6 @@
 use Prim.Native.Nat.{◌<◌}
-use Rattle.tables.proofs.Members.{Passed, passed_none, passed_more, passed_less, next_in_lem, next_named}
-use Rattle.grouping.proofs.Loops.{Only, only_one, is_two, is_one, none_two}
-use borrow.Author.Rules.{rules}
+use Rattle.tables.proofs.Members.{passed_none, passed_more, passed_less, next_in_lem, next_named}
+use Rattle.grouping.proofs.Loops.{only_one, is_two, is_one, none_two}
 use Rattle.grouping.proofs.two_labels.Goals as goal
 
 variable_in : (c : goal.After-lowest-x) → c.lowest-x.result < 16

@@ -1,8 +1,6 @@
 -- `grouping::two_labels` meets its contract: the rows named have no other label but for those that are left.
-use Prim.Native.Nat.{◌<◌}
-use Rattle.tables.proofs.Members.{Passed, passed_none, passed_more, passed_less, next_in_lem, next_named}
-use Rattle.grouping.proofs.Loops.{Only, only_one, is_two, is_one, none_two}
-use borrow.Author.Rules.{rules}
+use Rattle.tables.proofs.Members.{Passed}
+use Rattle.grouping.proofs.Loops.{Only}
 use Rattle.grouping.proofs.two_labels.Given as goal
 
 abbrev pub invariant-loop-rest : goal.invariant-loop-rest

@@ -1,11 +1,8 @@
 -- `grouping::unify` meets its contract: what its helpers ensure is what has to be made (proofs/Making.antt).
-use Prim.Native.Nat.{◌<◌}
-use mathlib.Core.Path.{◌≡◌, refl, sym, ◌∙◌}
+use mathlib.Core.Path.{refl, sym, ◌∙◌}
 use mir.Val.{Fits}
 use mir.Syntax.{w16}
-use lib.Bits.{bit_or, bit_and}
 use Rattle.meaning.proofs.Tests.{not_yes}
-use Rattle.tables.specs.Rows.{on_document}
 use Rattle.grouping.proofs.Making.{unify_differs, unify_labels, unify_document, unify_well}
 use borrow.Author.Rules.{rules}
 use Rattle.grouping.proofs.unify.Goals as goal

@@ -1,11 +1,10 @@
 use mathlib.Core.Path.{◌≡◌}
 use mathlib.Core.List.{List}
 use Rattle.meaning.specs.Tree.{IsTree}
-use Prim.Native.Nat.{ℕ, ◌/◌, ◌≤◌, ◌<◌, ◌-◌}
+use Prim.Native.Nat.{ℕ, ◌/◌, ◌≤◌, ◌<◌}
 use native.Mathlib.Omega.{arith}
-use lib.ListN.{length, get_or}
+use lib.ListN.{length}
 use borrow.Author.Rules.{rules}
-use Rattle.meaning.specs.Tree.{Node}
 use Rattle.rowbits.specs.Bit.{bit}
 use Rattle.theory.specs.Check.{is_above}
 use Rattle.answers.specs.Tree.{tree_in}
@@ -63,15 +62,14 @@ loop-i-smaller c = search rules
 
 pub loop-i-preserved : goal.loop-i-preserved
 unfolding tree_in
-loop-i-preserved c = let l = c.loop-i in
-    (
-      search rules,
-      search rules,
-      search rules,
-      λ u. set_more (λ v a. bit a u ≡ is_above (tree_in c.args.tree.now) u v) l.above l.i c.with.result
-          (omega arith) (λ v h. l.invariant.3 u v h)
-          (rw c.with.ensures (above_more _ c.requires.tree u l.i l.invariant.0 c.loop-i-test.true _ (rw (← c.parent-parent.ensures) (l.invariant.3 u _ (parent_smaller c.args.tree.now c.requires.tree c.loop-i.i c.loop-i.invariant.0 c.loop-i-test.true _ c.parent-parent.ensures))))),
-    )
+loop-i-preserved c = let l = c.loop-i in (
+  search rules,
+  search rules,
+  search rules,
+  λ u. set_more (λ v a. bit a u ≡ is_above (tree_in c.args.tree.now) u v) l.above l.i c.with.result
+      (omega arith) (λ v h. l.invariant.3 u v h)
+      (rw c.with.ensures (above_more _ c.requires.tree u l.i l.invariant.0 c.loop-i-test.true _ (rw (← c.parent-parent.ensures) (l.invariant.3 u _ (parent_smaller c.args.tree.now c.requires.tree c.loop-i.i c.loop-i.invariant.0 c.loop-i-test.true _ c.parent-parent.ensures))))),
+)
 
 pub returns : goal.returns
 unfolding tree_in

@@ -1,14 +1,11 @@
 -- `marker::ancestor_sets` meets its contract: the sets of the nodes so far are right.
 use mathlib.Core.Path.{◌≡◌}
 use Prim.Native.Nat.{◌≤◌, ◌<◌, ◌-◌}
-use native.Mathlib.Omega.{arith}
 use lib.ListN.{length, get_or}
-use borrow.Author.Rules.{rules}
 use Rattle.meaning.specs.Tree.{Node}
 use Rattle.rowbits.specs.Bit.{bit}
 use Rattle.theory.specs.Check.{is_above}
 use Rattle.answers.specs.Tree.{tree_in}
-use Rattle.marker.proofs.Sets.{above_first, above_more, set_more}
 use Rattle.marker.proofs.ancestor_sets.Given as goal
 
 abbrev pub invariant-loop-i : goal.invariant-loop-i

@@ -4,7 +4,6 @@ use mathlib.Core.Bool.{Bool, true, false}
 use native.Mathlib.Nat.{pos_of_ne-zero}
 use Prim.Native.Nat.{◌≤◌, ◌<◌}
 use borrow.Author.Tests.{lt-ltb, le-ltb, eq-eqb}
-use borrow.Author.Rules.{rules}
 use Rattle.meaning.specs.Tree.{Node, Tree}
 use Rattle.meaning.specs.Finite.{◌and◌}
 use Rattle.theory.specs.Check.{is_parent, is_earlier_sibling}

@@ -4,19 +4,16 @@ use Prim.Native.Nat.{ℕ, ◌<◌, ◌≤◌, ◌+◌, ◌/◌, ◌-◌}
 use native.Mathlib.Nat.{sub_self}
 use native.Mathlib.Omega.{arith}
 use lib.ListN.{length, drop}
-use borrow.Author.Tests.{not-true, not-false}
 use borrow.Author.Rules.{rules}
 use Rattle.meaning.specs.Marking.{unmet}
 use Rattle.meaning.specs.Results.{marker_answers}
-use Rattle.theory.specs.Check.{mark}
 use Rattle.constraints.proofs.Records.{found, ended, no_more}
 use Rattle.constraints.specs.Judgement.{constraints_in}
 use Rattle.constraints.specs.Record.{constraint_of, record_at}
 use Rattle.constraints.specs.declared.Record.{Record}
 use Rattle.constraints.specs.declared.Lookup.TheVariants.{Found}
 use Rattle.meaning.specs.Files.{judge, accepted}
-use Rattle.answers.specs.Tree.{tree_in, places_in}
-use Rattle.marker.proofs.First.{ahead, ahead_none, marked_end, marked_met, marked_unmet, names_variable, record_kind}
+use Rattle.marker.proofs.First.{ahead_none, marked_end, marked_met, marked_unmet, names_variable, record_kind}
 use Rattle.marker.specs.Verdict.{marked_of}
 use Rattle.marker.proofs.first_unmet.Goals as goal
 

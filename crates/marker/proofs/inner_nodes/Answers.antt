@@ -1,10 +1,8 @@
 use mathlib.Core.Path.{◌≡◌, ap, ◌∙◌}
-use Prim.Native.Nat.{ℕ, ◌≤◌, ◌<◌, ◌-◌}
+use Prim.Native.Nat.{ℕ, ◌<◌}
 use native.Mathlib.Omega.{arith}
 use borrow.Author.Rules.{rules}
-use Rattle.meaning.specs.Tree.{Node}
 use Rattle.meaning.specs.Finite.{anyb}
-use Rattle.rowbits.specs.Bit.{bit}
 use Rattle.theory.specs.Check.{is_parent}
 use Rattle.answers.specs.Tree.{tree_in}
 use Rattle.marker.proofs.Sets.{inner_first, inner_more}

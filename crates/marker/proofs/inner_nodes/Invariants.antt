@@ -1,14 +1,11 @@
 -- `marker::inner_nodes` meets its contract: the parents of the nodes so far are in the set, and no other node is.
-use mathlib.Core.Path.{◌≡◌, ap, ◌∙◌}
-use Prim.Native.Nat.{ℕ, ◌≤◌, ◌<◌, ◌-◌}
-use native.Mathlib.Omega.{arith}
-use borrow.Author.Rules.{rules}
+use mathlib.Core.Path.{◌≡◌}
+use Prim.Native.Nat.{◌≤◌, ◌-◌}
 use Rattle.meaning.specs.Tree.{Node}
 use Rattle.meaning.specs.Finite.{anyb}
 use Rattle.rowbits.specs.Bit.{bit}
 use Rattle.theory.specs.Check.{is_parent}
 use Rattle.answers.specs.Tree.{tree_in}
-use Rattle.marker.proofs.Sets.{inner_first, inner_more}
 use Rattle.marker.proofs.inner_nodes.Given as goal
 
 abbrev pub invariant-loop-i : goal.invariant-loop-i

@@ -1,7 +1,6 @@
 -- `marker::is_parent` meets its contract: node 0 has no parent, and any other node has the one that its record names.
 use native.Mathlib.Nat.{pos_of_ne-zero}
 use borrow.Author.Tests.{lt-ltb}
-use borrow.Author.Rules.{rules}
 use Rattle.meaning.specs.Finite.{◌and◌}
 use Rattle.theory.specs.Check.{is_parent}
 use Rattle.marker.proofs.is_parent.Goals as goal

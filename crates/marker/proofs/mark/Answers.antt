@@ -1,7 +1,6 @@
 -- `marker::mark` meets its contract: the equation is that of the answer's part, and the promise is the theory's of the meaning's marker.
 use mathlib.Core.Path.{sym, ◌∙◌}
 use native.Mathlib.Omega.{arith}
-use borrow.Author.Rules.{rules}
 use Rattle.theory.proofs.Promises.{marker_promise}
 use Rattle.marker.proofs.Answered.{file_refused}
 use Rattle.theory.proofs.ConstraintFile.{bytes}

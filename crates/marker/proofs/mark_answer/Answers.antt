@@ -1,10 +1,7 @@
 -- `marker::mark_answer` meets its contract: what the gate accepts is a tree with every variable on it (proofs/Answered.antt).
 use mathlib.Core.Path.{sym, ◌∙◌}
-use Prim.Native.Nat.{◌*◌, ◌≤◌}
 use native.Mathlib.Omega.{arith}
-use lib.ListN.{length}
 use lib.Seq.{length-take-le}
-use borrow.Author.Rules.{rules}
 use Rattle.marker.proofs.Answered.{rest, answer_refused, whole, both_accepted, all_ready}
 use Rattle.theory.proofs.ConstraintFile.{bytes}
 use Rattle.marker.specs.Verdict.{marked_of}

@@ -1,5 +1,4 @@
 -- `marker::with` meets its contract: the shifted one is the power of two, since the node is below 64.
-use borrow.Author.Rules.{rules}
 use Rattle.rowbits.proofs.Laws.{shifted_one}
 use Rattle.rowbits.specs.Bit.{with_bit}
 use Rattle.marker.proofs.with.Goals as goal

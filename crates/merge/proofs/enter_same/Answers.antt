@@ -1,12 +1,9 @@
 use mathlib.Core.Path.{◌≡◌, sym, subst}
-use mathlib.Core.Logic.{◌≢◌}
 use mathlib.Core.List.{List}
 use Prim.Native.Nat.{ℕ}
-use Rattle.meaning.specs.Constraint.{Fact}
 use Rattle.tables.specs.Rows.{Union}
 use Rattle.grouping.specs.Rows.{Gap}
-use Rattle.grouping.specs.Grouping.{Pending, lacking}
-use Rattle.merge.specs.Merging.{OneElement}
+use Rattle.grouping.specs.Grouping.{Pending}
 use Rattle.merge.proofs.Entered.{ready_top, begun, merged_clash, merged_well}
 use borrow.Author.Rules.{rules}
 use Rattle.merge.proofs.enter_same.Goals as goal

@@ -1,16 +1,13 @@
 -- `merge::enter_same` meets its contract. The invariant: whatever was pending at the start is pending now, and the variables of x are not yet the
 -- same, or x is empty and the children of the document node are the same too. Each round fills a gap of below, so that it ends.
-use mathlib.Core.Path.{◌≡◌, sym, subst}
+use mathlib.Core.Path.{◌≡◌}
 use mathlib.Core.Logic.{◌≢◌}
 use mathlib.Core.List.{List}
-use Prim.Native.Nat.{ℕ}
 use Rattle.meaning.specs.Constraint.{Fact}
 use Rattle.tables.specs.Rows.{Union}
 use Rattle.grouping.specs.Rows.{Gap}
 use Rattle.grouping.specs.Grouping.{Pending, lacking}
 use Rattle.merge.specs.Merging.{OneElement}
-use Rattle.merge.proofs.Entered.{ready_top, begun, merged_clash, merged_well}
-use borrow.Author.Rules.{rules}
 use Rattle.merge.proofs.enter_same.Given as goal
 
 abbrev pub invariant-loop-x : goal.invariant-loop-x

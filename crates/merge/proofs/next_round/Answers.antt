@@ -1,6 +1,6 @@
 -- `merge::next_round` meets its contract: a group is made, what has siblings passes on what it has, before is tested against below, and what
 -- has to become the same next is left (proofs/Rounds.antt).
-use Prim.Native.Nat.{ℕ, ◌<◌}
+use Prim.Native.Nat.{ℕ}
 use lib.ListN.{get_or}
 use mir.Val.{Fits}
 use mir.Syntax.{w16}

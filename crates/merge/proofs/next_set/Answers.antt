@@ -1,14 +1,11 @@
 -- `merge::next_set` meets its contract.
 use mathlib.Core.Path.{refl}
 use mathlib.Core.Logic.{inl, inr}
-use Prim.Native.Nat.{◌<◌}
 use native.Mathlib.Omega.{arith}
 use lib.ListN.{get_or}
 use mir.Val.{Fits}
 use mir.Syntax.{w16}
-use Rattle.tables.specs.Tables.{row}
 use Rattle.tables.proofs.Members.{lowest_in}
-use Rattle.merge.specs.Rows.{Chained, WithGap}
 use Rattle.merge.proofs.Loops.{none_apart, none_union, one_union}
 use borrow.Author.Rules.{rules}
 use Rattle.merge.proofs.next_set.Goals as goal

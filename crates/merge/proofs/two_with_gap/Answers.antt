@@ -1,6 +1,5 @@
 -- `merge::two_with_gap` meets its contract: what the two rows do not share one of them lacks.
 use Rattle.merge.proofs.Loops.{is_apart_two, not_apart_two}
-use borrow.Author.Rules.{rules}
 use Rattle.merge.proofs.two_with_gap.Goals as goal
 
 pub returns-then-except-eq0 : goal.returns-then-except-eq0

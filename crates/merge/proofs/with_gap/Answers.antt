@@ -4,7 +4,6 @@ use Prim.Native.Nat.{◌<◌}
 use native.Mathlib.Omega.{arith}
 use Rattle.tables.proofs.Members.{lowest_in}
 use Rattle.merge.proofs.Loops.{none_apart, is_apart, not_apart}
-use borrow.Author.Rules.{rules}
 use Rattle.merge.proofs.with_gap.Goals as goal
 
 variable_in : (c : goal.After-lowest-x) → c.lowest-x.result < 16

@@ -2,8 +2,8 @@ use mathlib.Core.Path.{◌≡◌, refl, ap, ◌∙◌}
 use Prim.Native.Nat.{◌^◌, ◌<◌}
 use native.Mathlib.Omega.{arith}
 use Rattle.tables.specs.Rows.{without}
-use Rattle.ordering.specs.Listing.{groups, Earliest}
-use Rattle.ordering.proofs.Listing.{length_mapped, Appending, next_in_lem, rest_less, appending_room, appending_more, appending_all}
+use Rattle.ordering.specs.Listing.{Earliest}
+use Rattle.ordering.proofs.Listing.{length_mapped, next_in_lem, rest_less, appending_room, appending_more, appending_all}
 use borrow.Author.Rules.{rules}
 use Rattle.ordering.proofs.append.Lts
 use Rattle.ordering.proofs.append.Tie

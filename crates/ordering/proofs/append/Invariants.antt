@@ -1,11 +1,6 @@
 -- `ordering::append` meets its contract: at every turn the order and the rest of the row make the whole.
-use mathlib.Core.Path.{◌≡◌, refl, ap, ◌∙◌}
-use Prim.Native.Nat.{◌^◌, ◌<◌}
-use native.Mathlib.Omega.{arith}
-use Rattle.tables.specs.Rows.{without}
-use Rattle.ordering.specs.Listing.{groups, Earliest}
-use Rattle.ordering.proofs.Listing.{length_mapped, Appending, next_in_lem, rest_less, appending_room, appending_more, appending_all}
-use borrow.Author.Rules.{rules}
+use Rattle.ordering.specs.Listing.{groups}
+use Rattle.ordering.proofs.Listing.{Appending}
 use Rattle.ordering.proofs.append.Given as goal
 
 abbrev pub invariant-loop-rest : goal.invariant-loop-rest

@@ -3,9 +3,8 @@ use Prim.Native.Nat.{◌<◌}
 use native.Mathlib.Omega.{arith}
 use lib.Bits.{bit_and}
 use Rattle.tables.specs.Tables.{row}
-use Rattle.tables.proofs.Members.{Passed, passed_none, passed_more, passed_less, passed_all, next_in_lem}
+use Rattle.tables.proofs.Members.{passed_none, passed_more, passed_less, passed_all, next_in_lem}
 use Rattle.ordering.proofs.InLine.{some_earliest, found_earliest}
-use borrow.Author.Rules.{rules}
 use Rattle.ordering.proofs.earliest.Goals as goal
 
 variable_in : (c : goal.After-lowest-x) → c.lowest-x.result < 16

@@ -1,12 +1,8 @@
 -- `ordering::earliest` meets its contract: each member that was passed has one that goes before it.
 use mathlib.Core.Logic.{◌≢◌}
-use Prim.Native.Nat.{◌<◌}
-use native.Mathlib.Omega.{arith}
 use lib.Bits.{bit_and}
 use Rattle.tables.specs.Tables.{row}
-use Rattle.tables.proofs.Members.{Passed, passed_none, passed_more, passed_less, passed_all, next_in_lem}
-use Rattle.ordering.proofs.InLine.{some_earliest, found_earliest}
-use borrow.Author.Rules.{rules}
+use Rattle.tables.proofs.Members.{Passed}
 use Rattle.ordering.proofs.earliest.Given as goal
 
 abbrev pub invariant-loop-left : goal.invariant-loop-left

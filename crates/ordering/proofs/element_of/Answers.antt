@@ -3,7 +3,6 @@ use mathlib.Core.Path.{sym, ◌∙◌}
 use Rattle.meaning.specs.Finite.{one, neg}
 use Rattle.meaning.proofs.Tests.{eq_yes, is_eq, yes_not}
 use Rattle.ordering.specs.Numbering.{element_of}
-use borrow.Author.Rules.{rules}
 use Rattle.ordering.proofs.element_of.Goals as goal
 
 pub returns-then-count-eq1 : goal.returns-then-count-eq1

@@ -1,6 +1,4 @@
 use mathlib.Core.Path.{◌≡◌}
-use Prim.Native.Nat.{◌≤◌, ◌-◌}
-use Rattle.ordering.specs.Listing.{listed, Listed}
 use Rattle.ordering.proofs.Listing.{listed_none, listed_room, listed_next}
 use borrow.Author.Rules.{rules}
 use Rattle.ordering.proofs.in_order.Goals as goal
@@ -13,11 +11,10 @@ append-o-requires c =
     (c.loop-d.invariant.1.small, listed_room c.args.after c.args.layer c.args.n c.loop-d.d c.requires.1 c.loop-d-test.true c.loop-d.o c.loop-d.invariant.1, c.requires.2)
 
 pub loop-d-preserved : goal.loop-d-preserved
-loop-d-preserved c =
-    (
-      search rules,
-      listed_next c.args.after c.args.layer c.args.n c.loop-d.d c.requires.1 c.loop-d-test.true c.loop-d.o c.loop-d.invariant.1 c.append-o.result c.append-o.ensures,
-    )
+loop-d-preserved c = (
+  search rules,
+  listed_next c.args.after c.args.layer c.args.n c.loop-d.d c.requires.1 c.loop-d-test.true c.loop-d.o c.loop-d.invariant.1 c.append-o.result c.append-o.ensures,
+)
 
 pub returns : goal.returns
 returns c = let e : c.loop-d.d ≡ c.args.n = search rules in rw (← e) c.loop-d.invariant.1

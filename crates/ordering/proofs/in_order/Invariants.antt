@@ -1,9 +1,6 @@
 -- `ordering::in_order` meets its contract: at d the order has the groups of the layers below d.
-use mathlib.Core.Path.{◌≡◌}
 use Prim.Native.Nat.{◌≤◌, ◌-◌}
 use Rattle.ordering.specs.Listing.{listed, Listed}
-use Rattle.ordering.proofs.Listing.{listed_none, listed_room, listed_next}
-use borrow.Author.Rules.{rules}
 use Rattle.ordering.proofs.in_order.Given as goal
 
 abbrev pub invariant-loop-d : goal.invariant-loop-d

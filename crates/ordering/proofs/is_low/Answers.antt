@@ -1,5 +1,4 @@
 -- `ordering::is_low` meets its contract.
-use borrow.Author.Rules.{rules}
 use Rattle.ordering.proofs.is_low.Goals as goal
 
 pub returns : goal.returns

@@ -1,6 +1,5 @@
 -- `ordering::is_near` meets its contract.
 use Rattle.tables.proofs.Helpers.{and_is}
-use borrow.Author.Rules.{rules}
 use Rattle.ordering.proofs.is_near.Goals as goal
 
 pub returns : goal.returns

@@ -1,6 +1,5 @@
 use mathlib.Core.Path.{◌≡◌, subst}
-use Prim.Native.Nat.{ℕ, ◌≤◌, ◌-◌}
-use lib.ListN.{length}
+use Prim.Native.Nat.{ℕ}
 use Rattle.ordering.proofs.Layered.{Layered, layered_none, layered_more}
 use Rattle.ordering.specs.Rows.{deep}
 use borrow.Author.Rules.{rules}
@@ -11,13 +10,12 @@ loop-x-init c = (search rules, search rules, layered_none _ _ _ _)
 
 pub loop-x-preserved : goal.loop-x-preserved
 unfolding deep
-loop-x-preserved c =
-    (
-      search rules,
-      search rules,
-      layered_more _ _ _ _ c.loop-x.x _ _ _ _ c.loop-x.layer c.loop-x.invariant.1 c.over.ensures
-          c.count-depth.ensures.0 c.has.ensures c.gain_one.ensures c.loop-x.invariant.2,
-    )
+loop-x-preserved c = (
+  search rules,
+  search rules,
+  layered_more _ _ _ _ c.loop-x.x _ _ _ _ c.loop-x.layer c.loop-x.invariant.1 c.over.ensures
+      c.count-depth.ensures.0 c.has.ensures c.gain_one.ensures c.loop-x.invariant.2,
+)
 
 pub returns : goal.returns
 unfolding Layered

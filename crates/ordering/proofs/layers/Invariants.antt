@@ -1,10 +1,8 @@
 -- `ordering::layers` meets its contract: at x the rows hold the lowest variables below x, each in the row of its depth.
-use mathlib.Core.Path.{◌≡◌, subst}
-use Prim.Native.Nat.{ℕ, ◌≤◌, ◌-◌}
+use mathlib.Core.Path.{◌≡◌}
+use Prim.Native.Nat.{◌≤◌, ◌-◌}
 use lib.ListN.{length}
-use Rattle.ordering.proofs.Layered.{Layered, layered_none, layered_more}
-use Rattle.ordering.specs.Rows.{deep}
-use borrow.Author.Rules.{rules}
+use Rattle.ordering.proofs.Layered.{Layered}
 use Rattle.ordering.proofs.layers.Given as goal
 
 abbrev pub invariant-loop-x : goal.invariant-loop-x

@@ -1,6 +1,5 @@
 use mathlib.Core.Path.{◌≡◌}
-use Prim.Native.Nat.{◌≤◌, ◌-◌}
-use Rattle.ordering.specs.Rows.{Gathered, is_low, is_lowest}
+use Rattle.ordering.specs.Rows.{is_low, is_lowest}
 use Rattle.ordering.proofs.Bits.{gather_none, gather_more, gather_except}
 use borrow.Author.Rules.{rules}
 use Rattle.ordering.proofs.lows.Goals as goal

@@ -1,9 +1,6 @@
 -- `ordering::lows` meets its contract: at x the row holds the lowest variables below x, of roots too, which are left out at the end.
-use mathlib.Core.Path.{◌≡◌}
 use Prim.Native.Nat.{◌≤◌, ◌-◌}
-use Rattle.ordering.specs.Rows.{Gathered, is_low, is_lowest}
-use Rattle.ordering.proofs.Bits.{gather_none, gather_more, gather_except}
-use borrow.Author.Rules.{rules}
+use Rattle.ordering.specs.Rows.{Gathered, is_low}
 use Rattle.ordering.proofs.lows.Given as goal
 
 abbrev pub invariant-loop-x : goal.invariant-loop-x

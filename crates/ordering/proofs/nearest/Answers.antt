@@ -1,10 +1,6 @@
-use mathlib.Core.Path.{◌≡◌, sym, ◌∙◌}
-use Prim.Native.Nat.{◌<◌, ◌≤◌, ◌+◌, ◌-◌}
+use mathlib.Core.Path.{sym, ◌∙◌}
 use native.Mathlib.Omega.{arith}
-use lib.ListN.{get_or, drop}
-use Rattle.meaning.specs.Finite.{position}
 use Rattle.ordering.specs.Rows.{near}
-use Rattle.ordering.specs.Listing.{groups}
 use Rattle.ordering.proofs.Listing.{length_mapped, inside_at, scan_here, scan_next, scan_end}
 use borrow.Author.Rules.{rules}
 use Rattle.ordering.proofs.nearest.Goals as goal

@@ -1,13 +1,10 @@
 -- `ordering::nearest` meets its contract: at every place the groups before it and the place in the rest make the whole.
-use mathlib.Core.Path.{◌≡◌, sym, ◌∙◌}
-use Prim.Native.Nat.{◌<◌, ◌≤◌, ◌+◌, ◌-◌}
-use native.Mathlib.Omega.{arith}
-use lib.ListN.{get_or, drop}
+use mathlib.Core.Path.{◌≡◌}
+use Prim.Native.Nat.{◌≤◌, ◌+◌, ◌-◌}
+use lib.ListN.{drop}
 use Rattle.meaning.specs.Finite.{position}
 use Rattle.ordering.specs.Rows.{near}
 use Rattle.ordering.specs.Listing.{groups}
-use Rattle.ordering.proofs.Listing.{length_mapped, inside_at, scan_here, scan_next, scan_end}
-use borrow.Author.Rules.{rules}
 use Rattle.ordering.proofs.nearest.Given as goal
 
 abbrev pub invariant-loop-i : goal.invariant-loop-i

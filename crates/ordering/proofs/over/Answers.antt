@@ -1,6 +1,5 @@
 -- `ordering::over` meets its contract.
 use Rattle.ordering.specs.Rows.{over_row}
-use borrow.Author.Rules.{rules}
 use Rattle.ordering.proofs.over.Goals as goal
 
 pub returns : goal.returns

@@ -1,9 +1,9 @@
 use mathlib.Core.Path.{◌≡◌}
-use Prim.Native.Nat.{◌+◌, ◌-◌, ◌<◌, ◌≤◌}
+use Prim.Native.Nat.{◌+◌, ◌-◌, ◌<◌}
 use native.Mathlib.Omega.{arith}
 use lib.ListN.{length}
 use Rattle.ordering.specs.Listing.{groups}
-use Rattle.ordering.proofs.Listing.{length_mapped, count_is, member_at, inside_at, Placing, placing_none, placing_more, placing_all}
+use Rattle.ordering.proofs.Listing.{length_mapped, count_is, member_at, inside_at, placing_none, placing_more, placing_all}
 use borrow.Author.Rules.{rules}
 use Rattle.ordering.proofs.places.Goals as goal
 

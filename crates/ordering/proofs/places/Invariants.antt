@@ -1,11 +1,9 @@
 -- `ordering::places` meets its contract: at i the places of the groups from i on are stored.
 use mathlib.Core.Path.{◌≡◌}
-use Prim.Native.Nat.{◌+◌, ◌-◌, ◌<◌, ◌≤◌}
-use native.Mathlib.Omega.{arith}
+use Prim.Native.Nat.{◌≤◌}
 use lib.ListN.{length}
 use Rattle.ordering.specs.Listing.{groups}
-use Rattle.ordering.proofs.Listing.{length_mapped, count_is, member_at, inside_at, Placing, placing_none, placing_more, placing_all}
-use borrow.Author.Rules.{rules}
+use Rattle.ordering.proofs.Listing.{Placing}
 use Rattle.ordering.proofs.places.Given as goal
 
 abbrev pub invariant-loop-i : goal.invariant-loop-i

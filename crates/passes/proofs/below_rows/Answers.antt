@@ -1,8 +1,5 @@
-use Prim.Native.Nat.{◌≤◌, ◌-◌}
 use borrow.Author.Rules.{rules}
-use Rattle.tables.specs.Tables.{row}
-use Rattle.tables.proofs.Loops.{Rowing, rowing_none, rowing_more}
-use Rattle.passes.specs.Rows.{first_row}
+use Rattle.tables.proofs.Loops.{rowing_none, rowing_more}
 use Rattle.passes.proofs.Chain.{chained_rows}
 use Rattle.passes.proofs.below_rows.Goals as goal
 

@@ -1,10 +1,8 @@
 -- `passes::below_rows` meets its contract: the loop applies the rules that look at one row, then the rows are chained.
 use Prim.Native.Nat.{◌≤◌, ◌-◌}
-use borrow.Author.Rules.{rules}
 use Rattle.tables.specs.Tables.{row}
-use Rattle.tables.proofs.Loops.{Rowing, rowing_none, rowing_more}
+use Rattle.tables.proofs.Loops.{Rowing}
 use Rattle.passes.specs.Rows.{first_row}
-use Rattle.passes.proofs.Chain.{chained_rows}
 use Rattle.passes.proofs.below_rows.Given as goal
 
 abbrev pub invariant-loop-x : goal.invariant-loop-x

@@ -1,11 +1,6 @@
-use mathlib.Core.Path.{◌≡◌}
-use Prim.Native.Nat.{◌≤◌, ◌-◌}
-use lib.ListN.{length}
 use borrow.Author.Rules.{rules}
-use Rattle.rowbits.specs.Bit.{bit}
-use Rattle.tables.specs.Rows.{gained}
-use Rattle.tables.proofs.Loops.{Rowing, rowing_none, rowing_more}
-use Rattle.passes.proofs.Chain.{Lifting, lifting_none, lifting_more, lifted, chain_of}
+use Rattle.tables.proofs.Loops.{rowing_none, rowing_more}
+use Rattle.passes.proofs.Chain.{lifting_none, lifting_more, lifted, chain_of}
 use Rattle.passes.proofs.chain_rows.Goals as goal
 
 pub loop-y-init : goal.loop-y-init

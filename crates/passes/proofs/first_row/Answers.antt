@@ -1,5 +1,4 @@
 -- `passes::first_row` meets its contract: from what its helpers ensure.
-use borrow.Author.Rules.{rules}
 use Rattle.passes.specs.Rows.{first_row}
 use Rattle.passes.proofs.first_row.Goals as goal
 

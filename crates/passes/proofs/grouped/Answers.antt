@@ -1,6 +1,5 @@
-use Prim.Native.Nat.{◌≤◌, ◌-◌}
 use borrow.Author.Rules.{rules}
-use Rattle.passes.proofs.Chain.{Grouping, grouping_none, grouping_more}
+use Rattle.passes.proofs.Chain.{grouping_none, grouping_more}
 use Rattle.passes.proofs.grouped.Goals as goal
 
 pub loop-x-init : goal.loop-x-init

@@ -1,7 +1,6 @@
 -- `passes::grouped` meets its contract: at x it has what the rows before x have of others.
 use Prim.Native.Nat.{◌≤◌, ◌-◌}
-use borrow.Author.Rules.{rules}
-use Rattle.passes.proofs.Chain.{Grouping, grouping_none, grouping_more}
+use Rattle.passes.proofs.Chain.{Grouping}
 use Rattle.passes.proofs.grouped.Given as goal
 
 abbrev pub invariant-loop-x : goal.invariant-loop-x

@@ -1,7 +1,6 @@
-use Prim.Native.Nat.{◌≤◌, ◌-◌}
 use native.Mathlib.Numerals.{add-one-le}
 use borrow.Author.Rules.{rules}
-use Rattle.passes.proofs.Joining.{Joining, joining_none, joining_more, joining_all}
+use Rattle.passes.proofs.Joining.{joining_none, joining_more, joining_all}
 use Rattle.passes.proofs.join_rows.Goals as goal
 
 pub loop-x-init : goal.loop-x-init

@@ -1,8 +1,6 @@
 -- `passes::join_rows` meets its contract: the loop has joined the rows below x.
 use Prim.Native.Nat.{◌≤◌, ◌-◌}
-use native.Mathlib.Numerals.{add-one-le}
-use borrow.Author.Rules.{rules}
-use Rattle.passes.proofs.Joining.{Joining, joining_none, joining_more, joining_all}
+use Rattle.passes.proofs.Joining.{Joining}
 use Rattle.passes.proofs.join_rows.Given as goal
 
 abbrev pub invariant-loop-x : goal.invariant-loop-x

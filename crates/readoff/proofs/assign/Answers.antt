@@ -1,15 +1,12 @@
 use mathlib.Core.Path.{◌≡◌, sym, ap, ◌∙◌}
-use mathlib.Core.List.{List}
-use Prim.Native.Nat.{ℕ, ◌≤◌, ◌-◌}
 use lib.Bits.{bit_and}
-use lib.ListN.{length}
-use Rattle.meaning.specs.Finite.{Yes, tab, position}
+use Rattle.meaning.specs.Finite.{position}
 use Rattle.meaning.proofs.Tests.{not_yes, yes_not}
 use Rattle.rowbits.specs.Bit.{bit}
 use Rattle.tables.specs.Tables.{row}
 use Rattle.ordering.specs.Numbering.{numbered}
-use Rattle.ordering.specs.Listing.{groups, Placed}
-use Rattle.readoff.specs.Nodes.{Led, node_numbers, place_in}
+use Rattle.ordering.specs.Listing.{groups}
+use Rattle.readoff.specs.Nodes.{place_in}
 use Rattle.ordering.proofs.Listing.{length_mapped}
 use Rattle.readoff.proofs.Places.{place_most, place_led}
 use Rattle.readoff.proofs.Numbering.{numbered_fits}
@@ -26,13 +23,12 @@ loop-x-init c = (search rules, search rules, λ gs p w. assigned_none _ _)
 
 pub loop-x-preserved-then-has : goal.loop-x-preserved-then-has
 unfolding place_in
-loop-x-preserved-then-has c =
-    (
-      search rules,
-      search rules,
-      λ gs p v. assigned_more c.loop-x.nodes c.loop-x.x _ (place_in c.args.below c.args.above c.args.root c.args.element gs) (search rules)
-          (pick_on _ _ _ (sym c.has.ensures ∙ c.if-has.true)) (c.loop-x.invariant.2 gs p v),
-    )
+loop-x-preserved-then-has c = (
+  search rules,
+  search rules,
+  λ gs p v. assigned_more c.loop-x.nodes c.loop-x.x _ (place_in c.args.below c.args.above c.args.root c.args.element gs) (search rules)
+      (pick_on _ _ _ (sym c.has.ensures ∙ c.if-has.true)) (c.loop-x.invariant.2 gs p v),
+)
 
 pub bounds-at-low : goal.bounds-at-low
 bounds-at-low c =
@@ -45,21 +41,20 @@ node_at-requires c =
     let p = c.places-at.ensures in
     let v = c.requires.3 in
     let at : row c.places-at.result c.lowest-low.result ≡ position (bit (bit_and (row c.args.above c.loop-x.x) (row c.args.below c.loop-x.x))) gs =
-        place_led c.args.below c.args.above _ _ gs c.places-at.result v p c.loop-x.x _ (search rules) (not_yes (sym c.has.ensures ∙ c.if-has.false)) c.lowest-low.ensures in
+    place_led c.args.below c.args.above _ _ gs c.places-at.result v p c.loop-x.x _ (search rules) (not_yes (sym c.has.ensures ∙ c.if-has.false)) c.lowest-low.ensures in
     numbered_fits _ _ _
     (rw at (place_most (bit (bit_and (row c.args.above c.loop-x.x) (row c.args.below c.loop-x.x))) c.args.order (search (rules, length_mapped)) c.requires.0))
     c.requires.1
 
 pub loop-x-preserved : goal.loop-x-preserved
 unfolding place_in
-loop-x-preserved c =
-    (
-      search rules,
-      search rules,
-      λ gs p v. assigned_more c.loop-x.nodes c.loop-x.x _ (place_in c.args.below c.args.above c.args.root c.args.element gs) (search rules)
-          (c.node_at.ensures ∙ ap (numbered c.args.element) (place_led c.args.below c.args.above _ _ gs c.places-at.result v p c.loop-x.x _ (search rules) (not_yes (sym c.has.ensures ∙ c.if-has.false)) c.lowest-low.ensures)
-          ∙ pick_off _ _ _ (yes_not (not_yes (sym c.has.ensures ∙ c.if-has.false)))) (c.loop-x.invariant.2 gs p v),
-    )
+loop-x-preserved c = (
+  search rules,
+  search rules,
+  λ gs p v. assigned_more c.loop-x.nodes c.loop-x.x _ (place_in c.args.below c.args.above c.args.root c.args.element gs) (search rules)
+      (c.node_at.ensures ∙ ap (numbered c.args.element) (place_led c.args.below c.args.above _ _ gs c.places-at.result v p c.loop-x.x _ (search rules) (not_yes (sym c.has.ensures ∙ c.if-has.false)) c.lowest-low.ensures)
+      ∙ pick_off _ _ _ (yes_not (not_yes (sym c.has.ensures ∙ c.if-has.false)))) (c.loop-x.invariant.2 gs p v),
+)
 
 pub returns : goal.returns
 returns c =

@@ -1,22 +1,11 @@
 -- `readoff::assign` meets its contract: at x the variables below x have their nodes.
-use mathlib.Core.Path.{◌≡◌, sym, ap, ◌∙◌}
+use mathlib.Core.Path.{◌≡◌}
 use mathlib.Core.List.{List}
 use Prim.Native.Nat.{ℕ, ◌≤◌, ◌-◌}
-use lib.Bits.{bit_and}
 use lib.ListN.{length}
-use Rattle.meaning.specs.Finite.{Yes, tab, position}
-use Rattle.meaning.proofs.Tests.{not_yes, yes_not}
-use Rattle.rowbits.specs.Bit.{bit}
-use Rattle.tables.specs.Tables.{row}
-use Rattle.ordering.specs.Numbering.{numbered}
-use Rattle.ordering.specs.Listing.{groups, Placed}
+use Rattle.meaning.specs.Finite.{tab}
+use Rattle.ordering.specs.Listing.{Placed}
 use Rattle.readoff.specs.Nodes.{Led, node_numbers, place_in}
-use Rattle.ordering.proofs.Listing.{length_mapped}
-use Rattle.readoff.proofs.Places.{place_most, place_led}
-use Rattle.readoff.proofs.Numbering.{numbered_fits}
-use Rattle.tables.proofs.Helpers.{pick_on, pick_off}
-use Rattle.readoff.proofs.Written.{assigned_none, assigned_more}
-use borrow.Author.Rules.{rules}
 use Rattle.readoff.proofs.assign.Given as goal
 
 -- the order has gone into `places`, so this is of every order that has these places

@@ -2,7 +2,6 @@
 use native.Mathlib.Omega.{arith}
 use lib.ListN.{length-set}
 use Rattle.readoff.proofs.Written.{put_four}
-use borrow.Author.Rules.{rules}
 use Rattle.readoff.proofs.put.Goals as goal
 
 pub bounds-answer-at-2 : goal.bounds-answer-at-2

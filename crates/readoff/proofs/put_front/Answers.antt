@@ -4,7 +4,6 @@ use native.Mathlib.Omega.{arith}
 use Rattle.meaning.specs.ReadOff.{node_bytes}
 use Rattle.readoff.specs.Written.{Recorded, blank_at}
 use Rattle.readoff.proofs.Written.{recorded_none, recorded_more, recorded_all}
-use borrow.Author.Rules.{rules}
 use Rattle.readoff.proofs.put_front.Lts
 use Rattle.readoff.proofs.put_front.Tie
 use Rattle.readoff.proofs.put_front.Reads

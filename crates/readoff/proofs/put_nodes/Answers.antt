@@ -1,12 +1,6 @@
-use mathlib.Core.Path.{◌≡◌}
-use Prim.Native.Nat.{◌<◌, ◌≤◌, ◌-◌}
 use native.Mathlib.Nat.{le_of_lt}
 use native.Mathlib.Omega.{arith}
-use lib.ListN.{length, get_or}
 use Rattle.ordering.specs.Numbering.{numbered}
-use Rattle.ordering.specs.Listing.{groups}
-use Rattle.readoff.specs.Nodes.{group_record}
-use Rattle.readoff.specs.Written.{Recorded}
 use Rattle.ordering.proofs.Listing.{length_mapped, inside_at}
 use Rattle.readoff.proofs.Numbering.{numbered_later, numbered_fits}
 use Rattle.readoff.proofs.Written.{recorded_none, recorded_more, recorded_all, group_record_lem}
@@ -46,12 +40,11 @@ put_node-requires c =
     omega (arith, c.node_at.ensures, numbered_later c.args.element _ _ c.loop-i-test.true, c.requires.3, c.loop-i.invariant.1.long)
 
 pub loop-i-preserved : goal.loop-i-preserved
-loop-i-preserved c =
-    (
-      search rules,
-      recorded_more (numbered c.args.element) _ (numbered_later c.args.element) c.loop-i.i _ _ c.args.answer.now c.loop-i.answer c.put_node.new.answer c.node_at.ensures
-          (group_record_lem _ _ _ _ _ _ _ (search (rules, length_mapped)) c.requires.0 c.loop-i.i c.loop-i-test.true _ _ _ c.node_at.ensures c.over.ensures c.parent_of-parent.ensures) c.loop-i.invariant.1 c.put_node.ensures,
-    )
+loop-i-preserved c = (
+  search rules,
+  recorded_more (numbered c.args.element) _ (numbered_later c.args.element) c.loop-i.i _ _ c.args.answer.now c.loop-i.answer c.put_node.new.answer c.node_at.ensures
+      (group_record_lem _ _ _ _ _ _ _ (search (rules, length_mapped)) c.requires.0 c.loop-i.i c.loop-i-test.true _ _ _ c.node_at.ensures c.over.ensures c.parent_of-parent.ensures) c.loop-i.invariant.1 c.put_node.ensures,
+)
 
 pub shape_of-answer : goal.shape_of-answer
 shape_of-answer c = c.loop-i.invariant.1.long

@@ -1,10 +1,8 @@
 use mathlib.Core.Path.{refl, ap}
 use mathlib.Core.List.{[], ◌∷◌}
-use Prim.Native.Nat.{ℕ, ◌+◌, ◌≤◌, ◌-◌}
+use Prim.Native.Nat.{ℕ, ◌+◌}
 use native.Mathlib.Omega.{arith}
 use Rattle.meaning.specs.ReadOff.{place_bytes}
-use Rattle.readoff.specs.Nodes.{node_numbers}
-use Rattle.readoff.specs.Written.{Recorded, place_record}
 use Rattle.readoff.proofs.Written.{recorded_none, recorded_more, recorded_all, number_at}
 use borrow.Author.Rules.{rules}
 use Rattle.readoff.proofs.put_places.Goals as goal
@@ -17,12 +15,11 @@ put_place-requires c = omega (arith, c.requires, c.loop-x.invariant.1.long)
 
 pub loop-x-preserved : goal.loop-x-preserved
 unfolding place_bytes
-loop-x-preserved c =
-    (
-      search rules,
-      recorded_more _ _ (λ j k m. omega arith) c.loop-x.x (c.args.first + c.loop-x.x) _ c.args.answer.now c.loop-x.answer c.put_place.new.answer refl
-          (ap (λ (v : ℕ). 2 ∷ c.loop-x.x ∷ v ∷ 0 ∷ []) (number_at c.args.n c.args.nodes c.loop-x.x c.loop-x-test.true)) c.loop-x.invariant.1 c.put_place.ensures,
-    )
+loop-x-preserved c = (
+  search rules,
+  recorded_more _ _ (λ j k m. omega arith) c.loop-x.x (c.args.first + c.loop-x.x) _ c.args.answer.now c.loop-x.answer c.put_place.new.answer refl
+      (ap (λ (v : ℕ). 2 ∷ c.loop-x.x ∷ v ∷ 0 ∷ []) (number_at c.args.n c.args.nodes c.loop-x.x c.loop-x-test.true)) c.loop-x.invariant.1 c.put_place.ensures,
+)
 
 pub shape_of-answer : goal.shape_of-answer
 shape_of-answer c = c.loop-x.invariant.1.long

@@ -1,13 +1,7 @@
 -- `readoff::put_places` meets its contract: at x the places of the variables below x are written.
-use mathlib.Core.Path.{refl, ap}
-use mathlib.Core.List.{[], ◌∷◌}
-use Prim.Native.Nat.{ℕ, ◌+◌, ◌≤◌, ◌-◌}
-use native.Mathlib.Omega.{arith}
-use Rattle.meaning.specs.ReadOff.{place_bytes}
+use Prim.Native.Nat.{◌+◌, ◌≤◌, ◌-◌}
 use Rattle.readoff.specs.Nodes.{node_numbers}
 use Rattle.readoff.specs.Written.{Recorded, place_record}
-use Rattle.readoff.proofs.Written.{recorded_none, recorded_more, recorded_all, number_at}
-use borrow.Author.Rules.{rules}
 use Rattle.readoff.proofs.put_places.Given as goal
 
 abbrev pub invariant-loop-x : goal.invariant-loop-x

@@ -1,8 +1,6 @@
-use mathlib.Core.Path.{◌≡◌, refl}
+use mathlib.Core.Path.{refl}
 use Prim.Native.Nat.{◌≤◌, ◌<◌}
 use native.Mathlib.Omega.{arith}
-use borrow.Author.Rules.{rules}
-use Rattle.tables.specs.declared.Facts.{Facts}
 use Rattle.search.specs.Searching.{tables_of}
 use Rattle.search.proofs.Entering.{never_apart}
 use Rattle.search.proofs.Lines.{step_as, first_line, second_line, first_counted, line_clash, line_solved, line_spent, line_first, line_spent_second, line_second}
@@ -69,7 +67,7 @@ line-overflow_add-used t c =
     let w = c.requires.ready.1 in
     let alternatives = split.3 _ w in
     let used : (c.args.count < c.search-ended.result.count) × (c.search-ended.result.count ≤ c.args.allowance) =
-        first_counted _ _ _ _ _ w _ _ _ alternatives _ (c.search-ended.ensures _ (first_line _ _ _ w _ _ _ alternatives _ c.enter_below-entered.ensures)) c.in-None.is in
+    first_counted _ _ _ _ _ w _ _ _ alternatives _ (c.search-ended.ensures _ (first_line _ _ _ w _ _ _ alternatives _ c.enter_below-entered.ensures)) c.in-None.is in
     omega (arith, used, c.if-used-allowance.false, c.ranges.allowance)
 
 pub line-search-ended-requires-2 : goal.line-search-ended-requires-2
@@ -79,7 +77,7 @@ line-search-ended-requires-2 t c =
     let w = c.requires.ready.1 in
     let alternatives = split.3 _ w in
     let used : (c.args.count < c.search-ended.result.count) × (c.search-ended.result.count ≤ c.args.allowance) =
-        first_counted _ _ _ _ _ w _ _ _ alternatives _ (c.search-ended.ensures _ (first_line _ _ _ w _ _ _ alternatives _ c.enter_below-entered.ensures)) c.in-None.is in
+    first_counted _ _ _ _ _ w _ _ _ alternatives _ (c.search-ended.ensures _ (first_line _ _ _ w _ _ _ alternatives _ c.enter_below-entered.ensures)) c.in-None.is in
     let left = c.if-used-allowance.false in
     (omega (arith, c.decreases), ((c.requires.n_bound.0, omega arith), (_, second_line _ _ _ w _ _ _ alternatives _ c.enter_below-entered-2.ensures)))
 

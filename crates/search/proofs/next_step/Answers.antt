@@ -2,7 +2,6 @@
 -- below(a, y) of a join of siblings. Of the document node's join below(r, w) is settled, since r is a root, and comes second. That of a
 -- chain join is entered as it stands.
 use mathlib.Core.Bool.{true, false}
-use borrow.Author.Rules.{rules}
 use Rattle.meaning.specs.Settled.{root_below}
 use Rattle.search.proofs.Entering.{enters_one, enters_apart, enters_two, enters_first, never_apart, chain_forked, joined, step_solved, step_split}
 use Rattle.search.proofs.next_step.Goals as goal

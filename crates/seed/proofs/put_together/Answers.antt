@@ -1,6 +1,5 @@
 -- `put_together` makes the tables by kind: what it calls gives the rows of a kind and the union of two tables.
 use mathlib.Core.Path.{refl}
-use borrow.Author.Rules.{rules}
 use Rattle.seed.proofs.Parts.{both_of}
 use Rattle.seed.proofs.put_together.Goals as goal
 

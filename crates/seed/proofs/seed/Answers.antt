@@ -1,12 +1,9 @@
 use mathlib.Core.Path.{◌≡◌, refl}
-use Prim.Native.Nat.{ℕ, ◌≤◌, ◌-◌, ◌/◌}
+use Prim.Native.Nat.{ℕ}
 use native.Mathlib.Omega.{arith}
-use lib.ListN.{length}
-use Rattle.constraints.specs.Judgement.{constraints_in}
 use Rattle.constraints.proofs.Records.{accepted_file, no_more}
-use Rattle.seed.proofs.Seeding.{Seeding, seeding_start, seeding_step, seeding_clash, few}
+use Rattle.seed.proofs.Seeding.{seeding_start, seeding_step, seeding_clash, few}
 use Rattle.seed.proofs.Together.{exact, one_label, seeded}
-use borrow.Author.Rules.{rules}
 use Rattle.seed.proofs.seed.Goals as goal
 
 pub loop-position-init : goal.loop-position-init

@@ -1,8 +1,6 @@
 use mathlib.Core.Path.{refl}
-use Prim.Native.Nat.{◌≤◌, ◌-◌}
 use borrow.Author.Rules.{rules}
-use Rattle.tables.proofs.Loops.{Rowing, rowing_none, rowing_more}
-use Rattle.seed.specs.Seeds.{kind_row}
+use Rattle.tables.proofs.Loops.{rowing_none, rowing_more}
 use Rattle.seed.proofs.Parts.{rows_of}
 use Rattle.seed.proofs.table.Goals as goal
 

@@ -1,10 +1,7 @@
 -- `seed::table` meets its contract: the loop has copied the rows below x.
-use mathlib.Core.Path.{refl}
 use Prim.Native.Nat.{◌≤◌, ◌-◌}
-use borrow.Author.Rules.{rules}
-use Rattle.tables.proofs.Loops.{Rowing, rowing_none, rowing_more}
+use Rattle.tables.proofs.Loops.{Rowing}
 use Rattle.seed.specs.Seeds.{kind_row}
-use Rattle.seed.proofs.Parts.{rows_of}
 use Rattle.seed.proofs.table.Given as goal
 
 abbrev pub invariant-loop-x : goal.invariant-loop-x

@@ -1,4 +1,3 @@
-use borrow.Author.Rules.{rules}
 use Rattle.settle.proofs.Reaching.{passed_on}
 use Rattle.settle.proofs.child_rows.Goals as goal
 

@@ -1,4 +1,3 @@
-use borrow.Author.Rules.{rules}
 use Rattle.settle.proofs.Reaching.{parted}
 use Rattle.settle.proofs.differ_rows.Goals as goal
 

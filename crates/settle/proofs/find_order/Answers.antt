@@ -1,5 +1,4 @@
 -- `settle::find_order` meets its contract.
-use borrow.Author.Rules.{rules}
 use Rattle.settle.proofs.find_order.Goals as goal
 
 pub returns : goal.returns

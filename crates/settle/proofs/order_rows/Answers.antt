@@ -1,4 +1,3 @@
-use borrow.Author.Rules.{rules}
 use Rattle.settle.proofs.Reaching.{ordered, ordered_alone}
 use Rattle.settle.proofs.order_rows.Goals as goal
 

@@ -1,13 +1,9 @@
-use Prim.Native.Nat.{◌≤◌, ◌-◌}
 use lib.ListN.{get_or}
 use mir.Val.{Fits}
 use mir.Syntax.{w16}
 use borrow.Author.Rules.{rules}
-use Rattle.rowbits.specs.Bit.{bit}
-use Rattle.tables.specs.Tables.{row}
-use Rattle.tables.specs.Rows.{gained}
-use Rattle.tables.proofs.Loops.{Rowing, rowing_none, rowing_more}
-use Rattle.settle.proofs.Reaching.{Reaching, reaching_none, reaching_more, reached}
+use Rattle.tables.proofs.Loops.{rowing_none, rowing_more}
+use Rattle.settle.proofs.Reaching.{reaching_none, reaching_more, reached}
 use Rattle.settle.proofs.reach.Goals as goal
 
 pub loop-z-init : goal.loop-z-init

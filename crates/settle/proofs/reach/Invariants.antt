@@ -1,14 +1,10 @@
 -- `settle::reach` meets its contract: z by z each row gains row z of b where the same row of a has z.
 use Prim.Native.Nat.{◌≤◌, ◌-◌}
-use lib.ListN.{get_or}
-use mir.Val.{Fits}
-use mir.Syntax.{w16}
-use borrow.Author.Rules.{rules}
 use Rattle.rowbits.specs.Bit.{bit}
 use Rattle.tables.specs.Tables.{row}
 use Rattle.tables.specs.Rows.{gained}
-use Rattle.tables.proofs.Loops.{Rowing, rowing_none, rowing_more}
-use Rattle.settle.proofs.Reaching.{Reaching, reaching_none, reaching_more, reached}
+use Rattle.tables.proofs.Loops.{Rowing}
+use Rattle.settle.proofs.Reaching.{Reaching}
 use Rattle.settle.proofs.reach.Given as goal
 
 abbrev pub invariant-loop-x : goal.invariant-loop-x

@@ -1,16 +1,15 @@
 use mathlib.Core.Path.{◌≡◌, refl, sym}
 use mathlib.Core.Bool.{false≢true}
 use mathlib.Core.List.{List}
-use Prim.Native.Nat.{ℕ, ◌-◌, ◌<◌}
+use Prim.Native.Nat.{ℕ, ◌<◌}
 use native.Mathlib.Omega.{arith}
 use lib.ListN.{length, get_or}
 use mir.Val.{Fits}
 use mir.Syntax.{w16}
 use borrow.Author.Rules.{rules}
-use borrow.Author.Tests.{not-true, not-false}
 use Rattle.meaning.specs.Constraint.{Fact}
 use Rattle.tables.specs.Tables.{row, Seeded}
-use Rattle.passes.specs.Steps.{weight, BareRules}
+use Rattle.passes.specs.Steps.{BareRules}
 use Rattle.settle.proofs.Sibling.{Rowed, ordering, passing, ordered_clash, ordered_seeded, ordered_passed, ordered_bare, ordered_closed, both_seeded, both_grew, no_siblings}
 use Rattle.settle.proofs.Ending.{ready, grew, no_less, weight_most}
 use Rattle.settle.proofs.settle.Lts

@@ -1,7 +1,6 @@
 use mathlib.Core.Path.{refl}
-use Prim.Native.Nat.{◌≤◌, ◌-◌}
 use borrow.Author.Rules.{rules}
-use Rattle.settle.proofs.Reaching.{Comparing, comparing_none, comparing_more, compared}
+use Rattle.settle.proofs.Reaching.{comparing_none, comparing_more, compared}
 use Rattle.settle.proofs.unlike.Goals as goal
 
 pub loop-x-init : goal.loop-x-init

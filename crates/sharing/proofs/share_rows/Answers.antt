@@ -1,6 +1,5 @@
-use mathlib.Core.Path.{◌≡◌, refl, sym, ap, ◌∙◌, subst}
-use mathlib.Core.Bool.{false}
-use Prim.Native.Nat.{ℕ, ◌≤◌, ◌<◌, ◌-◌}
+use mathlib.Core.Path.{refl, sym, ap, ◌∙◌, subst}
+use Prim.Native.Nat.{ℕ, ◌<◌}
 use native.Mathlib.Numerals.{add-one-le}
 use native.Mathlib.Omega.{arith}
 use lib.Bits.{bit_or, bit_and, and_le_l}
@@ -13,8 +12,8 @@ use Rattle.tables.proofs.Bits.{in_both}
 use Rattle.tables.proofs.Helpers.{doubled}
 use Rattle.tables.proofs.Members.{passed_none, passed_less, next_in_lem, next_named}
 use Rattle.sharing.specs.Shares.{Clashing, two_labels, apart}
-use Rattle.sharing.proofs.Taking.{Zs, Ys, grown_none, taking_none, added, z_step, y_step}
-use Rattle.sharing.proofs.Passing.{Passing, passing_none, passing_more, share_of, shared_rows, shared_clash}
+use Rattle.sharing.proofs.Taking.{grown_none, taking_none, added, z_step, y_step}
+use Rattle.sharing.proofs.Passing.{passing_none, passing_more, share_of, shared_rows, shared_clash}
 use Rattle.sharing.proofs.share_rows.Lts
 use Rattle.sharing.proofs.share_rows.Tie
 use Rattle.sharing.proofs.share_rows.Reads

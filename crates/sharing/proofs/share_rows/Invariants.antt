@@ -1,22 +1,11 @@
 -- `sharing::share_rows` meets its contract. The loop over x knows what every row that was passed holds, the loops over y and z what x has taken so
 -- far.
-use mathlib.Core.Path.{◌≡◌, refl, sym, ap, ◌∙◌, subst}
+use mathlib.Core.Path.{◌≡◌}
 use mathlib.Core.Bool.{false}
-use Prim.Native.Nat.{ℕ, ◌≤◌, ◌<◌, ◌-◌}
-use native.Mathlib.Numerals.{add-one-le}
-use native.Mathlib.Omega.{arith}
-use lib.Bits.{bit_or, bit_and, and_le_l}
-use lib.ListN.{get_or}
-use mir.Val.{Fits}
-use mir.Syntax.{w16}
-use borrow.Author.Rules.{rules}
+use Prim.Native.Nat.{◌≤◌, ◌-◌}
 use Rattle.tables.specs.Tables.{row}
-use Rattle.tables.proofs.Bits.{in_both}
-use Rattle.tables.proofs.Helpers.{doubled}
-use Rattle.tables.proofs.Members.{passed_none, passed_less, next_in_lem, next_named}
-use Rattle.sharing.specs.Shares.{Clashing, two_labels, apart}
-use Rattle.sharing.proofs.Taking.{Zs, Ys, grown_none, taking_none, added, z_step, y_step}
-use Rattle.sharing.proofs.Passing.{Passing, passing_none, passing_more, share_of, shared_rows, shared_clash}
+use Rattle.sharing.proofs.Taking.{Zs, Ys}
+use Rattle.sharing.proofs.Passing.{Passing}
 use Rattle.sharing.proofs.share_rows.Given as goal
 
 abbrev pub invariant-loop-zs : goal.invariant-loop-zs

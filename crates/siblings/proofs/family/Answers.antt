@@ -1,7 +1,5 @@
 use mathlib.Core.Path.{sym, ◌∙◌}
-use Prim.Native.Nat.{◌-◌}
-use borrow.Author.Rules.{rules}
-use Rattle.siblings.proofs.Loops.{Relating, relating_none, relating_more, relating_less, related}
+use Rattle.siblings.proofs.Loops.{relating_none, relating_more, relating_less, related}
 use Rattle.siblings.proofs.family.Goals as goal
 
 pub loop-before-init : goal.loop-before-init

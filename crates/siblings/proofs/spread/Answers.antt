@@ -1,5 +1,4 @@
 -- `siblings::spread` meets its contract: a table raised twice (proofs/Loops.antt).
-use borrow.Author.Rules.{rules}
 use Rattle.grouping.proofs.Loops.{was_spread}
 use Rattle.siblings.proofs.spread.Goals as goal
 

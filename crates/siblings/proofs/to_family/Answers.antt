@@ -1,6 +1,5 @@
 -- `siblings::to_family` meets its contract: what its helpers ensure.
 use mathlib.Core.Path.{refl}
-use borrow.Author.Rules.{rules}
 use Rattle.siblings.proofs.to_family.Goals as goal
 
 pub returns : goal.returns

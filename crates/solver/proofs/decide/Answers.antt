@@ -1,6 +1,5 @@
 -- What the search reports is decided.
 use Rattle.solver.proofs.Answers.{vars_within, decides}
-use borrow.Author.Rules.{rules}
 use Rattle.solver.proofs.decide.Goals as goal
 
 pub returns : goal.returns

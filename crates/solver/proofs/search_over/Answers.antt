@@ -1,6 +1,5 @@
 -- The search from the first line, with nothing entered before.
 use native.Mathlib.Omega.{arith}
-use borrow.Author.Rules.{rules}
 use Rattle.solver.proofs.search_over.Goals as goal
 
 pub search-requires : goal.search-requires

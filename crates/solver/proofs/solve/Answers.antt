@@ -2,7 +2,6 @@
 use mathlib.Core.Path.{sym, ◌∙◌}
 use native.Mathlib.Omega.{arith}
 use Rattle.solver.proofs.Answers.{refuses_file, refuses_buffer, covers, answers_file}
-use borrow.Author.Rules.{rules}
 use Rattle.solver.proofs.solve.Goals as goal
 
 pub returns-then-answer-lt136 : goal.returns-then-answer-lt136

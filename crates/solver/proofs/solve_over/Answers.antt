@@ -1,6 +1,5 @@
 -- What the search reports is answered, and a tree is written.
 use Rattle.solver.proofs.Answers.{vars_within, solves_none, solves_spent, solves_tree, answer_none, answer_spent, answer_tree}
-use borrow.Author.Rules.{rules}
 use Rattle.solver.proofs.solve_over.Goals as goal
 
 pub read_off-bytes-requires : goal.read_off-bytes-requires

@@ -1,5 +1,4 @@
 -- `tables::all` meets its contract: a power of two less one, which fits since n is at most 16.
-use borrow.Author.Rules.{rules}
 use Rattle.tables.proofs.Helpers.{all_positive, all_fits, power32}
 use Rattle.tables.proofs.all.Goals as goal
 

@@ -1,5 +1,4 @@
 -- `tables::blank` meets its contract.
-use borrow.Author.Rules.{rules}
 use Rattle.tables.proofs.Loops.{is_blank}
 use Rattle.tables.proofs.blank.Goals as goal
 

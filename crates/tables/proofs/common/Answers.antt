@@ -1,9 +1,6 @@
 use mathlib.Core.Path.{refl}
-use Prim.Native.Nat.{◌≤◌, ◌-◌}
-use lib.Bits.{bit_and}
 use borrow.Author.Rules.{rules}
-use Rattle.tables.specs.Tables.{row}
-use Rattle.tables.proofs.Loops.{Rowing, rowing_none, rowing_more, combined}
+use Rattle.tables.proofs.Loops.{rowing_none, rowing_more, combined}
 use Rattle.tables.proofs.common.Goals as goal
 
 pub loop-x-init : goal.loop-x-init

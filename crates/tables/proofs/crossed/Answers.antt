@@ -1,10 +1,9 @@
 use mathlib.Core.Path.{refl}
-use Prim.Native.Nat.{◌≤◌, ◌-◌}
 use mir.Val.{Fits}
 use mir.Syntax.{w16}
 use borrow.Author.Rules.{rules}
 use Rattle.tables.specs.Tables.{row}
-use Rattle.tables.proofs.Loops.{Crossing, crossing_none, crossing_more, was_crossed}
+use Rattle.tables.proofs.Loops.{crossing_none, crossing_more, was_crossed}
 use Rattle.tables.proofs.crossed.Goals as goal
 
 pub loop-x-init : goal.loop-x-init

@@ -1,10 +1,8 @@
 -- `tables::either` meets its contract: the loop has changed the rows below x.
-use mathlib.Core.Path.{refl}
 use Prim.Native.Nat.{◌≤◌, ◌-◌}
 use lib.Bits.{bit_or}
-use borrow.Author.Rules.{rules}
 use Rattle.tables.specs.Tables.{row}
-use Rattle.tables.proofs.Loops.{Rowing, rowing_none, rowing_more, combined}
+use Rattle.tables.proofs.Loops.{Rowing}
 use Rattle.tables.proofs.either.Given as goal
 
 abbrev pub invariant-loop-x : goal.invariant-loop-x

@@ -1,5 +1,4 @@
 -- `tables::gain` meets its contract: from what `when` ensures.
-use borrow.Author.Rules.{rules}
 use Rattle.tables.specs.Rows.{gained}
 use Rattle.tables.proofs.gain.Goals as goal
 

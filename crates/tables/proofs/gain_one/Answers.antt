@@ -1,5 +1,4 @@
 -- `tables::gain_one` meets its contract: from what `gain` and `one` ensure.
-use borrow.Author.Rules.{rules}
 use Rattle.tables.specs.Rows.{gained_one}
 use Rattle.tables.proofs.gain_one.Goals as goal
 

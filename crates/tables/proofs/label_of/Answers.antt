@@ -1,7 +1,6 @@
 use Prim.Native.Nat.{◌<◌}
-use Rattle.tables.proofs.Members.{Passed, passed_none, passed_more, passed_less, next_in_lem, next_named}
-use Rattle.tables.proofs.Labels.{Unlabelled, is_label, no_label}
-use borrow.Author.Rules.{rules}
+use Rattle.tables.proofs.Members.{passed_none, passed_more, passed_less, next_in_lem, next_named}
+use Rattle.tables.proofs.Labels.{is_label, no_label}
 use Rattle.tables.proofs.label_of.Goals as goal
 
 variable_in : (c : goal.After-lowest-x) → c.lowest-x.result < 16

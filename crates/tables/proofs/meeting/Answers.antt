@@ -1,8 +1,5 @@
-use Prim.Native.Nat.{◌≤◌, ◌-◌}
 use borrow.Author.Rules.{rules}
-use Rattle.tables.specs.Tables.{row}
-use Rattle.tables.specs.Rows.{meets}
-use Rattle.tables.proofs.Loops.{Gathering, gather_none, gather_more, gather_all, none_meet}
+use Rattle.tables.proofs.Loops.{gather_none, gather_more, gather_all, none_meet}
 use Rattle.tables.proofs.meeting.Goals as goal
 
 pub returns-then-c-eq0 : goal.returns-then-c-eq0

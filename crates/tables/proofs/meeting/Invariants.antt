@@ -1,9 +1,8 @@
 -- `tables::meeting` meets its contract: the loop has gathered the rows below y.
 use Prim.Native.Nat.{◌≤◌, ◌-◌}
-use borrow.Author.Rules.{rules}
 use Rattle.tables.specs.Tables.{row}
 use Rattle.tables.specs.Rows.{meets}
-use Rattle.tables.proofs.Loops.{Gathering, gather_none, gather_more, gather_all, none_meet}
+use Rattle.tables.proofs.Loops.{Gathering}
 use Rattle.tables.proofs.meeting.Given as goal
 
 abbrev pub invariant-loop-y : goal.invariant-loop-y

@@ -1,5 +1,4 @@
 -- `tables::on_document` meets its contract.
-use borrow.Author.Rules.{rules}
 use Rattle.tables.proofs.Clashes.{is_on_document}
 use Rattle.tables.proofs.on_document.Goals as goal
 

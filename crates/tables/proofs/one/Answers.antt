@@ -1,5 +1,4 @@
 -- `tables::one` meets its contract: the shifted one is a power of two.
-use borrow.Author.Rules.{rules}
 use Rattle.rowbits.proofs.Laws.{shifted_one}
 use Rattle.tables.proofs.one.Goals as goal
 

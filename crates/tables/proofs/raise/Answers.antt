@@ -1,8 +1,5 @@
-use Prim.Native.Nat.{◌≤◌, ◌-◌}
 use borrow.Author.Rules.{rules}
-use Rattle.rowbits.specs.Bit.{bit}
-use Rattle.tables.specs.Rows.{gained}
-use Rattle.tables.proofs.Loops.{Rowing, rowing_none, rowing_more, was_raised}
+use Rattle.tables.proofs.Loops.{rowing_none, rowing_more, was_raised}
 use Rattle.tables.proofs.raise.Goals as goal
 
 pub loop-x-init : goal.loop-x-init

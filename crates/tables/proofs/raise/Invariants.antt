@@ -1,9 +1,8 @@
 -- `tables::raise` meets its contract: the loop has changed the rows below x.
 use Prim.Native.Nat.{◌≤◌, ◌-◌}
-use borrow.Author.Rules.{rules}
 use Rattle.rowbits.specs.Bit.{bit}
 use Rattle.tables.specs.Rows.{gained}
-use Rattle.tables.proofs.Loops.{Rowing, rowing_none, rowing_more, was_raised}
+use Rattle.tables.proofs.Loops.{Rowing}
 use Rattle.tables.proofs.raise.Given as goal
 
 abbrev pub invariant-loop-x : goal.invariant-loop-x

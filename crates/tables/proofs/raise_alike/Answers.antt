@@ -1,9 +1,5 @@
-use Prim.Native.Nat.{◌≤◌, ◌-◌}
 use borrow.Author.Rules.{rules}
-use lib.Dec.{eqb}
-use Rattle.tables.specs.Tables.{row}
-use Rattle.tables.specs.Rows.{gained}
-use Rattle.tables.proofs.Loops.{Rowing, rowing_none, rowing_more, was_raised}
+use Rattle.tables.proofs.Loops.{rowing_none, rowing_more, was_raised}
 use Rattle.tables.proofs.raise_alike.Goals as goal
 
 pub loop-x-init : goal.loop-x-init

@@ -1,10 +1,9 @@
 -- `tables::raise_alike` meets its contract: the loop has changed the rows below x.
 use Prim.Native.Nat.{◌≤◌, ◌-◌}
-use borrow.Author.Rules.{rules}
 use lib.Dec.{eqb}
 use Rattle.tables.specs.Tables.{row}
 use Rattle.tables.specs.Rows.{gained}
-use Rattle.tables.proofs.Loops.{Rowing, rowing_none, rowing_more, was_raised}
+use Rattle.tables.proofs.Loops.{Rowing}
 use Rattle.tables.proofs.raise_alike.Given as goal
 
 abbrev pub invariant-loop-x : goal.invariant-loop-x

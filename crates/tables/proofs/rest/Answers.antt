@@ -1,5 +1,4 @@
 -- `tables::rest` meets its contract: in a number and the one before it, all digits above the lowest one agree.
-use borrow.Author.Rules.{rules}
 use Rattle.tables.proofs.Members.{rest_of}
 use Rattle.tables.proofs.rest.Goals as goal
 

@@ -1,9 +1,6 @@
 use mathlib.Core.Path.{refl}
-use Prim.Native.Nat.{◌≤◌, ◌-◌}
 use borrow.Author.Rules.{rules}
-use Rattle.rowbits.specs.Bit.{bit}
-use Rattle.tables.specs.Rows.{gained_one}
-use Rattle.tables.proofs.Loops.{Rowing, rowing_none, rowing_more, Transposing, transposing_none, transposing_more, transposed, zeros}
+use Rattle.tables.proofs.Loops.{rowing_none, rowing_more, transposing_none, transposing_more, transposed, zeros}
 use Rattle.tables.proofs.transpose.Goals as goal
 
 pub loop-y-init : goal.loop-y-init

@@ -1,10 +1,8 @@
 -- `tables::transpose` meets its contract: the outer loop has gathered the columns from the rows below y, the inner one marks row y in each.
-use mathlib.Core.Path.{refl}
 use Prim.Native.Nat.{◌≤◌, ◌-◌}
-use borrow.Author.Rules.{rules}
 use Rattle.rowbits.specs.Bit.{bit}
 use Rattle.tables.specs.Rows.{gained_one}
-use Rattle.tables.proofs.Loops.{Rowing, rowing_none, rowing_more, Transposing, transposing_none, transposing_more, transposed, zeros}
+use Rattle.tables.proofs.Loops.{Rowing, Transposing}
 use Rattle.tables.proofs.transpose.Given as goal
 
 abbrev pub invariant-loop-x : goal.invariant-loop-x

@@ -3,7 +3,7 @@ use mir.Syntax.{w16}
 use Prim.Native.Nat.{◌<◌}
 use native.Mathlib.Omega.{arith}
 use Rattle.tables.specs.Tables.{row}
-use Rattle.tables.proofs.Members.{Uniting, uniting_none, uniting_more, next_in_lem, passed_less, is_union}
+use Rattle.tables.proofs.Members.{uniting_none, uniting_more, next_in_lem, passed_less, is_union}
 use borrow.Author.Rules.{rules}
 use Rattle.tables.proofs.union_rows.Goals as goal
 
