@@ -3,7 +3,6 @@ use mathlib.Core.Path.{◌≡◌, sym, ap, subst, ◌∙◌}
 use mathlib.Core.List.{List}
 use Prim.Native.Nat.{ℕ}
 use native.Mathlib.Omega.{arith}
-use borrow.Author.Rules.{rules}
 use Rattle.marker.proofs.Position.{position_small, kind_small}
 use Rattle.theory.proofs.ConstraintFile.{bytes}
 use Rattle.marker.specs.Verdict.{marked_of}
@@ -18,29 +17,28 @@ grades : {file answer : List ℕ} {m : Marked} {r : ℕ} → m ≡ marker file a
 grades {file} {answer} e p d = record { number = d ∙ ap marked_number e; promise = subst (MarkerPromise file answer) e p }
 
 pub overflow_mul-result : goal.overflow_mul-result
-overflow_mul-result c = omega (arith, c.kind_number.ensures, kind_small c.verdict-1.given.0.1.0)
+overflow_mul-result c = omega (arith, c.kind_number-middle.ensures, kind_small c.in-Unmet.kind)
 
 pub overflow_add-result : goal.overflow_add-result
-overflow_add-result c = omega (arith, c.kind_number.ensures, kind_small c.verdict-1.given.0.1.0)
+overflow_add-result c = omega (arith, c.kind_number-middle.ensures, kind_small c.in-Unmet.kind)
 
 pub overflow_add-result-in-Unmet : goal.overflow_add-result-in-Unmet
 unfolding marked_of
-overflow_add-result-in-Unmet c = let start = c.before.before.before.before.before.before.before in
-    let file = start.args.constraints.now in
-    let small = position_small file start.args.answer.now (bytes file (λ i. omega (arith, c.shared_slice_known-1.given i)))
-    (sym c.mark-verdict.ensures.0 ∙ ap marked_of c.verdict-1.given.1) in
-    omega (arith, c.kind_number.ensures, kind_small c.verdict-1.given.0.1.0)
+overflow_add-result-in-Unmet c =
+    let file = c.args.constraints.now in
+    let small = position_small file c.args.answer.now (bytes file (λ i. omega (arith, c.type_inv.constraints i)))
+    (sym c.mark-verdict.ensures.is ∙ ap marked_of c.in-Unmet.is) in
+    omega (arith, c.kind_number-middle.ensures, kind_small c.in-Unmet.kind)
 
 pub returns-in-Met : goal.returns-in-Met
 unfolding marked_number told marked_of
-returns-in-Met c = grades c.mark-verdict.ensures.0 c.mark-verdict.ensures.1 (rw c.enum_told-1.given.1)
+returns-in-Met c = grades c.mark-verdict.ensures.is c.mark-verdict.ensures.promise (rw c.in-Met.is)
 
 pub returns-in-Unmet : goal.returns-in-Unmet
 unfolding marked_number told marked_of
 returns-in-Unmet c =
-    let w = c.mark-verdict.ensures in
-    grades w.0 w.1 (rw (c.verdict-1.given.1, ← c.kind_number.ensures) (omega arith))
+    let w = c.mark-verdict.ensures in grades w.is w.promise (rw (c.in-Unmet.is, ← c.kind_number-middle.ensures) (omega arith))
 
 pub returns-in-Refused : goal.returns-in-Refused
 unfolding marked_number told marked_of
-returns-in-Refused c = let w = c.mark-verdict.ensures in grades w.0 w.1 (rw c.verdict-in-Refused-1.given.1 (omega arith))
+returns-in-Refused c = let w = c.mark-verdict.ensures in grades w.is w.promise (rw c.in-Refused.is (omega arith))

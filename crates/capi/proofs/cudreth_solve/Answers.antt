@@ -3,27 +3,26 @@ use mathlib.Core.Path.{refl}
 use native.Mathlib.Omega.{arith}
 use Rattle.solver.proofs.Short.{bytes_few}
 use Rattle.capi.proofs.Solved.{number, solves}
-use borrow.Author.Rules.{rules}
 use Rattle.capi.proofs.cudreth_solve.Goals as goal
 
 pub overflow_mul-result : goal.overflow_mul-result
-overflow_mul-result c = omega (arith, bytes_few _ _ _ _ _ c.solve-verdict.ensures c.verdict-1.given.1)
+overflow_mul-result c = omega (arith, bytes_few _ _ _ _ _ c.solve-verdict.ensures c.in-Tree.is)
 
 pub overflow_add-result : goal.overflow_add-result
-overflow_add-result c = omega (arith, bytes_few _ _ _ _ _ c.solve-verdict.ensures c.verdict-1.given.1)
+overflow_add-result c = omega (arith, bytes_few _ _ _ _ _ c.solve-verdict.ensures c.in-Tree.is)
 
 pub returns-in-Tree : goal.returns-in-Tree
 unfolding number
-returns-in-Tree c = solves _ _ _ _ _ c.solve-verdict.ensures c.verdict-1.given.1 _ refl
+returns-in-Tree c = solves _ _ _ _ _ c.solve-verdict.ensures c.in-Tree.is _ refl
 
 pub returns-in-None : goal.returns-in-None
 unfolding number
-returns-in-None c = solves _ _ _ _ _ c.solve-verdict.ensures c.verdict-in-None-1.given.1 _ refl
+returns-in-None c = solves _ _ _ _ _ c.solve-verdict.ensures c.in-None.is _ refl
 
 pub returns-in-Spent : goal.returns-in-Spent
 unfolding number
-returns-in-Spent c = solves _ _ _ _ _ c.solve-verdict.ensures c.verdict-in-Spent-1.given.1 _ refl
+returns-in-Spent c = solves _ _ _ _ _ c.solve-verdict.ensures c.in-Spent.is _ refl
 
 pub returns-in-Refused : goal.returns-in-Refused
 unfolding number
-returns-in-Refused c = solves _ _ _ _ _ c.solve-verdict.ensures c.verdict-in-Refused-1.given.1 _ refl
+returns-in-Refused c = solves _ _ _ _ _ c.solve-verdict.ensures c.in-Refused.is _ refl

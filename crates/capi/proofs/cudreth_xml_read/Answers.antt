@@ -1,10 +1,9 @@
 -- `cudreth_xml_read` tells the number of the reader's answer.
-use borrow.Author.Rules.{rules}
 use Rattle.capi.proofs.Translated.{reader_bytes, reads_xml}
 use Rattle.capi.proofs.cudreth_xml_read.Goals as goal
 
 pub number-requires : goal.number-requires
-number-requires c = reader_bytes _ _ _ c.read-answer.ensures.0
+number-requires c = reader_bytes _ _ _ c.read-answer.ensures.answer_of
 
 pub returns : goal.returns
-returns c = let r = c.read-answer.ensures in reads_xml _ _ _ r.0 _ r.1 c.number.ensures
+returns c = let r = c.read-answer.ensures in reads_xml _ _ _ r.answer_of _ r.wrote c.number.ensures

@@ -1,10 +1,9 @@
 -- `cudreth_xml_write` tells the number of the writer's answer.
-use borrow.Author.Rules.{rules}
 use Rattle.capi.proofs.Translated.{writer_bytes, writes_xml}
 use Rattle.capi.proofs.cudreth_xml_write.Goals as goal
 
 pub number-requires : goal.number-requires
-number-requires c = writer_bytes _ _ _ c.write-answer.ensures.0
+number-requires c = writer_bytes _ _ _ c.write-answer.ensures.answer_of
 
 pub returns : goal.returns
-returns c = let r = c.write-answer.ensures in writes_xml _ _ _ r.0 _ r.1 c.number.ensures
+returns c = let r = c.write-answer.ensures in writes_xml _ _ _ r.answer_of _ r.wrote c.number.ensures

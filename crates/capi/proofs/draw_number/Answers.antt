@@ -2,7 +2,6 @@
 use mathlib.Core.Path.{◌≡◌, sym, ap, ◌∙◌}
 use Prim.Native.Nat.{ℕ, ◌+◌}
 use native.Mathlib.Omega.{arith}
-use borrow.Author.Rules.{rules}
 use Rattle.meaning.specs.Results.{told}
 use Rattle.centres.specs.declared.Drawn.TheVariants.{Granted, Refused}
 use Rattle.capi.specs.Draws.{drawn_as}
@@ -17,7 +16,7 @@ unfolding drawn_as told
 refused_number q = omega arith
 
 pub returns-in-Granted : goal.returns-in-Granted
-returns-in-Granted c = granted_number ∙ ap drawn_as (sym c.enum_told-1.given.1)
+returns-in-Granted c = granted_number ∙ ap drawn_as (sym c.in-Granted.is)
 
 pub returns-in-Refused : goal.returns-in-Refused
-returns-in-Refused c = refused_number _ ∙ ap drawn_as (sym c.answer-1.given.1)
+returns-in-Refused c = refused_number _ ∙ ap drawn_as (sym c.in-Refused.is)

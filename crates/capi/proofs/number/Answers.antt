@@ -2,7 +2,6 @@
 use mathlib.Core.Path.{◌≡◌, sym, ap, subst, ◌∙◌}
 use Prim.Native.Nat.{ℕ, ◌+◌, ◌*◌, ◌<◌}
 use native.Mathlib.Omega.{arith}
-use borrow.Author.Rules.{rules}
 use Rattle.meaning.specs.Results.{told}
 use Rattle.lent.specs.declared.Answer.{Answer}
 use Rattle.lent.specs.declared.Answer.TheVariants.{Written, Refused}
@@ -23,10 +22,10 @@ unfolding answer_number told
 refused_number q = omega arith
 
 pub overflow_mul-result : goal.overflow_mul-result
-overflow_mul-result c = omega (arith, few _ _ c.requires c.answer-1.given.1)
+overflow_mul-result c = omega (arith, few _ _ c.requires c.in-Written.is)
 
 pub returns-in-Written : goal.returns-in-Written
-returns-in-Written c = written_number _ ∙ ap answer_number (sym c.answer-1.given.1)
+returns-in-Written c = written_number _ ∙ ap answer_number (sym c.in-Written.is)
 
 pub returns-in-Refused : goal.returns-in-Refused
-returns-in-Refused c = refused_number _ ∙ ap answer_number (sym c.answer-in-Refused-1.given.1)
+returns-in-Refused c = refused_number _ ∙ ap answer_number (sym c.in-Refused.is)
