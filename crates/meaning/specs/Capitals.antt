@@ -1,6 +1,6 @@
 -- Capitals (docs/FORMAT.md): what solver and marker owe to files that are equal but for the case of their labels, and the path reader to texts that are
--- equal but for the case of their tests. One of two files or texts may be the other with its capitals made small (proofs/Capitals: made-small;
--- proofs/PathCapitals: small-form).
+-- equal but for the case of their tests. One of two files or texts may be the other with its capitals made small (proofs/Capitals: made_small;
+-- proofs/PathCapitals: small_form).
 use Rattle.std.specs.Prelude.{◌≡◌, ◌↔◌, ℕ, ◌≤◌, length}
 use mathlib.Core.List.{List, map, Memᴰ}
 use Rattle.meaning.specs.Tree.{Node, folded, Tree}
