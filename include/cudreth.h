@@ -2,7 +2,7 @@
  * Cudreth: solves and marks constraints on trees as XPath sees them, writes the constraints of a question set as paths, writes trees as
  * XML and reads them back, and shares a total of choices among exam centres.
  *
- * Link with libcapi.a (x86-64 Linux), which `rt staticlib capi` writes to target/staticlib/. docs/FORMAT.md says what the bytes mean,
+ * Link with libcapi.a (x86-64 Linux), which `tools/archive` writes to target/staticlib/. docs/FORMAT.md says what the bytes mean,
  * examples/host.c is a host program, and cudreth.rs is this file for Rust.
  *
  * All six functions take any bytes of any length, cudreth_draw any records in any number, and always return: damaged files, texts that

@@ -62,7 +62,7 @@ module _ (n : ℕ) (small : n ≤ 16) (S : List Fact) (f : Facts) (r : Ready n S
         (and_both (sym (above_is n small S f r a y ha hy) ∙ p.above)
         (and_both (no_neg (λ s. p.not_below (below_is n small S f r y a ∙ and_right _ s))) (no_neg (λ t. p.not_above (below_is n small S f r a x ∙ t)))))
 
-    -- the mirror of not-above
+    -- the mirror of not_above
     above_not : ¬ Yes (bit (row f.below a) x) → ¬ Yes (bit (row f.above x) a)
     above_not q t = q (below_is n small S f r a x ∙ sym (above_is n small S f r a x ha hx) ∙ t)
 

@@ -13,7 +13,9 @@ use stages::Found;
 use tables::Facts;
 
 // The kinds in turn: one is asked where those before it have no join. The rows that decide go on alone: a compiler that takes the body of
-// a callee into its caller copies what the callee was passed.
+// a callee into its caller copies what the callee was passed. The search is not to take in this one: its copies would be on the stack once for each
+// alternative that is open.
+#[inline(never)]
 pub fn first_join(f: Facts, n: usize) -> Found
     requires n_bound { n ≤ 16 }
     requires ready { (S : List Fact) × Ready n S f }

@@ -39,7 +39,7 @@ records_askable : (ps : List Path) → variables_of ps ≤ 16 → (c : Constrain
 records_askable ps h c m =
     record { few = records_low ps h c m; labelled = on_label_of c (λ (l : Label) (y : Yes (is_letter l)). let k = (letter_range l y).0 in omega arith) (records_lettered ps c m) }
 
--- questions 1 to 6 let the bytes in, with the records as constraints; their n is the number of variables (PathCounts: variables-are)
+-- questions 1 to 6 let the bytes in, with the records as constraints; their n is the number of variables (PathCounts: variables_are)
 pub bytes_accepted : (ps : List Path) → length ps ≤ 8 → variables_of ps ≤ 16 → judge (file_bytes (records_of ps)) ≡ accepted (records_of ps)
 bytes_accepted ps l h =
     let e = file_length (records_of ps) in
