@@ -1,6 +1,6 @@
 -- What the reader of an answer tells: the bytes that stand for the file, or that reading failed, and then there is no verdict.
 use Rattle.std.specs.Prelude.{List, ℕ, take}
-use Rattle.io.specs.Counts.{IsPrefixLen}
+use Rattle.std.specs.Counts.{IsPrefixLen}
 use Rattle.marker.specs.Pieces.{StandsForPieces}
 use Rattle.reading.specs.declared.Filled.{Filled}
 use Rattle.reading.specs.declared.Filled.TheVariants.{Bytes, Failed}

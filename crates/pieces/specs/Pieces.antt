@@ -1,6 +1,6 @@
 -- What is told of a file that was read in pieces: the bytes that stand for it, or that reading failed.
 use Rattle.std.specs.Prelude.{List, ℕ, take}
-use Rattle.io.specs.Counts.{IsPrefixLen}
+use Rattle.std.specs.Counts.{IsPrefixLen}
 use Rattle.answers.specs.Pieces.{KeptPieces}
 use Rattle.reading.specs.declared.Filled.{Filled}
 use Rattle.reading.specs.declared.Filled.TheVariants.{Bytes, Failed}

@@ -5,7 +5,7 @@ use Prim.Native.Nat.{ℕ, ◌+◌, ◌≤◌}
 use native.Mathlib.Omega.{arith}
 use lib.ListN.{length, drop, length-append}
 use lib.Seq.{sets-eq, length-take-le}
-use Rattle.io.specs.Counts.{IsPrefixLen}
+use Rattle.std.specs.Counts.{IsPrefixLen}
 use Rattle.meaning.specs.Ascii.{ascii}
 use Rattle.meaning.specs.Results.{Fill, fill_refused, fill_wrote}
 use Rattle.meaning.specs.Text.{decimal, numbered, fill_text}

@@ -1,13 +1,14 @@
--- The kit's digits of a number, if they are the fewest, are its decimal text; and how many a small number has.
-use mathlib.Core.Path.{◌≡◌, refl, sym}
+-- The digits of a number are those of its tenth and one more; and how many a small number has.
+use mathlib.Core.Path.{◌≡◌, refl, sym, subst}
 use mathlib.Core.List.{List, [], ◌∷◌, ◌++◌}
-use Prim.Native.Nat.{ℕ, zero, suc, ◌+◌, ◌-◌, ◌*◌, ◌/◌, ◌%◌, ◌^◌, ◌≤◌, ◌<◌}
+use Prim.Native.Nat.{ℕ, zero, suc, ◌+◌, ◌*◌, ◌/◌, ◌%◌, ◌^◌, ◌≤◌, ◌<◌}
 use native.Mathlib.Nat.{pow-succ'}
+use native.Mathlib.Decide.{dec_le}
 use native.Mathlib.Omega.{arith}
 use lib.ListN.{length, length-append}
-use borrow.Author.Tests.{lt-ltb}
-use Rattle.io.specs.Digits.{last_digits, IsDigitCount}
 use Rattle.meaning.specs.Text.{before_last, digits_of, decimal}
+use Rattle.lent.specs.Putting.{Put}
+use Rattle.lent.proofs.Stores.{put_same, put_then}
 
 no_leading : (q : ℕ) (more : Unit {0} → List ℕ) → q ≡ 0 → before_last q more ≡ []
 unfolding before_last
@@ -18,26 +19,43 @@ unfolding before_last
 some_leading zero more h = absurd (omega arith)
 some_leading (suc q) more h = refl
 
--- of a number below 10^(k+1), and of at least 10^k unless it has one digit
-same_digits : (k f n : ℕ) → n < 10 ^ suc k → (0 < k → 10 ^ k ≤ n) → n < f → digits_of f n ≡ last_digits 10 (suc k) n
+-- where there are enough of them it does not matter how many digits are allowed
+same_digits : (f g n : ℕ) → n < f → n < g → digits_of f n ≡ digits_of g n
 unfolding digits_of
-same_digits k zero n below least more = absurd (omega arith)
-same_digits zero (suc f) n below least more =
-    let z : n / 10 ≡ 0 = omega arith in
-    rw (no_leading (n / 10) (λ _. digits_of f (n / 10)) z, lt-ltb (n % 10) 10 (omega arith))
-same_digits (suc k) (suc f) n below least more =
-    let p : 10 ^ suc k ≡ 10 * 10 ^ k = pow-succ' 10 k in
-    let q : 10 ^ suc (suc k) ≡ 10 * 10 ^ suc k = pow-succ' 10 (suc k) in
-    let l : 10 ^ suc k ≤ n = least (omega arith) in
-    let one : 1 ≤ 10 ^ k = native.Mathlib.Nat.one-le-pow k 10 (omega arith) in
-    rw (some_leading (n / 10) (λ _. digits_of f (n / 10)) (omega arith), lt-ltb (n % 10) 10 (omega arith), same_digits k f (n / 10) (omega arith) (λ _. omega arith) (omega arith))
+same_digits zero g n h l = absurd (omega arith)
+same_digits (suc f) zero n h l = absurd (omega arith)
+same_digits (suc f) (suc g) n h l = by (λ k a b. same_digits f g k a b) (dec_le 10 n)
+  where
+    by : ((k : ℕ) → k < f → k < g → digits_of f k ≡ digits_of g k) → Dec (10 ≤ n) → digits_of (suc f) n ≡ digits_of (suc g) n
+    by same (yes m) =
+        rw (some_leading (n / 10) (λ _. digits_of f (n / 10)) (omega arith), some_leading (n / 10) (λ _. digits_of g (n / 10)) (omega arith), same (n / 10) (omega arith) (omega arith))
+    by same (no m) =
+        let z : n / 10 ≡ 0 = omega arith in
+        rw (no_leading (n / 10) (λ _. digits_of f (n / 10)) z, no_leading (n / 10) (λ _. digits_of g (n / 10)) z)
 
-pub decimal_is : (n k : ℕ) → IsDigitCount 10 1 n k → last_digits 10 k n ≡ decimal n
-unfolding decimal
-decimal_is n zero w = absurd (let h = w.0 in omega arith)
-decimal_is n (suc k) w =
-    let e : suc k - 1 ≡ k = omega arith in
-    sym (same_digits k (suc n) n w.1 (λ h. let l = rw e at (w.2 (omega arith)) in omega arith) (omega arith))
+pub decimal_one : (n : ℕ) → n < 10 → decimal n ≡ (48 + n % 10) ∷ []
+unfolding decimal digits_of
+decimal_one n h = let z : n / 10 ≡ 0 = omega arith in rw (no_leading (n / 10) (λ _. digits_of n (n / 10)) z)
+
+pub decimal_more : (n : ℕ) → 10 ≤ n → decimal n ≡ decimal (n / 10) ++ ((48 + n % 10) ∷ [])
+unfolding decimal digits_of
+decimal_more n h = rw (some_leading (n / 10) (λ _. digits_of n (n / 10)) (omega arith), same_digits n (suc (n / 10)) (n / 10) (omega arith) (omega arith))
+
+-- and one byte longer
+pub decimal_longer : (n : ℕ) → 10 ≤ n → length (decimal n) ≡ length (decimal (n / 10)) + 1
+decimal_longer n h = rw (decimal_more n h, length-append (decimal (n / 10)) ((48 + n % 10) ∷ []))
+
+put_at : {d m o text : List ℕ} {j k r : ℕ} → m ≡ d → k ≡ j → Put m k text r o → Put d j text r o
+put_at {m = m} {o} {text} {j = j} {r = r} e f q = subst (λ (x : List ℕ). Put x j text r o) e (subst (λ (i : ℕ). Put m i text r o) f q)
+
+-- the last digit is put behind those of the tenth, or alone
+module _ {before out after : List ℕ} {at r : ℕ} (n last : ℕ) where
+  pub put_last : {filled : List ℕ} {end : ℕ} → 10 ≤ n → out ≡ filled → last ≡ end → Put before at (decimal (n / 10)) end filled → Put out last ((48 + n % 10) ∷ []) r after
+      → Put before at (decimal n) r after
+  put_last h e f p q = put_same (sym (decimal_more n h)) (put_then p (put_at e f q))
+
+  pub put_lone : n < 10 → out ≡ before → last ≡ at → Put out last ((48 + n % 10) ∷ []) r after → Put before at (decimal n) r after
+  put_lone h e f q = put_same (sym (decimal_one n h)) (put_at e f q)
 
 one_more : (q : ℕ) (more : Unit {0} → List ℕ) (d k : ℕ) → (0 < q → length (more tt) ≤ k) → length (before_last q more ++ (d ∷ [])) ≤ suc k
 unfolding before_last

@@ -1,5 +1,6 @@
 // Words, numbers and the lines of records, put into a lent buffer one behind the other.
 #![tactic(auto)]
+
 ghost use Rattle.std.specs.Prelude.{◌++◌, ◌+◌, ◌*◌, ◌/◌, ◌≤◌, length};
 ghost use Rattle.meaning.specs.Files.{quad, quads};
 ghost use Rattle.meaning.specs.Ascii.{ascii};
@@ -24,14 +25,16 @@ pub fn put(out: &mut [u8], at: usize, word: &[u8]) -> usize
     at + word.len()
 }
 
-// Puts the digits of a number.
+// Puts the digits of a number: those of its tenth, if it has one, and the last.
 pub fn put_number(out: &mut [u8], at: usize, n: u64) -> usize
     requires { at + length (decimal n) ≤ length out.old }
     ensures { Put out.old at (decimal n) result out.new }
 {
-    let mut digits = [0u8; 20];
-    let k = io::decimal(n, &mut digits);
-    put(out, at, &digits[..k])
+    let mut last = at;
+    if n >= 10 {
+        last = put_number(out, at, n / 10);
+    }
+    put(out, last, &[b'0' + (n % 10) as u8])
 }
 
 // Puts a word and a number, which end their line.

@@ -1,6 +1,6 @@
 -- What a reader answers: how many bytes of the buffer it filled, or that reading failed.
 use Rattle.std.specs.Prelude.{List, ℕ}
-use Rattle.io.specs.Counts.{IsPrefixLen}
+use Rattle.std.specs.Counts.{IsPrefixLen}
 use Rattle.reading.specs.declared.Filled.{Filled}
 use Rattle.reading.specs.declared.Filled.TheVariants.{Bytes, Failed}
 

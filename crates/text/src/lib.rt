@@ -1,5 +1,6 @@
 // What the programs print, at the front of a lent buffer: the text of a verdict, or the records of a text of paths.
 #![tactic(auto)]
+
 ghost use Rattle.std.specs.Prelude.{◌≡◌, ◌≤◌, length};
 ghost use Rattle.meaning.specs.Text.{solve_allowance};
 ghost use Rattle.marker.specs.declared.Verdict.TheVariants.{Unmet};

@@ -1,5 +1,6 @@
 // What `toxml` and `fromxml` write, at the front of a lent buffer: the text of a tree, the node records of a text, or the line of a refusal.
 #![tactic(auto)]
+
 ghost use Rattle.xmltext.specs.Printing.{WrittenAs, ReadAs};
 
 use putting::put_answer;

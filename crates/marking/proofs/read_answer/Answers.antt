@@ -1,0 +1,6 @@
+-- `read_answer` tells what the reader of pieces tells (proofs/Answers.antt).
+use Rattle.marking.proofs.Answers.{with_answer}
+use Rattle.marking.proofs.read_answer.Goals as goal
+
+pub returns-in-Ok : goal.returns-in-Ok
+returns-in-Ok g c = with_answer _ _ c.read_pieces.ensures
