@@ -1,5 +1,6 @@
 // fromxml: reads a tree that was written as XML from standard input and writes its node records, numbered in document order; or `refused` and the number.
 #![tactic(auto)]
+
 use reading::{Filled, is_given};
 use xmltext::{NODES_BYTES, XML_READ};
 

@@ -1,5 +1,6 @@
 // toxml: reads node records from standard input, of any length, and writes their tree as XML, with no newline; or `refused` and the number.
 #![tactic(auto)]
+
 use pieces::PIECES_READ;
 use reading::{Filled, is_given};
 use xmltext::XML_BYTES;
