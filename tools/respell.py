@@ -15,7 +15,7 @@ import re
 import sys
 
 WORD = r"[^\s(){}.;,@\"«»\[\]\\]+"
-DECLARED = re.compile(r"^( *)((?:abbrev |unfoldable |pub )*)(" + WORD + r") :(?: |$)(.*)")
+DECLARED = re.compile(r"^( *)((?:abbrev |unfoldable |pub )*)(" + WORD + r")(?: \{[^}]*\})* :(?: |$)(.*)")
 # Constructors of one type stand on one line.
 SEVERAL = re.compile(r"^ +((?!let |in |pub |abbrev |module |record |data |use |λ )(?:" + WORD + r" +)+): (.*)")
 USED = re.compile(r"^\s*(?:pub |ghost )*use ([^{;]*?)(?:\.\{([^}]*)\})?;?\s*$")
@@ -23,8 +23,8 @@ CAMEL = re.compile(r"(?<=[a-z0-9])(?=[A-Z])")
 
 # Names that would fall together with another name of the same file, and what they are called instead.
 APART = {
-    "bit-and": "bit-bit_and",
-    "bit-or": "bit-bit_or",
+    "bit-and": "bit_bit_and",
+    "bit-or": "bit_bit_or",
     "isJoin": "is_a_join",
     # what port.py made of `is-leaf`
     "is_IsLeaf": "is_leaf",

@@ -7,7 +7,7 @@ use native.Mathlib.Nat.{le_refl}
 use Rattle.meaning.specs.Constraint.{Constraint, is_child, is_below, is_strictly_below, is_before, Fact, facts_of, vars, named}
 use Rattle.meaning.specs.Demand.{Answer, a_tree}
 use Rattle.meaning.specs.FixedSearch.{in_tree, in_none}
-use Rattle.meaning.specs.Finite.{pick, ◌and◌, ◌or◌, neg, anyb, tab, sum, one, anyIn, found, without, arranged, picked, position, smallest}
+use Rattle.meaning.specs.Finite.{pick, ◌and◌, ◌or◌, neg, anyb, tab, sum, one, any_in, found, without, arranged, picked, position, smallest}
 use Rattle.meaning.specs.ReadOff.{same, over, lowest, depth, layer, layers, order, element, front, node_at, place, nearest, parent_of, label_of, nodes, places, node_bytes, place_bytes, answer_file}
 use Rattle.meaning.specs.Files.{accepted, judge_pair, judge_record, with_rest, judge_records, judge}
 use Rattle.theory.specs.Find.{is_in, chosen, first, when, or_else}
@@ -38,18 +38,18 @@ abbrev O1-constraints : List Constraint
 O1-constraints = is_below 1 2 ∷ is_strictly_below 0 2 ∷ is_before 0 3 ∷ is_before 2 3 ∷ []
 
 O1-ends : search_by second_before 4 (facts_of O1-constraints) ≡ ended in_none 10
-unfolding pick ◌and◌ ◌or◌ neg same holds settle candidates facts_over pairs pass tabulate rows upto look labels_of labels_in is_given equal follows iterate grew again anyb anyIn is_in chosen tab search_by search_f line branch after_first first_join first_of is_a_join clashes clashes_at first when or_else
+unfolding pick ◌and◌ ◌or◌ neg same holds settle candidates facts_over pairs pass tabulate rows upto look labels_of labels_in is_given equal follows iterate grew again anyb any_in is_in chosen tab search_by search_f line branch after_first first_join first_of is_a_join clashes clashes_at first when or_else
 O1-ends = refl
 
 abbrev O2-constraints : List Constraint
 O2-constraints = is_child 1 2 ∷ is_below 0 3 ∷ is_below 2 3 ∷ is_before 0 4 ∷ is_before 3 4 ∷ []
 
 O2-ends : (S : List Fact) × (search_by second_before 5 (facts_of O2-constraints) ≡ ended (in_tree S) 11)
-unfolding pick ◌and◌ ◌or◌ neg same holds settle candidates facts_over pairs pass tabulate rows upto look labels_of labels_in is_given equal follows iterate grew again anyb anyIn is_in chosen tab search_by search_f line branch after_first first_join first_of is_a_join clashes clashes_at first when or_else
+unfolding pick ◌and◌ ◌or◌ neg same holds settle candidates facts_over pairs pass tabulate rows upto look labels_of labels_in is_given equal follows iterate grew again anyb any_in is_in chosen tab search_by search_f line branch after_first first_join first_of is_a_join clashes clashes_at first when or_else
 O2-ends = (_, refl)
 
 O2-read : answer_file 5 (holds 5 O2-ends.0) ≡ O2-tree
-unfolding O2-ends pick ◌and◌ ◌or◌ neg same holds settle candidates facts_over pairs pass tabulate rows upto look labels_of labels_in is_given equal follows iterate grew again anyb anyIn is_in chosen tab sum one found without arranged picked position smallest over lowest depth layer layers order element front node_at place places nearest parent_of label_of nodes node_bytes place_bytes answer_file
+unfolding O2-ends pick ◌and◌ ◌or◌ neg same holds settle candidates facts_over pairs pass tabulate rows upto look labels_of labels_in is_given equal follows iterate grew again anyb any_in is_in chosen tab sum one found without arranged picked position smallest over lowest depth layer layers order element front node_at place places nearest parent_of label_of nodes node_bytes place_bytes answer_file
 O2-read = refl
 
 pub rows_before : RowsBefore

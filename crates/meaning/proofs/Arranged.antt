@@ -11,7 +11,7 @@ use native.Mathlib.Decide.{dec_lt}
 use native.Mathlib.Omega.{arith}
 use lib.ListN.{length, get_or, length-append, get_or-append}
 use lib.Seq.{get_or-append-add}
-use Rattle.meaning.specs.Finite.{Yes, neg, anyIn, found, without, arranged}
+use Rattle.meaning.specs.Finite.{Yes, neg, any_in, found, without, arranged}
 use Rattle.meaning.proofs.Tests.{clash, yes_case, no_neg, pick_yes, pick_no}
 use Rattle.meaning.proofs.Lists.{any_in_intro, any_in_elim, get_d_mem}
 
@@ -88,7 +88,7 @@ module _ (p : ℕ → Bool) where
 
 module _ (b : ℕ → ℕ → Bool) where
   abbrev free : List ℕ → ℕ → Bool
-  free gs g = neg (anyIn gs (λ w. b w g))
+  free gs g = neg (any_in gs (λ w. b w g))
 
   pub arranged_in : (k : ℕ) (xs : List ℕ) (x : ℕ) → Memᴰ x xs → Memᴰ x (arranged b k xs)
   unfolding arranged

@@ -17,7 +17,7 @@ use Rattle.meaning.specs.Capitals.{EqualButForCase, CaseAside}
 use Rattle.meaning.proofs.Labels.{folded_other, folded_twice}
 use Rattle.meaning.proofs.Congruence.{SameFacts}
 use Rattle.meaning.proofs.SameAnswer.{one_refusal, one_answer}
-use Rattle.meaning.proofs.RecasedFiles.{small-kept, Seen, seen, seen_file, file_seen, small_node, small_answer, answer_seen}
+use Rattle.meaning.proofs.RecasedFiles.{small_kept, Seen, seen, seen_file, file_seen, small_node, small_answer, answer_seen}
 
 -- ---- trees
 
@@ -99,7 +99,7 @@ marks_kept r {a = a} (is_met {c} h w) (d ∷ ds) e = let s : seen c ≡ seen d =
 -- the file with its capitals made small is one that is equal but for case
 pub made_small : (bs : List ℕ) → EqualButForCase bs (small_labels bs)
 unfolding small_labels
-made_small bs = sym (small-kept small_labels (λ a b c d bs cs e. cc (folded_twice d)) bs)
+made_small bs = sym (small_kept small_labels (λ a b c d bs cs e. cc (folded_twice d)) bs)
 
 -- a file without capitals is its own small one
 pub kept_small : (bs : List ℕ) → NoCapitals bs → small_labels bs ≡ bs

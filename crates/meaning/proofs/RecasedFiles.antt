@@ -13,7 +13,7 @@ use Rattle.meaning.specs.Marking.{kind}
 use Rattle.meaning.specs.Files.{Quad, quad, quads, small_labels, JudgedRecord, bad, good, judge_pair, judge_single, judge_label, judge_record, Judged, refused, accepted, with_rest, judge_records, judge, all_places, nodes_then_places, of_kind, node_fine, nodes_fine, places_fine, JudgedAnswer, refused_answer, accepted_answer, node_of, judge_quads, judge_answer}
 use Rattle.meaning.specs.ReadOff.{NodeRecord}
 use Rattle.meaning.specs.Capitals.{EqualButForCase}
-use Rattle.meaning.proofs.Tests.{yes_eq, pick-map, is_eq, eq_yes, le_yes}
+use Rattle.meaning.proofs.Tests.{yes_eq, pick_map, is_eq, eq_yes, le_yes}
 use Rattle.meaning.proofs.Labels.{capital_range, folded_either, folded_twice, folded_least, folded_blank}
 
 -- ---- files and their records
@@ -22,19 +22,19 @@ use Rattle.meaning.proofs.Labels.{capital_range, folded_either, folded_twice, fo
 abbrev CaseBlind {ℓ} : {X : Type ℓ} → (List ℕ → X) → Type ℓ
 CaseBlind F = (a b c d : ℕ) (bs cs : List ℕ) → F bs ≡ F cs → F (a ∷ b ∷ c ∷ folded d ∷ bs) ≡ F (a ∷ b ∷ c ∷ d ∷ cs)
 
-pub small-kept {ℓ} : {X : Type ℓ} (F : List ℕ → X) → CaseBlind F → (bs : List ℕ) → F (small_labels bs) ≡ F bs
+pub small_kept {ℓ} : {X : Type ℓ} (F : List ℕ → X) → CaseBlind F → (bs : List ℕ) → F (small_labels bs) ≡ F bs
 unfolding small_labels
-small-kept F f [] = refl
-small-kept F f (a ∷ []) = refl
-small-kept F f (a ∷ b ∷ []) = refl
-small-kept F f (a ∷ b ∷ c ∷ []) = refl
-small-kept F f (a ∷ b ∷ c ∷ d ∷ bs) = f a b c d (small_labels bs) bs (small-kept F f bs)
+small_kept F f [] = refl
+small_kept F f (a ∷ []) = refl
+small_kept F f (a ∷ b ∷ []) = refl
+small_kept F f (a ∷ b ∷ c ∷ []) = refl
+small_kept F f (a ∷ b ∷ c ∷ d ∷ bs) = f a b c d (small_labels bs) bs (small_kept F f bs)
 
-case-kept {ℓ} : {X : Type ℓ} (F : List ℕ → X) → CaseBlind F → (file other : List ℕ) → EqualButForCase file other → F file ≡ F other
-case-kept F f file other e = sym (small-kept F f file) ∙ ap F e ∙ small-kept F f other
+case_kept {ℓ} : {X : Type ℓ} (F : List ℕ → X) → CaseBlind F → (file other : List ℕ) → EqualButForCase file other → F file ≡ F other
+case_kept F f file other e = sym (small_kept F f file) ∙ ap F e ∙ small_kept F f other
 
 pub length_kept : (file other : List ℕ) → EqualButForCase file other → length file ≡ length other
-length_kept = case-kept length (λ a b c d bs cs e. omega arith)
+length_kept = case_kept length (λ a b c d bs cs e. omega arith)
 
 -- ---- the tests on a label
 
@@ -86,15 +86,15 @@ rest_seen (good c) (accepted cs) = refl
 
 record_seen : (k : ℕ) (x y : Var) (l : Label) → seen_record (judge_record k x y (folded l)) ≡ seen_record (judge_record k x y l)
 unfolding judge_record judge_pair judge_single judge_label
-record_seen k x y l = simp (pick-map seen_record, blank_kept, some_kept, label_seen)
+record_seen k x y l = simp (pick_map seen_record, blank_kept, some_kept, label_seen)
 
 records_seen : (file other : List ℕ) → EqualButForCase file other → seen_file (judge_records file) ≡ seen_file (judge_records other)
 unfolding judge_records
-records_seen = case-kept (λ bs. seen_file (judge_records bs)) (λ k x y l bs cs e. simp (rest_seen, record_seen, e))
+records_seen = case_kept (λ bs. seen_file (judge_records bs)) (λ k x y l bs cs e. simp (rest_seen, record_seen, e))
 
 pub file_seen : (file other : List ℕ) → EqualButForCase file other → seen_file (judge file) ≡ seen_file (judge other)
 unfolding judge
-file_seen file other e = simp (pick-map seen_file, length_kept file other e, records_seen file other e)
+file_seen file other e = simp (pick_map seen_file, length_kept file other e, records_seen file other e)
 
 -- ---- answer files
 
@@ -121,7 +121,7 @@ order_small (q ∷ qs) = rw (order_small qs, places_small qs)
 kind_small : (k : ℕ) (qs : List Quad) → of_kind k (map small_quad qs) ≡ map small_quad (of_kind k qs)
 unfolding of_kind
 kind_small k [] = refl
-kind_small k (q ∷ qs) = simp (pick-map (map small_quad), kind_small k qs)
+kind_small k (q ∷ qs) = simp (pick_map (map small_quad), kind_small k qs)
 
 nodes_fine_small : (i : ℕ) (qs : List Quad) → nodes_fine i (map small_quad qs) ≡ nodes_fine i qs
 unfolding nodes_fine node_fine
@@ -135,15 +135,15 @@ places_fine_small size x (q ∷ qs) = rw (places_fine_small size (suc x) qs, bla
 
 answer_small : (n : ℕ) (qs : List Quad) → small_answer (judge_quads n (map small_quad qs)) ≡ small_answer (judge_quads n qs)
 unfolding judge_quads node_of
-answer_small n qs = simp (pick-map small_answer, order_small, kind_small, length-map, nodes_fine_small, places_fine_small, map-map, folded_twice)
+answer_small n qs = simp (pick_map small_answer, order_small, kind_small, length-map, nodes_fine_small, places_fine_small, map-map, folded_twice)
 
 quads_small : (answer drawn : List ℕ) → EqualButForCase answer drawn → map small_quad (quads answer) ≡ map small_quad (quads drawn)
 unfolding quads
-quads_small = case-kept (λ bs. map small_quad (quads bs)) (λ a b c d bs cs e. cc (folded_twice d))
+quads_small = case_kept (λ bs. map small_quad (quads bs)) (λ a b c d bs cs e. cc (folded_twice d))
 
 quads_seen : (n : ℕ) (answer drawn : List ℕ) → EqualButForCase answer drawn → small_answer (judge_quads n (quads answer)) ≡ small_answer (judge_quads n (quads drawn))
 quads_seen n answer drawn e = cc (answer_small n (quads answer), quads_small answer drawn e, answer_small n (quads drawn))
 
 pub answer_seen : (n : ℕ) (answer drawn : List ℕ) → EqualButForCase answer drawn → small_answer (judge_answer n answer) ≡ small_answer (judge_answer n drawn)
 unfolding judge_answer
-answer_seen n answer drawn e = simp (pick-map small_answer, length_kept answer drawn e, quads_seen n answer drawn e)
+answer_seen n answer drawn e = simp (pick_map small_answer, length_kept answer drawn e, quads_seen n answer drawn e)

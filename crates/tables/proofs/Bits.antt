@@ -7,7 +7,7 @@ use native.Mathlib.Nat.{le_of_suc-le-suc, not-suc-le-zero, le_refl, le_trans, mo
 use native.Mathlib.Decide.{dec_lt, ℕ_discrete}
 use native.Mathlib.Omega.{arith}
 use lib.Dec.{eqb}
-use lib.Bits.{bit_or, bit_and, bit_xor, or_add_and, and_le_l, and_le_r, and_mask, xor_add_and, xor_shr, xor_step, differ as bitDiffer}
+use lib.Bits.{bit_or, bit_and, bit_xor, or_add_and, and_le_l, and_le_r, and_mask, xor_add_and, xor_shr, xor_step, differ as bit_differ}
 use lib.Count.{count_trailing_zeros, under, trailing_le}
 use lib.Pow.{pow_mono, pow_pos, pow-lt}
 use Rattle.meaning.specs.Finite.{Yes, pick}
@@ -146,7 +146,7 @@ bit_is a i = go (ℕ_discrete (a / 2 ^ i % 2) 1)
     go (yes e) = inl (eq_yes e, e)
     go (no e) = inr ((λ y. e (is_eq y)), omega arith)
 
-flip_digit : (a b i : ℕ) → bit_xor a b / 2 ^ i % 2 ≡ bitDiffer (a / 2 ^ i % 2) (b / 2 ^ i % 2) % 2
+flip_digit : (a b i : ℕ) → bit_xor a b / 2 ^ i % 2 ≡ bit_differ (a / 2 ^ i % 2) (b / 2 ^ i % 2) % 2
 flip_digit a b i = rw (xor_shr a b i, xor_step (a / 2 ^ i) (b / 2 ^ i), mul-add-mod_self_right)
 
 pub flip_has : (a i : ℕ) → i < 16 → ¬ Yes (bit a i) → Yes (bit (bit_xor a 65535) i)
