@@ -16,20 +16,17 @@ line-returns-in_default t c =
 
 pub line-returns-then-count-allowance : goal.line-returns-then-count-allowance
 line-returns-then-count-allowance t c =
-    let a = c.args in
-    let split = step_as a.n (tables_of a.child a.parent a.below a.above a.differ a.before a.after a.label a.root a.leaf) c.in-Split.is c.next_step-next.ensures in
+    let split = step_as _ _ c.in-Split.is c.next_step-next.ensures in
     λ S w. line_spent _ _ _ S _ w _ _ _ (split.3 S w) c.if-count-allowance.true _ c.without_tree.ensures
 
 pub line-enter_below-entered-requires : goal.line-enter_below-entered-requires
 line-enter_below-entered-requires t c =
-    let a = c.args in
-    let split = step_as a.n (tables_of a.child a.parent a.below a.above a.differ a.before a.after a.label a.root a.leaf) c.in-Split.is c.next_step-next.ensures in
+    let split = step_as _ _ c.in-Split.is c.next_step-next.ensures in
     record { a_lt_n = (split.0.upper, split.0.lower, c.requires.n_bound.0); ready = c.requires.ready; forked = never_apart }
 
 pub line-search-ended-requires : goal.line-search-ended-requires
 line-search-ended-requires t c =
-    let a = c.args in
-    let split = step_as a.n (tables_of a.child a.parent a.below a.above a.differ a.before a.after a.label a.root a.leaf) c.in-Split.is c.next_step-next.ensures in
+    let split = step_as _ _ c.in-Split.is c.next_step-next.ensures in
     let w = c.requires.ready.1 in
     let left = c.if-count-allowance.false in
     let most = c.requires.n_bound.1 in
@@ -37,8 +34,7 @@ line-search-ended-requires t c =
 
 pub line-returns-in_default-end : goal.line-returns-in_default-end
 line-returns-in_default-end t c =
-    let a = c.args in
-    let split = step_as a.n (tables_of a.child a.parent a.below a.above a.differ a.before a.after a.label a.root a.leaf) c.in-Split.is c.next_step-next.ensures in
+    let split = step_as _ _ c.in-Split.is c.next_step-next.ensures in
     λ S w.
     let alternatives = split.3 S w in
     line_first _ _ _ S _ w _ _ _ alternatives _ (c.search-ended.ensures _ (first_line _ S _ w _ _ _ alternatives _ c.enter_below-entered.ensures))
@@ -46,8 +42,7 @@ line-returns-in_default-end t c =
 
 pub line-returns-then-used-allowance : goal.line-returns-then-used-allowance
 line-returns-then-used-allowance t c =
-    let a = c.args in
-    let split = step_as a.n (tables_of a.child a.parent a.below a.above a.differ a.before a.after a.label a.root a.leaf) c.in-Split.is c.next_step-next.ensures in
+    let split = step_as _ _ c.in-Split.is c.next_step-next.ensures in
     λ S w.
     let alternatives = split.3 S w in
     line_spent_second _ _ _ S _ w _ _ _ alternatives _ (c.search-ended.ensures _ (first_line _ S _ w _ _ _ alternatives _ c.enter_below-entered.ensures))
@@ -55,15 +50,13 @@ line-returns-then-used-allowance t c =
 
 pub line-enter_below-entered-requires-2 : goal.line-enter_below-entered-requires-2
 line-enter_below-entered-requires-2 t c =
-    let a = c.args in
-    let split = step_as a.n (tables_of a.child a.parent a.below a.above a.differ a.before a.after a.label a.root a.leaf) c.in-Split.is c.next_step-next.ensures in
+    let split = step_as _ _ c.in-Split.is c.next_step-next.ensures in
     record { a_lt_n = (split.1.upper, split.1.lower, c.requires.n_bound.0); ready = c.requires.ready; forked = split.2 }
 
 -- the first alternative has ended in none: fewer than the allowance are entered by then, and more than before
 pub line-overflow_add-used : goal.line-overflow_add-used
 line-overflow_add-used t c =
-    let a = c.args in
-    let split = step_as a.n (tables_of a.child a.parent a.below a.above a.differ a.before a.after a.label a.root a.leaf) c.in-Split.is c.next_step-next.ensures in
+    let split = step_as _ _ c.in-Split.is c.next_step-next.ensures in
     let w = c.requires.ready.1 in
     let alternatives = split.3 _ w in
     let used : (c.args.count < c.search-ended.result.count) × (c.search-ended.result.count ≤ c.args.allowance) =
@@ -72,8 +65,7 @@ line-overflow_add-used t c =
 
 pub line-search-ended-requires-2 : goal.line-search-ended-requires-2
 line-search-ended-requires-2 t c =
-    let a = c.args in
-    let split = step_as a.n (tables_of a.child a.parent a.below a.above a.differ a.before a.after a.label a.root a.leaf) c.in-Split.is c.next_step-next.ensures in
+    let split = step_as _ _ c.in-Split.is c.next_step-next.ensures in
     let w = c.requires.ready.1 in
     let alternatives = split.3 _ w in
     let used : (c.args.count < c.search-ended.result.count) × (c.search-ended.result.count ≤ c.args.allowance) =
@@ -83,8 +75,7 @@ line-search-ended-requires-2 t c =
 
 pub line-returns : goal.line-returns
 line-returns t c =
-    let a = c.args in
-    let split = step_as a.n (tables_of a.child a.parent a.below a.above a.differ a.before a.after a.label a.root a.leaf) c.in-Split.is c.next_step-next.ensures in
+    let split = step_as _ _ c.in-Split.is c.next_step-next.ensures in
     λ S w.
     let alternatives = split.3 S w in
     line_second _ _ _ S _ w _ _ _ alternatives _ (c.search-ended.ensures _ (first_line _ S _ w _ _ _ alternatives _ c.enter_below-entered.ensures))
