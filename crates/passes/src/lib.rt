@@ -5,6 +5,7 @@ ghost use Rattle.std.specs.Prelude.{◌≡◌, ◌<◌, ◌≤◌};
 ghost use Rattle.passes.specs.Rows.{first_row, Grouped, ChainOf, Chained, GroupsOf, WholeGroups, JoinedOf};
 ghost use Rattle.passes.specs.Steps.{SteppedOf, PassRules, BareRules};
 
+use ids::Variables;
 use sharing::{Shares, share_rows};
 use tables::Facts;
 
@@ -20,12 +21,11 @@ fn first_row(below: u16, child: u16, root: u16, x: usize, n: usize) -> u16
 }
 
 // The rows chained: y by y, each row that has y gains row y.
-pub fn chain_rows(t: [u16; 16], n: usize) -> [u16; 16]
-    requires { n ≤ 16 }
+pub fn chain_rows(t: [u16; 16], n: Variables) -> [u16; 16]
     ensures { ChainOf n t result }
 {
     let mut a = t;
-    for y in 0..n {
+    for y in 0..n.count() {
         let by = a[y];
         for x in 0usize..16 {
             let v = a[x];

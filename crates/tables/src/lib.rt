@@ -7,6 +7,8 @@ ghost use Rattle.meaning.specs.Finite.{pick};
 ghost use Rattle.tables.specs.Rows.{gained, meets, gained_one, without, on_document, Gathers, Transposed, Raised, RaisedAlike, United, Common, Lowest, Rest, Union, LabelOf, Crossed, Blank};
 ghost use Rattle.tables.specs.Tables.{row};
 
+use ids::Variables;
+
 // `parent`, `above` and `after` are the columns of `child`, `below` and `before`, kept as rows: bit x of row y. A label of 0 is no label fact.
 // root and leaf lie apart: a compiler that loads two neighbours as one number waits for both to be stored.
 #[derive(Clone, Copy)]
@@ -38,11 +40,10 @@ pub fn one(y: usize) -> u16
 }
 
 // Every number below n.
-pub fn all(n: usize) -> u16
-    requires { n ≤ 16 }
-    ensures { result ≡ 2 ^ n - 1 }
+pub fn all(n: Variables) -> u16
+    ensures { result ≡ 2 ^ n.count - 1 }
 {
-    let p: u32 = 1 << n;
+    let p: u32 = 1 << n.count;
     (p - 1) as u16
 }
 
