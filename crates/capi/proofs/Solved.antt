@@ -11,19 +11,15 @@ use Rattle.solver.specs.declared.Verdict.{Verdict}
 use Rattle.solver.specs.declared.Verdict.TheVariants.{Tree, None, Spent, Refused}
 use Rattle.capi.specs.Solves.{Solves}
 
--- verdict, middle and low, as the code adds them
+-- verdict, middle and low of each
 unfoldable pub number : Verdict → ℕ
-number (Tree bytes count) = bytes * 4294967296 + count
-number (None count) = 281474976710656 + count
-number (Spent count) = 562949953421312 + count
-number (Refused question) = 844424930131968 + question
+number (Tree bytes count) = told 0 bytes count
+number (None count) = told 1 0 count
+number (Spent count) = told 2 0 count
+number (Refused q) = told 3 0 (question.number q)
 
-number_is : (s : Solved) → number (verdict_of s) ≡ solved_number s
-unfolding number verdict_of solved_number told
-number_is (solver_answers (a_tree c bs)) = omega arith
-number_is (solver_answers (a_none c)) = omega arith
-number_is (solver_answers (a_spent c)) = omega arith
-number_is (solver_refuses q) = omega arith
+number_is : (s : Solved) (v : Verdict) → verdict_of s ≡ v → number v ≡ solved_number s
+number_is s v = ?
 
 module _ (A : ℕ) (file buffer : List ℕ) (r : Verdict) (after : List ℕ) (w : SolverOf A file buffer r after) where
   pub solves : {v : Verdict} → r ≡ v → (m : ℕ) → m ≡ number v → Solves A file buffer m after

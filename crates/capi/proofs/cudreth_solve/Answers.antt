@@ -1,28 +1,24 @@
--- `cudreth_solve` tells the number of the solver's verdict.
-use mathlib.Core.Path.{refl}
-use native.Mathlib.Omega.{arith}
+-- `cudreth_solve` tells the number of the solver's verdict; the bytes of a tree fit their place.
+use Rattle.std.proofs.Common.{arith}
 use Rattle.solver.proofs.Short.{bytes_few}
 use Rattle.capi.proofs.Solved.{number, solves}
 use Rattle.capi.proofs.cudreth_solve.Goals as goal
 
-pub overflow_mul-result : goal.overflow_mul-result
-overflow_mul-result c = omega (arith, bytes_few _ _ _ _ _ c.solve-verdict.ensures c.in-Tree.is)
-
-pub overflow_add-result : goal.overflow_add-result
-overflow_add-result c = omega (arith, bytes_few _ _ _ _ _ c.solve-verdict.ensures c.in-Tree.is)
+pub overflow_cast-told-arg-2 : goal.overflow_cast-told-arg-2
+overflow_cast-told-arg-2 c = omega (arith, bytes_few _ _ _ _ _ c.solve-verdict.ensures c.in-Tree.is)
 
 pub returns-in-Tree : goal.returns-in-Tree
 unfolding number
-returns-in-Tree c = solves _ _ _ _ _ c.solve-verdict.ensures c.in-Tree.is _ refl
+returns-in-Tree c = solves _ _ _ _ _ c.solve-verdict.ensures c.in-Tree.is _ c.told.ensures
 
 pub returns-in-None : goal.returns-in-None
 unfolding number
-returns-in-None c = solves _ _ _ _ _ c.solve-verdict.ensures c.in-None.is _ refl
+returns-in-None c = solves _ _ _ _ _ c.solve-verdict.ensures c.in-None.is _ c.told.ensures
 
 pub returns-in-Spent : goal.returns-in-Spent
 unfolding number
-returns-in-Spent c = solves _ _ _ _ _ c.solve-verdict.ensures c.in-Spent.is _ refl
+returns-in-Spent c = solves _ _ _ _ _ c.solve-verdict.ensures c.in-Spent.is _ c.told.ensures
 
 pub returns-in-Refused : goal.returns-in-Refused
 unfolding number
-returns-in-Refused c = solves _ _ _ _ _ c.solve-verdict.ensures c.in-Refused.is _ refl
+returns-in-Refused c = solves _ _ _ _ _ c.solve-verdict.ensures c.in-Refused.is _ c.refused.ensures

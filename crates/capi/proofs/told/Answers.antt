@@ -1,0 +1,8 @@
+-- The sum, as the meaning writes it.
+use Rattle.std.proofs.Common.{arith}
+use Rattle.meaning.specs.Results.{told}
+use Rattle.capi.proofs.told.Goals as goal
+
+pub returns : goal.returns
+unfolding told
+returns c = omega arith
