@@ -23,7 +23,7 @@ use Rattle.tables.specs.declared.Facts.{Facts}
 use Rattle.tables.proofs.Bits.{or_l, or_r, or_case, without_in, without_out, none_in}
 use Rattle.stages.specs.Found.{join_of, StageOf}
 use Rattle.ancestors.specs.Rows.{Missing}
-use Rattle.stages.specs.declared.Found.TheVariants.{Nothing}
+use Rattle.std.specs.Prelude.{None}
 use Rattle.stages.proofs.Find.{first_of_is_none, first_of_is_some}
 use Rattle.stages.proofs.Stage.{NoneBefore, vars_in, vars_out, above_is, below_is}
 
@@ -138,7 +138,7 @@ module _ (n : ℕ) (small : n ≤ 16) (f : Facts) (vars : ℕ) (ev : vars ≡ 2 
           (λ i k l hk t. la.none i l (passed_a S r i k (le_trans l (le_of_lt a_n.1)) hk t)) (passed_lower S r))
 
 -- nothing is before anything
-pub none_ordered : (n : ℕ) → n ≤ 16 → (f : Facts) (b : Bool) → Blank f.before b → b ≡ true → StageOf sibling_join n f Nothing
+pub none_ordered : (n : ℕ) → n ≤ 16 → (f : Facts) (b : Bool) → Blank f.before b → b ≡ true → StageOf sibling_join n f None
 unfolding join_of is_a_join
 none_ordered n small f b blank e S r =
     sym (first_of_is_none n (is_a_join (has f) sibling_join) (join sibling_join)

@@ -5,8 +5,7 @@ use Rattle.meaning.specs.FixedSearch.{sibling_join, document_join}
 use Rattle.rowbits.specs.Bit.{bit}
 use Rattle.tables.specs.Tables.{row}
 use Rattle.tables.specs.declared.Facts.{Facts}
-use Rattle.stages.specs.declared.Found.{Found}
-use Rattle.stages.specs.Found.{StageOf, with_below}
+use Rattle.stages.specs.Found.{Found, StageOf, with_below}
 
 -- what of a row is missing in one of the rows named
 pub record Missing (t : List ℕ) (rows of r : ℕ) : Type 0 where

@@ -2,11 +2,10 @@
 // but the roots. They are pub only because crates are split: the caller shows what they require.
 #![tactic(auto)]
 
-ghost use Rattle.std.specs.Prelude.{◌≤◌};
 ghost use Rattle.ancestors.specs.Rows.{Missing, SiblingIn, DocumentIn};
 
-use ids::Var;
-use stages::{Found, JoinKind};
+use ids::{Var, Variables};
+use stages::{Join, JoinKind};
 
 // What of a row is missing in one of the rows named.
 fn missing(t: [u16; 16], rows: u16, of: u16) -> u16
@@ -16,8 +15,7 @@ fn missing(t: [u16; 16], rows: u16, of: u16) -> u16
     let mut left = rows;
     while left != 0 {
         let x = tables::lowest(left);
-        let v = t[x];
-        a = a | tables::except(of, v);
+        a |= tables::except(of, t[x]);
         left = tables::rest(left);
     }
     a
@@ -30,51 +28,53 @@ pub fn sibling_join(
     after: [u16; 16],
     below: [u16; 16],
     above: [u16; 16],
-    n: usize,
-) -> Found
-    requires { n ≤ 16 }
-    ensures { SiblingIn n before after below above result }
+    n: Variables,
+) -> Option<Join>
+    ensures { SiblingIn n.count before after below above result }
 {
     if tables::blank(before) {
-        return Found::Nothing;
+        return None;
     }
     let vars = tables::all(n);
-    for y in 0..n {
-        let p = before[y];
-        let q = after[y];
-        let s = (p | q) & vars;
+    for y in 0..n.count {
+        let s = (before[y] | after[y]) & vars;
         if s != 0 {
-            let u = above[y];
-            let b = below[y];
-            let a = tables::lowest(missing(above, s, tables::except(u & vars, b)));
+            let over = tables::except(above[y] & vars, below[y]);
+            let a = tables::lowest(missing(above, s, over));
             if a < 16 {
-                let v = below[a];
-                let x = tables::lowest(tables::except(s, v));
-                return Found::One(JoinKind::Sibling, Var(y as u8), Var(a as u8), Var(x as u8));
+                let x = tables::lowest(tables::except(s, below[a]));
+                return Some(Join {
+                    kind: JoinKind::Sibling,
+                    z: Var(y as u8),
+                    x: Var(a as u8),
+                    y: Var(x as u8),
+                });
             }
         }
     }
-    Found::Nothing
+    None
 }
 
 // The first join of the document node r: w is neither a root nor below the element y. Roots are the same, and so are their children, so the
 // lowest root and its lowest child decide which w are left. Most sets name no root.
-pub fn document_join(child: [u16; 16], below: [u16; 16], root: u16, n: usize) -> Found
-    requires { n ≤ 16 }
-    ensures { DocumentIn n child below root result }
+pub fn document_join(child: [u16; 16], below: [u16; 16], root: u16, n: Variables) -> Option<Join>
+    ensures { DocumentIn n.count child below root result }
 {
     let vars = tables::all(n);
     let r = tables::lowest(root & vars);
     if r < 16 {
-        let c = child[r];
-        let y = tables::lowest(c & vars);
+        let y = tables::lowest(child[r] & vars);
         if y < 16 {
-            let b = below[y];
-            let w = tables::lowest(tables::except(vars, root | b));
+            let w = tables::lowest(tables::except(vars, root | below[y]));
             if w < 16 {
-                return Found::One(JoinKind::Document, Var(r as u8), Var(y as u8), Var(w as u8));
+                return Some(Join {
+                    kind: JoinKind::Document,
+                    z: Var(r as u8),
+                    x: Var(y as u8),
+                    y: Var(w as u8),
+                });
             }
         }
     }
-    Found::Nothing
+    None
 }

@@ -4,8 +4,7 @@ use Rattle.std.specs.Int.Bits.{bit_or, bit_xor}
 use Rattle.meaning.specs.FixedSearch.{parent_join, chain_join}
 use Rattle.tables.specs.Tables.{row}
 use Rattle.tables.specs.declared.Facts.{Facts}
-use Rattle.stages.specs.declared.Found.{Found}
-use Rattle.stages.specs.Found.{StageOf, with_below}
+use Rattle.stages.specs.Found.{Found, StageOf, with_below}
 
 -- the rows of the variables that are neither above nor below each
 abbrev pub Incomparable : List ℕ → List ℕ → List ℕ → Type 0

@@ -86,6 +86,10 @@ module _ (n : ℕ) (few : n ≤ 16) (S : List Fact) (f : Facts) (small : (i : �
 
 -- ---- differ(b, a) entered
 
+-- tables with other rows of differ
+abbrev pub differing : Facts → List ℕ → Facts
+differing f t = record { child = f.child; parent = f.parent; below = f.below; above = f.above; differ = t; before = f.before; after = f.after; root = f.root; leaf = f.leaf; label = f.label }
+
 module _ (n : ℕ) (few : n ≤ 16) (S : List Fact) (f : Facts) (a b : ℕ) (ha : a < n) (hb : b < n) (small : (i : ℕ) → row f.below i < 65536)
     (r : Ready n S f) (not_above : ¬ Held f (below b a)) (t : List ℕ) (q : PartedOf f.differ f.below f.above a b t) where
   abbrev S' : List Fact
@@ -100,8 +104,8 @@ module _ (n : ℕ) (few : n ≤ 16) (S : List Fact) (f : Facts) (a b : ℕ) (ha 
   abbrev Right : ℕ → Type 0
   Right = In (group f.below f.above b)
 
-  abbrev pub with_differ : Facts
-  with_differ = record { child = f.child; parent = f.parent; below = f.below; above = f.above; differ = t; before = f.before; after = f.after; root = f.root; leaf = f.leaf; label = f.label }
+  abbrev with_differ : Facts
+  with_differ = differing f t
 
   there : Rises f.differ (group f.below f.above a) (group f.below f.above b) q.half
   there = alike_raised n few S f small r a ha f.differ _ q.half q.there

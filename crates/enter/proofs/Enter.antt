@@ -6,6 +6,7 @@ use mathlib.Core.Bool.{Bool, true, false, false≢true, ◌||◌}
 use mathlib.Core.List.Memᴰ
 use mathlib.Core.List.{List, ◌∷◌, ◌++◌, Memᴰ}
 use Prim.Native.Nat.{ℕ, ◌<◌, ◌≤◌}
+use Rattle.std.specs.Prelude.{Option, None, Some}
 use native.Mathlib.Nat.{le_trans}
 use Rattle.meaning.specs.Finite.{Yes}
 use Rattle.meaning.specs.ReadOff.{Decides}
@@ -19,13 +20,12 @@ use Rattle.tables.specs.Tables.{row, has, Columns, Ready}
 use Rattle.tables.specs.Rows.{Raised, Crossed, meets}
 use Rattle.tables.specs.Free.{Free}
 use Rattle.tables.specs.declared.Facts.{Facts}
-use Rattle.tables.proofs.Bits.{in_row, meets_out}
+use Rattle.tables.proofs.Bits.{in_row, meets_in, meets_out}
 use Rattle.tables.proofs.Clashes.{free_clash, clash_free, crossed_clash, uncrossed_clear}
 use Rattle.tables.proofs.Groups.{rules_same}
 use Rattle.tables.proofs.Rises.{rises, raised_out, raised_in, columns_raised}
-use Rattle.tables.proofs.Tested.{or_yes}
+use Rattle.tables.proofs.Tested.{or_yes, or_no}
 use Rattle.tables.proofs.Wider.{Opening, Wider, wide_least, wide_rules}
-use Rattle.tables.specs.declared.Settled.{Settled as Result}
 use Rattle.grouping.specs.Rows.{In}
 use Rattle.grouping.specs.Grouping.{Held}
 use Rattle.merge.specs.Merging.{MergedOf}
@@ -39,6 +39,20 @@ no_leaf_above n few S f a b ha r k x lx u l =
     let up = r.decides.sound {f = below x a} (sym (r.mirrored.ancestors x a lx (le_trans ha few)) ∙ u) in
     let same = leaf_below (r.decides.sound {f = leaf x} l) (chain up (r.decides.sound {f = below a k.under} k.above_a)) in
     k.not_above (r.decides.complete (chain (r.decides.sound {f = below b k.under} k.above_b) (chain same up)))
+
+-- where the test for them fails, b is not at or above a, and no leaf is
+module _ (f : Facts) (a b : ℕ) (p q : Bool) (is_p : p ≡ bit (row f.below b) a) (is_q : q ≡ meets (row f.above a) f.leaf) (neither : (p || q) ≡ false) where
+  pub not_above : ¬ Held f (below b a)
+  unfolding has
+  not_above y = false≢true (sym (or_no p q neither).0 ∙ is_p ∙ y)
+
+  no_leaf : (x : ℕ) → In (row f.above a) x → ¬ Held f (leaf x)
+  unfolding has
+  no_leaf x y z = false≢true (sym (or_no p q neither).1 ∙ is_q ∙ meets_in (row f.above a) f.leaf x y z)
+
+-- tables with other rows of below and above
+abbrev pub widened : Facts → List ℕ → List ℕ → Facts
+widened f t s = record { child = f.child; parent = f.parent; below = t; above = s; differ = f.differ; before = f.before; after = f.after; root = f.root; leaf = f.leaf; label = f.label }
 
 module _ (n : ℕ) (few : n ≤ 16) (S : List Fact) (f : Facts) (a b : ℕ) (ha : a < n) (hb : b < n) (r : Ready n S f) where
   abbrev S' : List Fact
@@ -65,9 +79,9 @@ module _ (n : ℕ) (few : n ≤ 16) (S : List Fact) (f : Facts) (a b : ℕ) (ha 
   is_up x y = r.mirrored.ancestors x a (le_trans (settled_within n S r.inside (r.decides.sound {f = below x a} y)).0 few) (le_trans ha few) ∙ y
 
   module _ (up_small : u < 65536) (down-small : w < 65536) (t s : List ℕ) (up : Raised f.below u w t) (down : Raised f.above w u s)
-      (not_above : ¬ P (below b a)) (no_leaf : (x : ℕ) → In u x → P (leaf x) → ⊥) where
+      (p q : Bool) (is_p : p ≡ bit w a) (is_q : q ≡ meets u f.leaf) (neither : (p || q) ≡ false) where
     abbrev raised : Facts
-    raised = record { child = f.child; parent = f.parent; below = t; above = s; differ = f.differ; before = f.before; after = f.after; root = f.root; leaf = f.leaf; label = f.label }
+    raised = widened f t s
 
     up_is : (x : ℕ) → In u x → P (below x a)
     unfolding has
@@ -77,8 +91,8 @@ module _ (n : ℕ) (few : n ≤ 16) (S : List Fact) (f : Facts) (a b : ℕ) (ha 
     unfolding has
     opening = record {
       ends = record { up = λ x y p q. is_up x (rules.sharing.chain x y a p (up_is y q)); down = λ x y p q. rules.sharing.chain b x y p q };
-      no_mid = λ x p q. not_above (rules.sharing.chain b x a q (up_is x p));
-      no_leaf = λ x p q. no_leaf x q p;
+      no_mid = λ x y z. not_above f a b p q is_p is_q neither (rules.sharing.chain b x a z (up_is x y));
+      no_leaf = λ x y z. no_leaf f a b p q is_p is_q neither x z y;
     }
 
     has_wide : (φ : Fact) → Held raised φ → Wider P (In u) (In w) φ
@@ -152,16 +166,6 @@ module _ (n : ℕ) (few : n ≤ 16) (S : List Fact) (f : Facts) (a b : ℕ) (ha 
 
 -- ---- the contract
 
-pub entered_clash : (n : ℕ) (f : Facts) (A : List Fact) → ((S : List Fact) → Ready n S f → Clash n (A ++ S)) → EnteredOf n f A (record { clash = true; facts = f })
-entered_clash n f A h = record { clashes = λ e. h; kept = λ e. refl; settles = λ e. absurd (false≢true (sym e)) }
-
-pub entered_well : (n : ℕ) (f : Facts) (A : List Fact) (g : Facts) → ((S : List Fact) → Ready n S f → Ready n (A ++ S) g) → EnteredOf n f A (record { clash = false; facts = g })
-entered_well n f A g h = record { clashes = λ e. absurd (false≢true e); kept = λ e. absurd (false≢true e); settles = λ e. h }
-
--- what is entered, as the test of `apart` says
-pub entered_as : {n : ℕ} {f : Facts} (a b : ℕ) {p q : Bool} {r : Result} → p ≡ q → EnteredOf n f (entering a b q) r → EnteredOf n f (entering a b p) r
-entered_as {n} {f} a b {r = r} e w = subst (λ (p : Bool). EnteredOf n f (entering a b p) r) (sym e) w
-
 pub clash_entering : (n : ℕ) (S : List Fact) (a b : ℕ) (apart : Bool) → Clash n (below a b ∷ S) → Clash n (entering a b apart ++ S)
 clash_entering n S a b false c = c
 clash_entering n S a b true c =
@@ -181,10 +185,8 @@ module _ (n : ℕ) (f : Facts) (a b : ℕ) (few : n ≤ 16) (ha : a < n) (small 
       (λ y. let l = meets_out (row f.above a) f.leaf small (sym e ∙ y) in
       no_leaf_above n few S f a b ha w k l.0 (in_row _ l.0 small l.1) l.1 l.2) (or_yes p q t)
 
-  pub entered_same : (S : List Fact) → Ready n S f → (apart : Bool) → (Yes apart → Forked f a b) → (r : Result) → MergedOf n f a b r → EnteredOf n f (entering a b apart) r
-  entered_same S w false k r m = record {
-    clashes = λ c S w. m.clashes c S w (follows S w);
-    kept = m.kept;
-    settles = λ c S w. m.settles c S w (follows S w);
-  }
+  pub entered_same : (S : List Fact) → Ready n S f → (apart : Bool) → (Yes apart → Forked f a b) → (r : Option Facts)
+      → MergedOf n f a b r → EnteredOf n f (entering a b apart) r
+  entered_same S w false k None m = λ T z. m T z (follows T z)
+  entered_same S w false k (Some g) m = λ T z. m T z (follows T z)
   entered_same S w true k r m = absurd (not_apart S w (k refl))

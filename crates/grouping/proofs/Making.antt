@@ -2,7 +2,7 @@
 -- and what is left open passes through the group.
 use mathlib.Core.Path.{◌≡◌, refl, sym, ◌∙◌, subst}
 use mathlib.Core.Logic.{◌≢◌, inl, inr, ⊎_elim}
-use mathlib.Core.Bool.{true, false, false≢true}
+use Rattle.std.specs.Prelude.{None}
 use mathlib.Core.List.{List}
 use Prim.Native.Nat.{ℕ, ◌<◌, ◌≤◌}
 use native.Mathlib.Nat.{le_trans}
@@ -29,7 +29,7 @@ use Rattle.tables.proofs.Rises.{rises, raised_out, raised_in, raised_keeps, rais
 use Rattle.tables.proofs.Wider.{Wide}
 use Rattle.grouping.specs.declared.Round.{Round}
 use Rattle.grouping.specs.Rows.{In, Gap, Painted}
-use Rattle.grouping.specs.Grouping.{held, waits, Held, Standing, Pending, Through, Grouped, with_siblings, SharesBefore, lacking, UnifiedOf}
+use Rattle.grouping.specs.Grouping.{held, waits, Held, Standing, Pending, Through, Grouped, with_siblings, SharesBefore, lacking, Unified, UnifiedOf}
 use Rattle.grouping.proofs.Glue.{Cut, Glued, Over, Earlier, Later, glued_sharing, glued_apart, glued_bare, glued_siblings, arrived, glued_parent}
 use Rattle.grouping.proofs.Reach.{Reach, within, ends, cut, glue}
 use Rattle.grouping.proofs.Masks.{reach, union_columns, columns_union}
@@ -294,8 +294,17 @@ fewer t x u w r small up_small ends h g =
 
 -- ---- the contract
 
-module _ (f : Facts) (x w near far far-of : ℕ) (small : x < 65536) (uw : Union f.below x w) (un : Union f.above x near) (uf : Union f.above far-of far)
-    (is-far-of : far-of ≡ pick (meets (bit_or x near) f.leaf) (bit_or x w) 0) where
+-- what `unify` is given of x, and what of it is far above x
+pub record Masks (f : Facts) (x w near from far : ℕ) : Type 0 where
+  pub small : x < 65536
+  pub root_small : f.root < 65536
+  pub leaf_small : f.leaf < 65536
+  pub is_w : Union f.below x w
+  pub is_near : Union f.above x near
+  pub is_from : from ≡ pick (meets (bit_or x near) f.leaf) (bit_or x w) 0
+  pub is_far : Union f.above from far
+
+module _ (f : Facts) (x w near from far : ℕ) (k : Masks f x w near from far) where
   abbrev U : ℕ
   U = bit_or (bit_or x near) far
 
@@ -306,34 +315,27 @@ module _ (f : Facts) (x w near far far-of : ℕ) (small : x < 65536) (uw : Union
   M = bit_and U D
 
   up_small : U < 65536
-  up_small = or_lt 16 (bit_or x near) far (or_lt 16 x near small un.small) uf.small
+  up_small = or_lt 16 (bit_or x near) far (or_lt 16 x near k.small k.is_near.small) k.is_far.small
 
   reached : (n : ℕ) (T : List Fact) → Pending n T x f → Reach (Held f) (In x) (In U) (In D)
-  reached n T p = reach n T x small f p w near far uw un (subst (λ (k : ℕ). Union f.above k far) is-far-of uf)
+  reached n T p = reach n T x k.small f p w near far k.is_w k.is_near (subst (λ (i : ℕ). Union f.above i far) k.is_from k.is_far)
 
-  clashing : (r : Round) → r.clash ≡ true → ((n : ℕ) (T : List Fact) → Pending n T x f → Clash n T) → UnifiedOf f x r
-  clashing r t h = record {
-    clashes = λ _. h;
-    groups = λ e. absurd (false≢true (sym e ∙ t));
-    keeps = λ e. absurd (false≢true (sym e ∙ t));
-    falls = λ e. absurd (false≢true (sym e ∙ t));
-  }
+  pub unify_differs : (d : ℕ) → Union f.differ M d → Yes (meets d M) → UnifiedOf f x None
+  unify_differs d ud h n T p = clash_differs n T f x U D p (reached n T p) d ud h
 
-  pub unify_differs : (d : ℕ) → Union f.differ M d → Yes (meets d M) → (r : Round) → r.clash ≡ true → UnifiedOf f x r
-  unify_differs d ud h r t = clashing r t (λ n T p. clash_differs n T f x U D p (reached n T p) d ud h)
+  pub unify_labels : (l : ℕ) → LabelOf f.label M l → ((i : Var) × In M i × (row f.label i ≢ 0) × (row f.label i ≢ l)) → UnifiedOf f x None
+  unify_labels l lo y n T p = clash_labels n T f x U D p (reached n T p) l lo y.0 y.1 y.2 y.3
 
-  pub unify_labels : (l : ℕ) → LabelOf f.label M l → ((i : Var) × In M i × (row f.label i ≢ 0) × (row f.label i ≢ l)) → (r : Round) → r.clash ≡ true → UnifiedOf f x r
-  unify_labels l lo y r t = clashing r t (λ n T p. clash_labels n T f x U D p (reached n T p) l lo y.0 y.1 y.2 y.3)
+  pub unify_document : (l : ℕ) → LabelOf f.label M l → Yes (on_document f.root f.leaf M l) → UnifiedOf f x None
+  unify_document l lo y n T p = clash_document n T f x U D p (reached n T p) k.root_small k.leaf_small l lo y
 
-  pub unify_document : f.root < 65536 → f.leaf < 65536 → (l : ℕ) → LabelOf f.label M l → Yes (on_document f.root f.leaf M l) → (r : Round) → r.clash ≡ true → UnifiedOf f x r
-  unify_document root_small leaf_small l lo y r t = clashing r t (λ n T p. clash_document n T f x U D p (reached n T p) root_small leaf_small l lo y)
-
-  pub unify_well : f.root < 65536 → f.leaf < 65536 → (parents : ℕ) (g : Facts) → Made f U D M parents g
-      → UnifiedOf f x (record { clash = false; next = parents; group = M; facts = g })
-  unify_well root_small leaf_small parents g q = record {
-    clashes = λ e. absurd (false≢true e);
-    groups = λ _ n T p earlier later b a z. made_grouped n T f x U D p (reached n T p) up_small (or_lt 16 x w small uw.small) root_small leaf_small parents g q earlier later b a
-        (subst (λ (t : List ℕ). SharesBefore t f.after M earlier later b a) q.before (subst (λ (t : List ℕ). SharesBefore g.before t M earlier later b a) q.after z));
-    keeps = λ _. (q.before, q.after);
-    falls = λ _. fewer f.below x U D g.below small up_small (λ i y. (or_l (bit_or x near) far i (or_l x near i y), or_l x w i y)) q.below;
+  pub unify_well : (parents : ℕ) (g : Facts) → Made f U D M parents g → Unified f x (record { next = parents; group = M; facts = g })
+  unify_well parents g q = record {
+    groups = λ n T p earlier later b a z. made_grouped n T f x U D p (reached n T p) up_small (or_lt 16 x w k.small k.is_w.small)
+        k.root_small k.leaf_small parents g q earlier later b a
+        (subst (λ (t : List ℕ). SharesBefore t f.after M earlier later b a) q.before
+        (subst (λ (t : List ℕ). SharesBefore g.before t M earlier later b a) q.after z));
+    keeps = (q.before, q.after);
+    falls = fewer f.below x U D g.below k.small up_small
+        (λ i y. (or_l (bit_or x near) far i (or_l x near i y), or_l x w i y)) q.below;
   }

@@ -1,5 +1,5 @@
 -- Tables in which some variables have yet to become the same, and what making them one group does to them.
-use Rattle.std.specs.Prelude.{◌≡◌, ◌⊎◌, true, false, ℕ, ◌<◌, ◌≤◌}
+use Rattle.std.specs.Prelude.{◌≡◌, ◌⊎◌, ℕ, ◌<◌, ◌≤◌, Option, None, Some}
 use mathlib.Core.List.{List, Memᴰ}
 use Rattle.rowbits.specs.Bit.{bit}
 use Rattle.meaning.specs.Tree.{Var}
@@ -87,10 +87,14 @@ unfoldable pub lacking : List ℕ → ℕ
 lacking t = sum 16 (λ i. sum 16 (λ j. one (neg (bit (row t i) j))))
 
 -- the variables of x became the same, and what is missing now, once their group shares before, is what passes through it; its parents are r.next
-pub record UnifiedOf (f : Facts) (x : ℕ) (r : Round) : Type 0 where
-  pub clashes : r.clash ≡ true → (n : ℕ) (T : List Fact) → Pending n T x f → Clash n T
-  pub groups : r.clash ≡ false → (n : ℕ) (T : List Fact) → Pending n T x f → (earlier later : ℕ) (b a : List ℕ)
+pub record Unified (f : Facts) (x : ℕ) (r : Round) : Type 0 where
+  pub groups : (n : ℕ) (T : List Fact) → Pending n T x f → (earlier later : ℕ) (b a : List ℕ)
       → SharesBefore r.facts.before r.facts.after r.group earlier later b a → Grouped n T r.group r.next earlier later (with_siblings r.facts b a)
-  pub keeps : r.clash ≡ false → (r.facts.before ≡ f.before) × (r.facts.after ≡ f.after)
+  pub keeps : (r.facts.before ≡ f.before) × (r.facts.after ≡ f.after)
   -- with each group that is merged below lacks less
-  pub falls : r.clash ≡ false → Gap f.below x → lacking r.facts.below < lacking f.below
+  pub falls : Gap f.below x → lacking r.facts.below < lacking f.below
+
+-- the given facts have a clash, or the variables of x became the same
+abbrev pub UnifiedOf : Facts → ℕ → Option Round → Type 0
+UnifiedOf f x None = (n : ℕ) (T : List Fact) → Pending n T x f → Clash n T
+UnifiedOf f x (Some r) = Unified f x r

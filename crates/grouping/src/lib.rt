@@ -49,26 +49,14 @@ fn paint(t: [u8; 16], rows: u16, l: u8) -> [u8; 16]
 // The tables after a step, the group that was made, and the variables that have yet to become the same: after `unify` the parents of the group.
 #[derive(Clone, Copy)]
 pub struct Round {
-    pub clash: bool,
     pub next: u16,
     pub group: u16,
     pub facts: Facts,
 }
 
-pub fn refused(f: Facts) -> Round
-    ensures { result.clash ≡ true }
-{
-    Round {
-        clash: true,
-        next: 0,
-        group: 0,
-        facts: f,
-    }
-}
-
 // The variables of x become the same. All that is at or above one of them and at or below one becomes one group, and shares its facts; a
-// leaf at or above x is the same as all below it, so that these join the group. Before is left as it is.
-pub fn unify(f: Facts, x: u16, lower: u16, upper: u16) -> Round
+// leaf at or above x is the same as all below it, so that these join the group. Before is left as it is. None is a clash.
+pub fn unify(f: Facts, x: u16, lower: u16, upper: u16) -> Option<Round>
     requires { Union f.below x lower × Union f.above x upper }
     ensures { UnifiedOf f x result }
 {
@@ -87,14 +75,14 @@ pub fn unify(f: Facts, x: u16, lower: u16, upper: u16) -> Round
     let group = up & down;
     let others = tables::union_rows(differ, group);
     if tables::meet(others, group) {
-        return refused(f);
+        return None;
     }
     let shown = tables::label_of(label, group);
     if two_labels(label, group, shown) {
-        return refused(f);
+        return None;
     }
     if tables::on_document(f.root, f.leaf, group, shown) {
-        return refused(f);
+        return None;
     }
     let children = tables::union_rows(child, group);
     let parents = tables::union_rows(parent, group);
@@ -106,8 +94,7 @@ pub fn unify(f: Facts, x: u16, lower: u16, upper: u16) -> Round
     let new_label = paint(label, group, shown);
     let root = tables::gain(tables::meet(f.root, group), f.root, group);
     let leaf = tables::gain(tables::meet(f.leaf, group), f.leaf, group);
-    Round {
-        clash: false,
+    Some(Round {
         next: parents,
         group,
         facts: Facts {
@@ -122,5 +109,5 @@ pub fn unify(f: Facts, x: u16, lower: u16, upper: u16) -> Round
             label: new_label,
             leaf,
         },
-    }
+    })
 }

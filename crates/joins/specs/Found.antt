@@ -4,8 +4,7 @@ use Rattle.meaning.specs.Constraint.{Fact}
 use Rattle.theory.specs.Search.{first_join}
 use Rattle.tables.specs.Tables.{has, Ready}
 use Rattle.tables.specs.declared.Facts.{Facts}
-use Rattle.stages.specs.declared.Found.{Found}
-use Rattle.stages.specs.Found.{join_of}
+use Rattle.stages.specs.Found.{Found, join_of}
 
 -- the first join of all
 abbrev pub FoundOf : ℕ → Facts → Found → Type 0

@@ -2,7 +2,7 @@
 -- ones. A caller cites `back_tested`: when below(b,a) follows from below(a,b).
 use mathlib.Core.Path.{refl, sym, ◌∙◌, subst}
 use mathlib.Core.Logic.{◌⊎◌, ⊎_elim}
-use mathlib.Core.Bool.{true, false, false≢true}
+use Rattle.std.specs.Prelude.{None, Some}
 use mathlib.Core.List.Memᴰ
 use mathlib.Core.List.{List, ◌∷◌, Memᴰ}
 use Prim.Native.Nat.{ℕ, ◌^◌, ◌<◌, ◌≤◌}
@@ -107,15 +107,11 @@ module _ (n : ℕ) (f : Facts) (a b : Var) (few : n ≤ 16) (ha : a < n) (hb : b
   pub begun : (S : List Fact) → Ready n S f → Settled n (below a b ∷ S) (below b a) → Pending n (below a b ∷ S) x f
   begun S r back = narrow n (below a b ∷ S) f _ x h (start n S a b few ha hb f r back)
 
-  pub merged_clash : ((T : List Fact) → Pending n T x f → Clash n T) → MergedOf n f a b (record { clash = true; facts = f })
-  merged_clash k = record { clashes = λ _ S r back. k _ (begun S r back); kept = λ _. refl; settles = λ e. absurd (false≢true (sym e)) }
+  pub merged_clash : ((T : List Fact) → Pending n T x f → Clash n T) → MergedOf n f a b None
+  merged_clash k S r back = k _ (begun S r back)
 
-  pub merged_well : (g : Facts) → OneElement g → ((T : List Fact) → Pending n T x f → Pending n T 0 g) → MergedOf n f a b (record { clash = false; facts = g })
-  merged_well g top k = record {
-    clashes = λ e. absurd (false≢true e);
-    kept = λ e. absurd (false≢true e);
-    settles = λ _ S r back. done n _ g (k _ (begun S r back)) top;
-  }
+  pub merged_well : (g : Facts) → OneElement g → ((T : List Fact) → Pending n T x f → Pending n T 0 g) → MergedOf n f a b (Some g)
+  merged_well g top k S r back = done n _ g (k _ (begun S r back)) top
 
 -- what a caller tests: below(b,a) is held, or a leaf is at or above a
 pub back_tested : (n : ℕ) (S : List Fact) (f : Facts) (a b : Var) → n ≤ 16 → a < n → row f.above a < 65536 → Ready n S f

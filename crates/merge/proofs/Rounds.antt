@@ -2,9 +2,10 @@
 -- become the same, or, where they are the same, the children of the document node, or, where these are too, nothing has.
 use mathlib.Core.Path.{◌≡◌, refl, sym, ◌∙◌, subst}
 use mathlib.Core.Logic.{◌≢◌, ⊎_elim}
-use mathlib.Core.Bool.{Bool, true, false, false≢true}
+use mathlib.Core.Bool.{Bool, true, false}
 use mathlib.Core.List.{List}
 use Prim.Native.Nat.{ℕ, ◌<◌, ◌≤◌}
+use Rattle.std.specs.Prelude.{None}
 use native.Mathlib.Nat.{le_trans}
 use native.Mathlib.Decide.{ℕ_discrete}
 use native.Mathlib.Omega.{arith}
@@ -23,9 +24,9 @@ use Rattle.tables.proofs.Rises.{rises, raised_keeps}
 use Rattle.grouping.specs.declared.Round.{Round}
 use Rattle.grouping.specs.Rows.{In, Gap}
 use Rattle.merge.specs.Rows.{Chained, Alike, WithGap, NextOf}
-use Rattle.grouping.specs.Grouping.{Awaits, held, waits, Held, Pending, Grouped, with_siblings, lacking, UnifiedOf}
+use Rattle.grouping.specs.Grouping.{Awaits, held, waits, Held, Pending, Grouped, with_siblings, lacking, Unified}
 use Rattle.siblings.specs.Passing.{PassedOf}
-use Rattle.merge.specs.Merging.{OneElement, RoundOf}
+use Rattle.merge.specs.Merging.{OneElement, Going, RoundOf}
 use Rattle.siblings.proofs.Loops.{none_spread}
 use Rattle.siblings.proofs.Passing.{Follows, alone_follows, passed_follows}
 
@@ -109,7 +110,7 @@ module _ (n : ℕ) (T : List Fact) (f : Facts) (parents next : ℕ) (p : Pending
 
 -- ---- after a group was made
 
-module _ (n : ℕ) (T : List Fact) (f : Facts) (x : ℕ) (m : Round) (p : Pending n T x f) (k : UnifiedOf f x m) (made : m.clash ≡ false) where
+module _ (n : ℕ) (T : List Fact) (f : Facts) (x : ℕ) (m : Round) (p : Pending n T x f) (k : Unified f x m) where
   few : n ≤ 16
   few = p.standing.few
 
@@ -124,16 +125,16 @@ module _ (n : ℕ) (T : List Fact) (f : Facts) (x : ℕ) (m : Round) (p : Pendin
     no_after : (i j : ℕ) → i < 16 → ¬ In (row f.after i) j
     no_after i j l u =
         let h = in_row (row f.after i) j (smalls i) u in
-        no_before j i h (subst (λ (b : List ℕ). In (row b j) i) (sym (k.keeps made).0) (sym (p.standing.mirrored.siblings j i h l) ∙ u))
+        no_before j i h (subst (λ (b : List ℕ). In (row b j) i) (sym k.keeps.0) (sym (p.standing.mirrored.siblings j i h l) ∙ u))
 
     none_of : (t : List ℕ) → ((i j : ℕ) → i < 16 → ¬ In (row t i) j) → Union t m.group 0
     none_of t h = record { small = omega arith; from = λ j u. none_in j u; to = λ i j u v. absurd (h i j (in_row m.group i small u) v) }
 
     bare : Follows n T m.next m.facts
     bare = alone_follows n T _ _ 0 0 _
-        (k.groups made n T p 0 0 m.facts.before m.facts.after
+        (k.groups n T p 0 0 m.facts.before m.facts.after
         (record {
-          is_earlier = subst (λ (a : List ℕ). Union a m.group 0) (sym (k.keeps made).1) (none_of f.after no_after);
+          is_earlier = subst (λ (a : List ℕ). Union a m.group 0) (sym k.keeps.1) (none_of f.after no_after);
           is_later = none_of m.facts.before no_before;
           shared_before = none_spread m.facts.before m.group 0 0 refl;
           shared_after = none_spread m.facts.after m.group 0 0 refl;
@@ -149,7 +150,7 @@ module _ (n : ℕ) (T : List Fact) (f : Facts) (x : ℕ) (m : Round) (p : Pendin
   -- the group shares before, and passes on what it has
   module _ (g : Facts) (h : PassedOf m.facts m.group m.next g) (t : Bool) (tests : Crossed g.before g.below g.above t) where
     grouped : Grouped n T m.group m.next h.earlier h.later (with_siblings m.facts h.b h.a)
-    grouped = k.groups made n T p _ _ _ _ h.shares
+    grouped = k.groups n T p _ _ _ _ h.shares
 
     follows : Follows n T m.next g
     follows = ⊎_elim (λ y. subst (Follows n T m.next) (sym y.1) (alone_follows n T _ _ _ _ _ grouped y.0)) (passed_follows n T _ _ _ _ _ grouped g) h.passes
@@ -173,37 +174,26 @@ passed_keeps f group parents g h i j u =
 
 -- ---- the contract
 
-module _ (f : Facts) (x : ℕ) (m : Round) (k : UnifiedOf f x m) where
-  refused : (r : Round) → r.clash ≡ true → ((n : ℕ) (T : List Fact) → Pending n T x f → Clash n T) → RoundOf f x r
-  refused r t h = record {
-    clashes = λ _. h;
-    goes_on = λ e. absurd (false≢true (sym e ∙ t));
-    falls = λ e. absurd (false≢true (sym e ∙ t));
-    gap = λ e. absurd (false≢true (sym e ∙ t));
-    top = λ e. absurd (false≢true (sym e ∙ t));
+module _ (f : Facts) (x : ℕ) (m : Round) (k : Unified f x m) where
+  goes_to : (g : Facts) → ((n : ℕ) (T : List Fact) → Pending n T x f → Pending n T m.next g)
+      → ((i j : ℕ) → In (row m.facts.below i) j → In (row g.below i) j) → (next : ℕ) → NextOf g.below g.above g.child g.root m.next next
+      → Going f x (record { next = next; group = m.group; facts = g })
+  goes_to g on keeps next a = record {
+    goes_on = λ n T p. next_pending n T g m.next next (on n T p) a;
+    falls = λ y. let a = k.falls y in let b = lacks_no_more m.facts.below g.below keeps in omega arith;
+    gap = λ n T p. next_gap n T g m.next next (on n T p) a;
+    top = λ n T p. next_top n T g m.next next (on n T p) a;
   }
 
-  pub round_refused : m.clash ≡ true → RoundOf f x m
-  round_refused t = refused m t (k.clashes t)
+  pub round_blank : m.group < 65536 → ((i : ℕ) → row f.after i < 65536) → (t : Bool) → Blank m.facts.before t → t ≡ true
+      → (next : ℕ) → NextOf m.facts.below m.facts.above m.facts.child m.facts.root m.next next
+      → Going f x (record { next = next; group = m.group; facts = m.facts })
+  round_blank small smalls t blank e = goes_to m.facts (λ n T p. blank_on n T f x m p k small smalls t blank e) (λ i j u. u)
 
-  module _ (made : m.clash ≡ false) where
-    goes_to : (g : Facts) → ((n : ℕ) (T : List Fact) → Pending n T x f → Pending n T m.next g) → ((i j : ℕ) → In (row m.facts.below i) j → In (row g.below i) j)
-        → (next : ℕ) → NextOf g.below g.above g.child g.root m.next next → RoundOf f x (record { clash = m.clash; next = next; group = m.group; facts = g })
-    goes_to g on keeps next a = record {
-      clashes = λ e. absurd (false≢true (sym made ∙ e));
-      goes_on = λ _ n T p. next_pending n T g m.next next (on n T p) a;
-      falls = λ _ y. let a = k.falls made y in let b = lacks_no_more m.facts.below g.below keeps in omega arith;
-      gap = λ _ n T p. next_gap n T g m.next next (on n T p) a;
-      top = λ _ n T p. next_top n T g m.next next (on n T p) a;
-    }
+  module _ (g : Facts) (h : PassedOf m.facts m.group m.next g) (t : Bool) (tests : Crossed g.before g.below g.above t) where
+    pub round_crossed : t ≡ true → RoundOf f x None
+    round_crossed c n T p = passed_clash n T f x m p k g h t tests c
 
-    pub round_blank : m.group < 65536 → ((i : ℕ) → row f.after i < 65536) → (t : Bool) → Blank m.facts.before t → t ≡ true
-        → (next : ℕ) → NextOf m.facts.below m.facts.above m.facts.child m.facts.root m.next next → RoundOf f x (record { clash = m.clash; next = next; group = m.group; facts = m.facts })
-    round_blank small smalls t blank e = goes_to m.facts (λ n T p. blank_on n T f x m p k made small smalls t blank e) (λ i j u. u)
-
-    module _ (g : Facts) (h : PassedOf m.facts m.group m.next g) (t : Bool) (tests : Crossed g.before g.below g.above t) where
-      pub round_crossed : t ≡ true → (r : Round) → r.clash ≡ true → RoundOf f x r
-      round_crossed c r y = refused r y (λ n T p. passed_clash n T f x m p k made g h t tests c)
-
-      pub round_passed : t ≡ false → (next : ℕ) → NextOf g.below g.above g.child g.root m.next next → RoundOf f x (record { clash = m.clash; next = next; group = m.group; facts = g })
-      round_passed c = goes_to g (λ n T p. passed_on n T f x m p k made g h t tests c) (passed_keeps m.facts m.group m.next g h)
+    pub round_passed : t ≡ false → (next : ℕ) → NextOf g.below g.above g.child g.root m.next next
+        → Going f x (record { next = next; group = m.group; facts = g })
+    round_passed c = goes_to g (λ n T p. passed_on n T f x m p k g h t tests c) (passed_keeps m.facts m.group m.next g h)

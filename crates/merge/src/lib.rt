@@ -2,16 +2,16 @@
 // children of the document node.
 #![tactic(auto)]
 
-ghost use Rattle.std.specs.Prelude.{◌<◌, ◌≤◌, ◌^◌};
+ghost use Rattle.std.specs.Prelude.{◌<◌, ◌^◌};
 ghost use Rattle.std.specs.Int.Bits.{bit_or};
 ghost use Rattle.tables.specs.Rows.{Union};
 ghost use Rattle.merge.specs.Rows.{WithGap, GapOf, NextOf};
 ghost use Rattle.merge.specs.Merging.{RoundOf, Joining, MergedOf};
 
-use grouping::{Round, refused, unify};
-use ids::Var;
+use grouping::{Round, unify};
+use ids::{Var, Variables};
 use siblings::pass_on;
-use tables::{Facts, Settled};
+use tables::Facts;
 
 // The rows named, if one of them lacks one of them; else no row. Below chains, so that there is no such gap where the lowest has all of them both
 // below and above it.
@@ -72,22 +72,19 @@ fn next_set(below: [u16; 16], above: [u16; 16], child: [u16; 16], root: u16, par
 }
 
 // One round: the variables of x become the same, and the next one is for the parents of their group or the children of the roots. In most sets
-// nothing is before anything, and a round is to cost no more for it: these leave first.
-fn next_round(f: Facts, x: u16, lower: u16, upper: u16) -> Round
+// nothing is before anything, and a round is to cost no more for it: these leave first. None is a clash.
+fn next_round(f: Facts, x: u16, lower: u16, upper: u16) -> Option<Round>
     requires { Union f.below x lower × Union f.above x upper }
     ensures { RoundOf f x result }
 {
-    let mut r = unify(f, x, lower, upper);
-    if r.clash {
-        return r;
-    }
+    let mut r = unify(f, x, lower, upper)?;
     let before = r.facts.before;
     if tables::blank(before) {
         let below = r.facts.below;
         let above = r.facts.above;
         let child = r.facts.child;
         r.next = next_set(below, above, child, r.facts.root, r.next);
-        return r;
+        return Some(r);
     }
     let unified = r.facts;
     let g = pass_on(unified, r.group, r.next);
@@ -95,19 +92,19 @@ fn next_round(f: Facts, x: u16, lower: u16, upper: u16) -> Round
     let new_below = g.below;
     let new_above = g.above;
     if tables::crossed(new_before, new_below, new_above) {
-        return refused(f);
+        return None;
     }
     let new_child = g.child;
     r.next = next_set(new_below, new_above, new_child, g.root, r.next);
     r.facts = g;
-    r
+    Some(r)
 }
 
-// Settled tables with below(a, b), settled again, where below(b, a) follows from it. With a clash they come back as they went in.
-pub fn enter_same(f: Facts, n: usize, a: Var, b: Var) -> Settled
-    requires a_lt_n { (a.0 < n) × (b.0 < n) × (n ≤ 16) }
-    requires joining { Joining n f a.0 b.0 }
-    ensures { MergedOf n f a.0 b.0 result }
+// Settled tables with below(a, b), settled again, where below(b, a) follows from it. None is a clash.
+pub fn enter_same(f: Facts, n: Variables, a: Var, b: Var) -> Option<Facts>
+    requires a_lt_n { (a.0 < n.count) × (b.0 < n.count) }
+    requires joining { Joining n.count f a.0 b.0 }
+    ensures { MergedOf n.count f a.0 b.0 result }
 {
     let i = a.0 as usize;
     let j = b.0 as usize;
@@ -118,13 +115,7 @@ pub fn enter_same(f: Facts, n: usize, a: Var, b: Var) -> Settled
     let mut lower = union_two(below, i, j);
     let mut upper = union_two(above, i, j);
     while x != 0 {
-        let r = next_round(g, x, lower, upper);
-        if r.clash {
-            return Settled {
-                clash: true,
-                facts: f,
-            };
-        }
+        let r = next_round(g, x, lower, upper)?;
         g = r.facts;
         x = r.next;
         below = g.below;
@@ -132,8 +123,5 @@ pub fn enter_same(f: Facts, n: usize, a: Var, b: Var) -> Settled
         lower = tables::union_rows(below, x);
         upper = tables::union_rows(above, x);
     }
-    Settled {
-        clash: false,
-        facts: g,
-    }
+    Some(g)
 }

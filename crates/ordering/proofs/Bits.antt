@@ -9,7 +9,8 @@ use native.Mathlib.Decide.{ℕ_discrete}
 use native.Mathlib.Omega.{arith}
 use lib.Bits.{and_le_l, or_zero_r}
 use lib.Pow.{pow_mono}
-use Rattle.meaning.specs.Finite.{◌and◌, neg, pick, picked}
+use mir.Val.{bool_byte}
+use Rattle.meaning.specs.Finite.{◌and◌, neg, one, pick, picked}
 use Rattle.meaning.proofs.Tests.{clash, yes_eq, no_neg, is_eq, self_eq, and_left, and_right, and_both, yes_not}
 use Rattle.rowbits.specs.Bit.{bit, with_bit}
 use Rattle.rowbits.proofs.Laws.{bit_with, with_lt}
@@ -39,6 +40,12 @@ and_turn false false = refl
 or_false : (a : Bool) → (a || false) ≡ a
 or_false true = refl
 or_false false = refl
+
+-- a test as a byte
+pub byte_is : (b : Bool) → bool_byte b ≡ one b
+unfolding one
+byte_is true = refl
+byte_is false = refl
 
 -- ---- single bits
 

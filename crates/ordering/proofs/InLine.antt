@@ -9,13 +9,13 @@ use lib.ListN.{length}
 use Rattle.meaning.specs.Finite.{Yes, ◌and◌, neg, arranged, picked}
 use Rattle.meaning.proofs.Tests.{is_eq, yes_not}
 use Rattle.meaning.proofs.Lists.{picked_in, picked_out, picked_none}
-use Rattle.meaning.proofs.Arranged.{arranged_out, length_arranged, arranged_next, some_free}
+use Rattle.meaning.proofs.Arranged.{length_arranged, arranged_next, some_free}
 use Rattle.rowbits.specs.Bit.{bit}
 use Rattle.rowbits.proofs.Laws.{bit_one}
 use Rattle.tables.specs.Tables.{row}
 use Rattle.tables.specs.Rows.{Lowest, without}
 use Rattle.tables.proofs.Bits.{in_both, both_in, none_in, some_in, in_row, one_has}
-use Rattle.tables.proofs.Members.{Passed}
+use Rattle.tables.proofs.Members.{Passed, passed_all}
 use Rattle.ordering.specs.Listing.{precedes, Strict, Earliest, in_line}
 use Rattle.ordering.proofs.Bits.{and_true, bit_without, picked_apart}
 
@@ -23,10 +23,6 @@ module _ (after : List ℕ) (r : ℕ) where
   pub length_in_line : length (in_line after r) ≡ length (picked 16 (bit r))
   unfolding in_line
   length_in_line = length_arranged (precedes after) _ (picked 16 (bit r))
-
-  pub in_line_small : (g : ℕ) → Memᴰ g (in_line after r) → g < 16
-  unfolding in_line
-  in_line_small g m = (picked_out 16 (bit r) g (arranged_out (precedes after) _ (picked 16 (bit r)) g m)).0
 
   pub in_line_none : r ≡ 0 → in_line after r ≡ []
   unfolding in_line arranged
@@ -44,7 +40,7 @@ module _ (after : List ℕ) (r : ℕ) where
         (i.0, listed_in i.0 b.0, b.1)
 
     -- not every member has one that goes before it
-    pub some_earliest : r ≢ 0 → Strict after → ¬ ((i : ℕ) → Yes (bit r i) → bit_and r (row after i) ≢ 0)
+    some_earliest : r ≢ 0 → Strict after → ¬ ((i : ℕ) → Yes (bit r i) → bit_and r (row after i) ≢ 0)
     some_earliest some strict none =
         let i = some_in r small some in
         let v = some_free (precedes after) strict.not_self strict.chains (picked 16 (bit r)) i.0 (listed_in i.0 i.1) in
@@ -78,6 +74,10 @@ module _ (after : List ℕ) (r : ℕ) where
               let k = picked_out x (bit r) y m in
               let w = earlier_one y (e.first y k.0 k.1) in
               (w.0, subst (Memᴰ w.0) apart.1 w.1, w.2)
+
+  -- so some are left where each that was passed has one
+  pub some_left : (left : ℕ) → r < 65536 → r ≢ 0 → Strict after → Passed (λ i. bit_and r (row after i) ≢ 0) r left → left ≢ 0
+  some_left left small some strict w z = some_earliest small some strict (passed_all _ _ _ w z)
 
   -- the lowest of those left is free, and those passed are not
   pub found_earliest : (left x : ℕ) → Passed (λ i. bit_and r (row after i) ≢ 0) r left → x < 16 → Lowest left x → bit_and r (row after x) ≡ 0 → Earliest after r x

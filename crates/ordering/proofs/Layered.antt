@@ -5,8 +5,6 @@ use mathlib.Core.List.{List}
 use Prim.Native.Nat.{ℕ, ◌+◌, ◌^◌, ◌<◌}
 use native.Mathlib.Decide.{ℕ_discrete}
 use native.Mathlib.Omega.{arith}
-use lib.Bits.{bit_and}
-use lib.Count.{ones}
 use lib.ListN.{length, set, replicate, get_or-replicate}
 use lib.Seq.{get_or-set_same, get_or-set_other}
 use Rattle.meaning.specs.Finite.{◌and◌}
@@ -16,25 +14,21 @@ use Rattle.rowbits.specs.Bit.{bit}
 use Rattle.tables.specs.Rows.{gained_one}
 use Rattle.tables.proofs.Helpers.{gain_off}
 use Rattle.tables.specs.Tables.{row}
-use Rattle.ordering.specs.Rows.{Gathered, over_row, deep, in_layer}
+use Rattle.ordering.specs.Rows.{Gathered, deep, in_layer}
 use Rattle.ordering.proofs.Bits.{and_true, and_false, gather_none, gather_more}
 
 module _ (t u : List ℕ) (n lows : ℕ) where
-  unfoldable pub Layered : ℕ → List ℕ → Type 0
+  abbrev pub Layered : ℕ → List ℕ → Type 0
   Layered x rows = (d : ℕ) → d < 17 → Gathered x (in_layer t u n lows d) (row rows d)
 
   pub layered_none : Layered 0 (replicate 17 0)
-  unfolding Layered
   layered_none d h = subst (Gathered 0 _) (sym (get_or-replicate 17 d 0 0 h)) (gather_none _)
 
-  pub layered_more : (x above depth v : ℕ) (s : Bool) (rows : List ℕ) → length rows ≡ 17 → above ≡ over_row n (row u x) (row t x) → depth ≡ ones (bit_and above lows) → s ≡ bit lows x
+  pub layered_more : (x depth v : ℕ) (s : Bool) (rows : List ℕ) → length rows ≡ 17 → depth ≡ deep t u n lows x → s ≡ bit lows x
       → v ≡ gained_one s (row rows depth) x → Layered x rows → Layered (x + 1) (set rows depth v)
-  unfolding Layered in_layer deep gained_one
-  layered_more x above depth v s rows long o c l w g d h = go (ℕ_discrete d depth)
+  unfolding in_layer gained_one
+  layered_more x depth v s rows long e l w g d h = go (ℕ_discrete d depth)
     where
-      e : depth ≡ deep t u n lows x
-      e = c ∙ ap (λ (a : ℕ). ones (bit_and a lows)) o
-
       go : Dec (d ≡ depth) → Gathered (x + 1) (in_layer t u n lows d) (row (set rows depth v) d)
       go (yes q) =
           gather_more (in_layer t u n lows d) x (row rows d) (row (set rows depth v) d) s

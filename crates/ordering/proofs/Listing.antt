@@ -1,17 +1,17 @@
 -- The order as a list: what stands at a place, one group more, and the place of the first group that passes a test.
 use mathlib.Core.Path.{◌≡◌, refl, sym, ap, ◌∙◌, subst}
-use mathlib.Core.Logic.{⊎_elim}
+use mathlib.Core.Logic.{◌⊎◌, ⊎_elim}
 use mathlib.Core.Bool.{Bool, true, false}
 use mathlib.Core.List.Memᴰ
 use mathlib.Core.List.{List, [], ◌∷◌, ◌++◌, map, map-append, append_assoc, append-nil, Memᴰ}
-use Prim.Native.Nat.{ℕ, zero, suc, ◌+◌, ◌^◌, ◌≤◌, ◌<◌, zero-le}
+use Prim.Native.Nat.{ℕ, zero, suc, ◌+◌, ◌^◌, ◌≤◌, ◌<◌}
 use native.Mathlib.Nat.{le_refl, le_step, le_trans, zero-add, not-suc-le-zero, le_of_suc-le-suc}
 use native.Mathlib.Decide.{ℕ_discrete}
 use native.Mathlib.Numerals.{add-one}
 use native.Mathlib.Omega.{arith}
 use lib.Dec.{eqb}
-use lib.ListN.{length, get_or, take, drop, set, length-append, length-map, length-set, drop_of_length-le}
-use lib.Seq.{drop-cons, drop-nil, take-suc-set, length-take-le, get_or-take, get_or-set_same, get_or-set_other}
+use lib.ListN.{length, get_or, take, drop, set, length-append, length-map, drop_of_length-le}
+use lib.Seq.{drop-cons, take-suc-set, length-take-le, get_or-take, get_or-set_same, get_or-set_other}
 use Rattle.meaning.specs.Finite.{position}
 use Rattle.meaning.proofs.Tests.{pick_yes, pick_no, is_eq, eq_yes, not_yes, yes_not}
 use Rattle.meaning.proofs.Lists.{get_d_mem}
@@ -20,72 +20,103 @@ use Rattle.ids.specs.declared.Var.{Var}
 use Rattle.ordering.specs.declared.Order.{Order}
 use Rattle.tables.specs.Rows.{without}
 use Rattle.tables.proofs.Bits.{without_less}
-use Rattle.ordering.specs.Listing.{groups, Small, Earliest, in_line, listed, Listed, Placed}
-use Rattle.ordering.proofs.InLine.{earliest_in, in_line_small, in_line_none, in_line_next}
+use Rattle.ordering.specs.Listing.{numbers, AreVariables, Earliest, in_line, listed, Placed}
+use Rattle.ordering.specs.Groups.{groups}
+use Rattle.ordering.proofs.InLine.{earliest_in, in_line_none, in_line_next}
 
 -- ---- the place of the first that passes a test
 
+pub first_none : (p : ℕ → Bool) → position p [] ≡ 0
+unfolding position
+first_none p = refl
+
+pub first_here : (p : ℕ → Bool) (x : ℕ) (xs : List ℕ) → p x ≡ true → position p (x ∷ xs) ≡ 0
+unfolding position
+first_here p x xs e = pick_yes _ _ e
+
+pub first_next : (p : ℕ → Bool) (x : ℕ) (xs : List ℕ) → p x ≡ false → position p (x ∷ xs) ≡ position p xs + 1
+unfolding position
+first_next p x xs e = pick_no _ _ (not_yes e) ∙ sym (add-one _)
+
 position_here : (p : ℕ → Bool) (xs : List ℕ) (i : ℕ) → i < length xs → p (get_or xs i 0) ≡ true → position p (drop i xs) ≡ 0
-unfolding position
-position_here p xs i l e = rw (drop-cons xs i 0) (pick_yes _ _ e)
+position_here p xs i l e = rw (drop-cons xs i 0) (first_here p _ _ e)
 
-position_next : (p : ℕ → Bool) (xs : List ℕ) (i : ℕ) → i < length xs → p (get_or xs i 0) ≡ false → position p (drop i xs) ≡ suc (position p (drop (i + 1) xs))
-unfolding position
-position_next p xs i l e = rw (add-one, drop-cons xs i 0) (pick_no _ _ (not_yes e))
-
-position_end : (p : ℕ → Bool) (xs : List ℕ) (i : ℕ) → length xs ≤ i → position p (drop i xs) ≡ 0
-unfolding position
-position_end p [] i l = ap (position p) (drop-nil i)
-position_end p (x ∷ xs) zero l = absurd (not-suc-le-zero l)
-position_end p (x ∷ xs) (suc i) l = position_end p xs i (le_of_suc-le-suc l)
+position_next : (p : ℕ → Bool) (xs : List ℕ) (i : ℕ) → i < length xs → p (get_or xs i 0) ≡ false → position p (drop i xs) ≡ position p (drop (i + 1) xs) + 1
+position_next p xs i l e = rw (add-one i, drop-cons xs i 0) (first_next p _ _ e)
 
 -- ---- the groups of an order
 
--- what owning an array of structs tells of its list is said of the mapped list
-pub length_mapped : (X Y : Type 0) (f : X → Y) (l : List X) (n : ℕ) → length (map f l) ≡ n → length l ≡ n
-length_mapped X Y f l n p = sym (length-map l f) ∙ p
+pub length_numbers : (vs : List Var) (len : ℕ) → len ≤ length vs → length (numbers vs len) ≡ len
+unfolding numbers
+length_numbers vs len h = length-map (take len vs) (λ (v : Var). v.0) ∙ length-take-le len vs h
 
-pub length_groups : (o : Order) → o.len ≤ length o.group → length (groups o) ≡ o.len
-unfolding groups
-length_groups o h = length-map (take o.len o.group) (λ (v : Var). v.0) ∙ length-take-le o.len o.group h
-
-group_at : (o : Order) (i : ℕ) (d : Var) → o.len ≤ length o.group → i < o.len → get_or (groups o) i 0 ≡ (get_or o.group i d).0
-unfolding groups
-group_at o i d h l =
-    at (take o.len o.group) i (subst (λ (k : ℕ). i < k) (sym (length-take-le o.len o.group h)) l)
-    ∙ ap (λ (v : Var). v.0) (get_or-take o.len o.group i d l)
+pub number_at : (vs : List Var) (len i : ℕ) (d : Var) → len ≤ length vs → i < len → get_or (numbers vs len) i 0 ≡ (get_or vs i d).0
+unfolding numbers
+number_at vs len i d h l =
+    at (take len vs) i (subst (λ (k : ℕ). i < k) (sym (length-take-le len vs h)) l)
+    ∙ ap (λ (v : Var). v.0) (get_or-take len vs i d l)
   where
     at : (vs : List Var) (i : ℕ) → i < length vs → get_or (map (λ (v : Var). v.0) vs) i 0 ≡ (get_or vs i d).0
     at [] i l = absurd (not-suc-le-zero l)
     at (v ∷ vs) zero l = refl
     at (v ∷ vs) (suc i) l = at vs i (le_of_suc-le-suc l)
 
-module _ (o : Order) (long : length o.group ≡ 16) (s : Small o) where
+pub numbers_none : (vs : List Var) → numbers vs 0 ≡ []
+unfolding numbers
+numbers_none vs = refl
+
+pub numbers_more : (vs : List Var) (len x : ℕ) → len < length vs → numbers (set vs len record { 0 = x }) (len + 1) ≡ numbers vs len ++ x ∷ []
+unfolding numbers
+numbers_more vs len x l =
+    ap (map (λ (v : Var). v.0)) (ap (λ (k : ℕ). take k (set vs len record { 0 = x })) (add-one len) ∙ take-suc-set vs len record { 0 = x } l)
+    ∙ map-append (λ (v : Var). v.0) (take len vs) (record { 0 = x } ∷ [])
+
+pub variables_none : (vs : List Var) → AreVariables (numbers vs 0)
+unfolding numbers
+variables_none vs g m = absurd (Memᴰ.not-nil m)
+
+-- one variable more
+pub variables_more : (gs hs : List ℕ) (x : ℕ) → hs ≡ gs ++ x ∷ [] → x < 16 → AreVariables gs → AreVariables hs
+variables_more gs hs x e h w g m = ⊎_elim (w g) (λ k. last (Memᴰ.cases_cons k)) (Memᴰ.append_cases gs (subst (Memᴰ g) e m))
+  where
+    last : (g ≡ x) ⊎ Memᴰ g [] → g < 16
+    last k = ⊎_elim (λ (q : g ≡ x). rw q h) (λ n. absurd (Memᴰ.not-nil n)) k
+
+module _ (o : Order) where
+  room : o.len ≤ length o.group
+  room = let a = o.few in omega (arith, o.long)
+
   pub count_is : length (groups o) ≡ o.len
-  count_is = let a = s.few in length_groups o (omega arith)
+  unfolding groups
+  count_is = length_numbers o.group o.len room
 
   pub member_at : (i : ℕ) → i < o.len → get_or (groups o) i 0 ≡ (get_or o.group i record { 0 = 0 }).0
-  member_at i l = let a = s.few in group_at o i record { 0 = 0 } (omega arith) l
+  unfolding groups
+  member_at i l = number_at o.group o.len i record { 0 = 0 } room l
 
   pub inside_at : (i : ℕ) → i < o.len → (get_or o.group i record { 0 = 0 }).0 < 16
-  inside_at i l = subst (λ (x : ℕ). x < 16) (member_at i l) (s.inside _ (get_d_mem (groups o) i (rw count_is l)))
+  unfolding groups
+  inside_at i l = subst (λ (x : ℕ). x < 16) (member_at i l) (o.inside _ (get_d_mem (groups o) i (rw count_is l)))
 
--- ---- a scan of the groups for the first that passes a test
+-- ---- the groups as the variables that are taken
 
-module _ (p : ℕ → Bool) (o : Order) (long : length o.group ≡ 16) (s : Small o) where
-  pub scan_here : (i : ℕ) → i < o.len → p (get_or o.group i record { 0 = 0 }).0 ≡ true → i + position p (drop i (groups o)) ≡ position p (groups o) → i ≡ position p (groups o)
-  scan_here i l e h =
-      let z = position_here p (groups o) i (rw (count_is o long s) l) (rw (member_at o long s i l) e) in
-      omega arith
+module _ (o : Order) where
+  abbrev pub taken : List Var
+  taken = take o.len o.group
 
-  pub scan_next : (i : ℕ) → i < o.len → p (get_or o.group i record { 0 = 0 }).0 ≡ false → i + position p (drop i (groups o)) ≡ position p (groups o)
-      → i + 1 + position p (drop (i + 1) (groups o)) ≡ position p (groups o)
-  scan_next i l e h =
-      let z = position_next p (groups o) i (rw (count_is o long s) l) (rw (member_at o long s i l) e) in
-      omega arith
+  pub taken_count : length taken ≡ o.len
+  taken_count = length-take-le o.len o.group (room o)
 
-  pub scan_end : (i : ℕ) → i ≤ o.len → o.len ≤ i → i + position p (drop i (groups o)) ≡ position p (groups o) → o.len ≡ position p (groups o)
-  scan_end i l m h = let z = position_end p (groups o) i (rw (count_is o long s) m) in omega arith
+  -- each is one of sixteen
+  pub taken_inside : (k : ℕ) (x : Var) → k < length taken → x ≡ get_or taken k x → x.0 < 16
+  taken_inside k x l e =
+      let q : k < o.len = omega (arith, l, taken_count) in
+      subst (λ (i : ℕ). i < 16) (number_at o.group o.len k x (room o) q ∙ ap (λ (v : Var). v.0) (sym (e ∙ get_or-take o.len o.group k x q)))
+      (o.inside _ (get_d_mem (numbers o.group o.len) k (rw (length_numbers o.group o.len (room o)) q)))
+
+  pub groups_taken : groups o ≡ map (λ (v : Var). v.0) taken
+  unfolding groups numbers
+  groups_taken = refl
 
 -- ---- the place of each group, from the last group on
 
@@ -118,54 +149,34 @@ placing_all gs t w g m = w g m ∙ zero-add _
 
 -- ---- the members of a row, put behind the groups
 
-groups_more : (o : Order) (x : ℕ) → o.len < length o.group → groups (record { group = set o.group o.len record { 0 = x }; len = o.len + 1 }) ≡ groups o ++ x ∷ []
-unfolding groups
-groups_more o x l =
-    ap (map (λ (v : Var). v.0)) (ap (λ (k : ℕ). take k (set o.group o.len record { 0 = x })) (add-one o.len) ∙ take-suc-set o.group o.len record { 0 = x } l)
-    ∙ map-append (λ (v : Var). v.0) (take o.len o.group) (record { 0 = x } ∷ [])
-
 -- the row a is put behind gs; the row `rest` is still to come
-pub record Appending (after : List ℕ) (a : ℕ) (gs : List ℕ) (rest : ℕ) (o : Order) : Type 0 where
-  pub long : length o.group ≡ 16
-  pub few : o.len ≤ 16
+pub record Appending (after : List ℕ) (a : ℕ) (gs : List ℕ) (rest : ℕ) (hs : List ℕ) : Type 0 where
   pub fits : rest < 65536
-  pub these : groups o ++ in_line after rest ≡ gs ++ in_line after a
+  pub these : hs ++ in_line after rest ≡ gs ++ in_line after a
 
-module _ {after : List ℕ} {a : ℕ} {gs : List ℕ} {rest : ℕ} {o : Order} (w : Appending after a gs rest o) where
-  module _ (room : length gs + length (in_line after a) ≤ 16) (x : ℕ) (early : Earliest after rest x) where
+module _ {after : List ℕ} {a : ℕ} {gs : List ℕ} {rest : ℕ} {hs : List ℕ} (w : Appending after a gs rest hs) where
+  module _ (x : ℕ) (early : Earliest after rest x) where
     pub next_in_lem : x < 16
     next_in_lem = earliest_in after rest w.fits x early
 
     pub rest_less : without rest (2 ^ x) < rest
     rest_less = without_less rest x next_in_lem early.member
 
-    pub appending_room : o.len < 16
-    appending_room =
-        let k = w.few in
-        let g = w.long in
-        let c = length_groups o (omega arith) in
-        let e = sym (length-append (groups o) (in_line after rest)) ∙ ap length w.these ∙ length-append gs (in_line after a) in
+    pub appending_room : length gs + length (in_line after a) ≤ 16 → length hs < 16
+    appending_room room =
+        let e = sym (length-append hs (in_line after rest)) ∙ ap length w.these ∙ length-append gs (in_line after a) in
         let y = ap length (in_line_next after rest w.fits x early) in
         omega arith
 
-    pub appending_more : Appending after a gs (without rest (2 ^ x)) (record { group = set o.group o.len record { 0 = x }; len = o.len + 1 })
+    pub appending_more : Appending after a gs (without rest (2 ^ x)) (hs ++ x ∷ [])
     appending_more = record {
-      long = length-set o.group o.len record { 0 = x } ∙ w.long;
-      few = omega (arith, appending_room);
       fits = le_trans rest_less (le_trans (le_step (le_refl rest)) w.fits);
-      these = ap (λ (ys : List ℕ). ys ++ in_line after (without rest (2 ^ x))) (groups_more o x (rw w.long appending_room))
-          ∙ append_assoc (groups o) (x ∷ []) (in_line after (without rest (2 ^ x)))
-          ∙ ap (λ (ys : List ℕ). groups o ++ ys) (sym (in_line_next after rest w.fits x early)) ∙ w.these;
+      these = append_assoc hs (x ∷ []) (in_line after (without rest (2 ^ x)))
+          ∙ ap (λ (ys : List ℕ). hs ++ ys) (sym (in_line_next after rest w.fits x early)) ∙ w.these;
     }
 
-  pub appending_all : rest ≡ 0 → ((g : ℕ) → Memᴰ g gs → g < 16) → Listed (gs ++ in_line after a) o
-  appending_all z inside = record {
-    small = record { few = w.few; inside = λ g m. ⊎_elim (inside g) (in_line_small after a g) (Memᴰ.append_cases gs (subst (Memᴰ g) these m)) };
-    these = these;
-  }
-    where
-      these : groups o ≡ gs ++ in_line after a
-      these = sym (append-nil (groups o)) ∙ ap (λ (ys : List ℕ). groups o ++ ys) (sym (in_line_none after rest z)) ∙ w.these
+  pub appending_all : rest ≡ 0 → hs ≡ gs ++ in_line after a
+  appending_all z = sym (append-nil hs) ∙ ap (λ (ys : List ℕ). hs ++ ys) (sym (in_line_none after rest z)) ∙ w.these
 
 -- ---- layer by layer
 
@@ -178,19 +189,18 @@ listed_more after t d (suc n) l = go (ℕ_discrete d (suc n)) (λ q. listed_more
     go (yes e) r = rw e (le_refl _)
     go (no e) r = let a = r (omega arith) in let b = length-append (listed after t n) (in_line after (row t n)) in omega arith
 
-pub listed_none : (after t : List ℕ) (vs : List Var) → Listed (listed after t 0) (record { group = vs; len = 0 })
-unfolding listed groups
-listed_none after t vs = record { small = record { few = zero-le; inside = λ g m. absurd (Memᴰ.not-nil m) }; these = refl }
-
-module _ (after t : List ℕ) (n d : ℕ) (room : length (listed after t n) ≤ 16) (l : d < n) (o : Order) (w : Listed (listed after t d) o) where
-  pub listed_room : length (groups o) + length (in_line after (row t d)) ≤ 16
+module _ (after t : List ℕ) (n d : ℕ) where
+  pub listed_room : length (listed after t n) ≤ 16 → d < n → length (listed after t d) + length (in_line after (row t d)) ≤ 16
   unfolding listed
-  listed_room =
+  listed_room room l =
       let a = listed_more after t (suc d) n l in
       let b = length-append (listed after t d) (in_line after (row t d)) in
-      let c = ap length w.these in
       omega arith
 
-  pub listed_next : (r : Order) → Listed (groups o ++ in_line after (row t d)) r → Listed (listed after t (d + 1)) r
-  unfolding listed
-  listed_next r v = rw add-one (rw w.these at v)
+pub listed_none : (after t : List ℕ) → [] ≡ listed after t 0
+unfolding listed
+listed_none after t = refl
+
+pub listed_next : (after t : List ℕ) (d : ℕ) → listed after t d ++ in_line after (row t d) ≡ listed after t (d + 1)
+unfolding listed
+listed_next after t d = rw add-one

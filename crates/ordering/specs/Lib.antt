@@ -1,3 +1,4 @@
 pub mod Rows
 pub mod Numbering
 pub mod Listing
+pub mod Groups

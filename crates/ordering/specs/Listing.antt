@@ -1,20 +1,18 @@
 -- The groups in the order of their nodes, as a list.
-use Rattle.std.specs.Prelude.{◌≡◌, ◌≢◌, Bool, ℕ, zero, suc, ◌≤◌, ◌<◌, eqb, length, take}
+use Rattle.std.specs.Prelude.{◌≡◌, ◌≢◌, Bool, ℕ, zero, suc, ◌<◌, eqb, length, take}
 use mathlib.Core.List.{List, [], ◌++◌, map, Memᴰ}
 use Rattle.std.specs.Int.Bits.{bit_and}
 use Rattle.meaning.specs.Finite.{Yes, arranged, picked, position}
 use Rattle.rowbits.specs.Bit.{bit}
 use Rattle.tables.specs.Tables.{row}
 use Rattle.ids.specs.declared.Var.{Var}
-use Rattle.ordering.specs.declared.Order.{Order}
 
--- the numbers of the groups' variables
-unfoldable pub groups : Order → List ℕ
-groups o = map (λ (v : Var). v.0) (take o.len o.group)
+-- the numbers of the first `len` variables
+unfoldable pub numbers : List Var → ℕ → List ℕ
+numbers vs len = map (λ (v : Var). v.0) (take len vs)
 
-pub record Small (o : Order) : Type 0 where
-  pub few : o.len ≤ 16
-  pub inside : (g : ℕ) → Memᴰ g (groups o) → g < 16
+abbrev pub AreVariables : List ℕ → Type 0
+AreVariables gs = (g : ℕ) → Memᴰ g gs → g < 16
 
 -- by the rows of `after` w goes before g
 abbrev pub precedes : List ℕ → ℕ → ℕ → Bool
@@ -38,10 +36,6 @@ in_line after r = let gs = picked 16 (bit r) in arranged (precedes after) (lengt
 unfoldable pub listed : List ℕ → List ℕ → ℕ → List ℕ
 listed after t zero = []
 listed after t (suc d) = listed after t d ++ in_line after (row t d)
-
-pub record Listed (gs : List ℕ) (o : Order) : Type 0 where
-  pub small : Small o
-  pub these : groups o ≡ gs
 
 -- a table of the place of each group in a list
 abbrev pub Placed : List ℕ → List ℕ → Type 0

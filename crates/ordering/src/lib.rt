@@ -2,76 +2,94 @@
 // one, and the node of a place. Functions are `pub` here only because crates are split: each keeps its `requires`, which every caller shows.
 #![tactic(auto)]
 
-ghost use Rattle.std.specs.Prelude.{◌≡◌, ◌≢◌, ◌++◌, ℕ, ◌+◌, ◌-◌, ◌^◌, ◌<◌, ◌≤◌, eqb, length};
+ghost use Rattle.std.specs.Prelude.{◌≡◌, ◌≢◌, ◌++◌, [], ◌∷◌, ℕ, ◌+◌, ◌^◌, ◌<◌, ◌≤◌, length};
 ghost use Rattle.std.specs.Int.Bits.{bit_and};
 ghost use Rattle.std.specs.Int.Count.{ones};
-ghost use Rattle.meaning.specs.Finite.{◌and◌, position};
-ghost use Rattle.rowbits.specs.Bit.{bit};
-ghost use Rattle.tables.specs.Rows.{without};
+ghost use Rattle.meaning.specs.Finite.{one, position};
 ghost use Rattle.tables.specs.Tables.{row};
-ghost use Rattle.ordering.specs.Rows.{Gathered, over_row, is_lowest, in_layer, near};
+ghost use Rattle.ordering.specs.Rows.{Gathered, over_row, is_low, is_lowest, deep, in_layer, near};
 ghost use Rattle.ordering.specs.Numbering.{element_of, numbered};
-ghost use Rattle.ordering.specs.Listing.{groups, Small, Strict, Earliest, in_line, listed, Listed, Placed};
+ghost use Rattle.ordering.specs.Listing.{numbers, AreVariables, Strict, Earliest, in_line, listed, Placed};
 
-use ids::{Node, Var};
+use ids::{Node, Var, Variables};
 
-// The groups in the order of their nodes, each by its lowest variable.
+// The rows of what is below and above each of the variables.
 #[derive(Clone, Copy)]
-pub struct Order {
-    pub group: [Var; 16],
-    pub len: usize,
+pub struct Ancestry {
+    pub below: [u16; 16],
+    pub above: [u16; 16],
+    pub n: Variables,
 }
 
-// The variables below n that are over one, which has these rows of what is above and below it.
-pub fn over(up: u16, down: u16, n: usize) -> u16
-    requires { n ≤ 16 }
-    ensures { result ≡ over_row n up down }
-{
-    tables::except(up, down) & tables::all(n)
+impl Ancestry {
+    // The variables over x.
+    pub fn over(&self, x: Var) -> u16
+        requires { x.0 < 16 }
+        ensures { result ≡ over_row self.now.n.count (row self.now.above x.0) (row self.now.below x.0) }
+    {
+        let up = self.above[x.0 as usize];
+        let down = self.below[x.0 as usize];
+        tables::except(up, down) & tables::all(self.n)
+    }
+
+    // Whether no smaller variable is in the group of x.
+    fn is_low(&self, x: Var) -> bool
+        requires { x.0 < 16 }
+        ensures { result ≡ is_low self.now.below self.now.above x.0 }
+    {
+        let up = self.above[x.0 as usize];
+        let down = self.below[x.0 as usize];
+        up & down & (tables::one(x.0 as usize) - 1) == 0
+    }
+
+    // The lowest variables of the groups. Those that are root are on the document node, and no group.
+    pub fn lows(&self, root: u16) -> u16
+        ensures { Gathered self.now.n.count (is_lowest self.now.below self.now.above root) result }
+    {
+        let mut a: u16 = 0;
+        for x in 0..self.n.count {
+            a = tables::gain_one(self.is_low(Var(x as u8)), a, x);
+        }
+        tables::except(a, root)
+    }
+
+    // How many of the lowest variables are over x.
+    fn depth(&self, lows: u16, x: Var) -> usize
+        requires { x.0 < 16 }
+        ensures value { result ≡ deep self.now.below self.now.above self.now.n.count lows x.0 }
+        ensures most { result ≤ 16 }
+    {
+        count(self.over(x) & lows)
+    }
+
+    // The groups of each depth. A depth is a count of sixteen bits, so at most 16.
+    pub fn layers(&self, lows: u16) -> [u16; 17]
+        ensures { (d : ℕ) → d < 17 → Gathered self.now.n.count (in_layer self.now.below self.now.above self.now.n.count lows d) (row result d) }
+    {
+        let mut layer = [0u16; 17];
+        for x in 0..self.n.count {
+            let depth = self.depth(lows, Var(x as u8));
+            let old = layer[depth];
+            layer[depth] = tables::gain_one(rowbits::has(lows, x), old, x);
+        }
+        layer
+    }
+
+    // Whether w is over, and over nothing else that is.
+    fn is_near(&self, over: u16, w: Var) -> bool
+        requires { w.0 < 16 }
+        ensures { result ≡ near self.now.below self.now.above over w.0 }
+    {
+        let down = self.below[w.0 as usize];
+        let up = self.above[w.0 as usize];
+        rowbits::has(over, w.0 as usize) & (over & tables::except(down, up) == 0)
+    }
 }
 
 fn count(row: u16) -> usize
     ensures { (result ≡ ones row) × (result ≤ 16) }
 {
-    u32::count_ones(row as u32) as usize
-}
-
-// Whether no smaller variable is in the group of x.
-fn is_low(up: u16, down: u16, x: Var) -> bool
-    requires { x.0 < 16 }
-    ensures { result ≡ eqb (bit_and (bit_and up down) (2 ^ x.0 - 1)) 0 }
-{
-    up & down & tables::all(x.0 as usize) == 0
-}
-
-// The lowest variables of the groups. Those that are root are on the document node, and no group.
-pub fn lows(below: [u16; 16], above: [u16; 16], root: u16, n: usize) -> u16
-    requires { n ≤ 16 }
-    ensures { Gathered n (is_lowest below above root) result }
-{
-    let mut a: u16 = 0;
-    for x in 0..n {
-        let up = above[x];
-        let down = below[x];
-        a = tables::gain_one(is_low(up, down, Var(x as u8)), a, x);
-    }
-    tables::except(a, root)
-}
-
-// The groups of each depth. A depth is a count of sixteen bits, so at most 16.
-pub fn layers(below: [u16; 16], above: [u16; 16], lows: u16, n: usize) -> [u16; 17]
-    requires { n ≤ 16 }
-    ensures { (d : ℕ) → d < 17 → Gathered n (in_layer below above n lows d) (row result d) }
-{
-    let mut layer = [0u16; 17];
-    for x in 0..n {
-        let up = above[x];
-        let down = below[x];
-        let depth = count(over(up, down, n) & lows);
-        let old = layer[depth];
-        layer[depth] = tables::gain_one(rowbits::has(lows, x), old, x);
-    }
-    layer
+    row.count_ones() as usize
 }
 
 // The lowest member of a row that none of them goes before. There is one, so the loop is left within.
@@ -80,7 +98,7 @@ fn earliest(after: [u16; 16], row: u16) -> usize
     ensures { Earliest after row result }
 {
     let mut left = row;
-    while left != 0 {
+    loop {
         let x = tables::lowest(left);
         let earlier = after[x];
         if row & earlier == 0 {
@@ -88,96 +106,114 @@ fn earliest(after: [u16; 16], row: u16) -> usize
         }
         left = tables::rest(left);
     }
-    0
 }
 
-// The order with the members of a row behind it, each after those that go before it.
-fn append(order: Order, row: u16, after: [u16; 16]) -> Order
-    requires { Small order × (length (groups order) + length (in_line after row) ≤ 16) × Strict after }
-    ensures { Listed (groups order ++ in_line after row) result }
-{
-    let mut o = order;
-    let mut rest = row;
-    while rest != 0 {
-        let x = earliest(after, rest);
-        let at = o.len;
-        o.group[at] = Var(x as u8);
-        o.len = at + 1;
-        rest = tables::except(rest, tables::one(x));
-    }
-    o
+// The groups in the order of their nodes, each by its lowest variable. `long` repeats the type of `group`, for proofs about a struct that holds an order.
+#[derive(Clone, Copy)]
+pub struct Order {
+    pub group: [Var; 16],
+    pub len: usize,
+    pub ghost long: { length group ≡ 16 },
+    pub ghost few: { len ≤ 16 },
+    pub ghost inside: { AreVariables (numbers group len) },
 }
 
-// The groups layer by layer.
-pub fn in_order(layer: [u16; 17], after: [u16; 16], n: usize) -> Order
-    requires { (n ≤ 16) × (length (listed after layer n) ≤ 16) × Strict after }
-    ensures { Listed (listed after layer n) result }
-{
-    let first = Var(0);
-    let group = [first; 16];
-    let mut o = Order { group, len: 0 };
-    for d in 0..n {
-        let row = layer[d];
-        o = append(o, row, after);
-    }
-    o
-}
+impl Order {
+    ghost use Rattle.ordering.specs.Groups.{groups};
 
-// The place of each group, by its lowest variable: the first place of each, as the last are stored first.
-pub fn places(order: Order) -> [u8; 16]
-    requires { Small order }
-    ensures { Placed (groups order) result }
-{
-    let mut a = [0u8; 16];
-    let mut i = order.len;
-    while i > 0 {
-        i -= 1;
-        let g = order.group[i];
-        a[g.0 as usize] = i as u8;
-    }
-    a
-}
-
-// Whether w is over, and over nothing else that is.
-fn is_near(over: u16, w: Var, down: u16, up: u16) -> bool
-    requires { w.0 < 16 }
-    ensures { result ≡ (bit over w.0 and eqb (bit_and over (without down up)) 0) }
-{
-    rowbits::has(over, w.0 as usize) & (over & tables::except(down, up) == 0)
-}
-
-// The place of the nearest group of those over one variable.
-pub fn nearest(order: Order, over: u16, below: [u16; 16], above: [u16; 16]) -> usize
-    requires { Small order }
-    ensures { result ≡ position (near below above over) (groups order) }
-{
-    let len = order.len;
-    for i in 0..len {
-        let g = order.group[i];
-        let w = g.0 as usize;
-        let down = below[w];
-        let up = above[w];
-        if is_near(over, g, down, up) {
-            return i;
+    fn new() -> Self
+        ensures { groups result ≡ [] }
+    {
+        Order {
+            group: [Var(0); 16],
+            len: 0,
         }
     }
-    len
-}
 
-// 1 if a blank element stands next under the document node: unless exactly one group does.
-pub fn element_of(top: u16) -> u8
-    ensures { result ≡ element_of (ones top) }
-{
-    if count(top) == 1 {
-        return 0;
+    fn push(&mut self, x: Var)
+        requires { (x.0 < 16) × (length (groups self.old) < 16) }
+        ensures { groups self.new ≡ groups self.old ++ x.0 ∷ [] }
+    {
+        self.group[self.len] = x;
+        self.len += 1;
     }
-    1
+
+    // Puts the members of a row behind the groups, each after those that go before it.
+    fn append(&mut self, row: u16, after: [u16; 16])
+        requires { (length (groups self.old) + length (in_line after row) ≤ 16) × Strict after }
+        ensures { groups self.new ≡ groups self.old ++ in_line after row }
+    {
+        let mut rest = row;
+        while rest != 0 {
+            let x = earliest(after, rest);
+            self.push(Var(x as u8));
+            rest = tables::except(rest, tables::one(x));
+        }
+    }
+
+    // The groups layer by layer.
+    pub fn in_order(layer: [u16; 17], after: [u16; 16], n: Variables) -> Self
+        requires { (length (listed after layer n.count) ≤ 16) × Strict after }
+        ensures { groups result ≡ listed after layer n.count }
+    {
+        let mut order = Order::new();
+        for d in 0..n.count {
+            order.append(layer[d], after);
+        }
+        order
+    }
+
+    // The place of each group, by its lowest variable: the first place of each, as the last are stored first.
+    pub fn places(&self) -> [u8; 16]
+        ensures { Placed (groups self.now) result }
+    {
+        let mut a = [0u8; 16];
+        for i in (0..self.len).rev() {
+            let g = self.group[i];
+            a[g.0 as usize] = i as u8;
+        }
+        a
+    }
+
+    // The place of the nearest group of those over one variable, or how many groups there are where none is.
+    pub fn nearest(&self, ancestry: &Ancestry, over: u16) -> usize
+        ensures { result ≡ position (near ancestry.now.below ancestry.now.above over) (groups self.now) }
+    {
+        self.group[..self.len]
+            .iter()
+            .position(|w| ancestry.is_near(over, *w))
+            .unwrap_or(self.len)
+    }
 }
 
-// The node of the group at a place of the order, behind the document node and the blank element.
-pub fn node_at(element: u8, place: usize) -> Node
-    requires { numbered element place < 256 }
-    ensures { result.0 ≡ numbered element place }
-{
-    Node((1 + element as usize + place) as u8)
+// What is in front of the nodes of the groups: the document node, node 0, and perhaps a blank element next under it, node 1.
+#[derive(Clone, Copy)]
+pub struct Front {
+    pub element: bool,
+}
+
+impl Front {
+    // In front of these groups at the top there is an element unless there is exactly one group.
+    pub fn of(top: u16) -> Self
+        ensures { one result.element ≡ element_of (ones top) }
+    {
+        Front {
+            element: count(top) != 1,
+        }
+    }
+
+    // The parent of a group at the top: the blank element, or else the document node.
+    pub fn top(self) -> Node
+        ensures { result.0 ≡ one self.element }
+    {
+        Node(self.element as u8)
+    }
+
+    // The node of the group at a place of the order.
+    pub fn node_at(self, place: usize) -> Node
+        requires { numbered (one self.element) place < 256 }
+        ensures { result.0 ≡ numbered (one self.element) place }
+    {
+        Node((1 + self.element as usize + place) as u8)
+    }
 }

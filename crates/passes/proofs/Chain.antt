@@ -6,6 +6,8 @@ use Prim.Native.Nat.{ℕ, ◌+◌, ◌-◌, ◌^◌, ◌<◌, ◌≤◌}
 use native.Mathlib.Nat.{le_trans, not-suc-le-zero}
 use native.Mathlib.Decide.{dec_lt}
 use native.Mathlib.Omega.{arith}
+use mir.Val.{Fits}
+use mir.Syntax.{w16}
 use lib.Bits.{bit_or}
 use Rattle.meaning.specs.Constraint.{Fact, child, below, root}
 use Rattle.meaning.specs.Settled.{Settled, child_below, self_below, chain, root_below}
@@ -154,9 +156,10 @@ grouping_more same x a one r eo er g = record {
       (λ l. or_l a r y (g.has k y l hy ne u)) (below_cases h);
 }
 
-pub whole : (same : List ℕ) (t m : ℕ) → ((i : ℕ) → row same i < 65536) → m < 65536 → Gathers (λ y. meets (row same y) t) m → WholeGroups same t (bit_or t m)
+pub whole : (same : List ℕ) (t m : ℕ) → ((i : ℕ) → Fits w16 (row same i)) → Fits w16 m → Gathers (λ y. meets (row same y) t) m
+    → WholeGroups same t (bit_or t m)
 whole same t m small ms g = record {
   kept = or_l t m;
-  from = λ x u. ⊎_elim inl (λ v. let q = meets_out (row same x) t (small x) (g.from x v) in inr (in_row m x ms v, q.0, q.1, q.2)) (or_case t m x u);
+  from = λ x u. ⊎_elim inl (λ v. let q = meets_out (row same x) t (small x).fits (g.from x v) in inr (in_row m x ms.fits v, q.0, q.1, q.2)) (or_case t m x u);
   to = λ x j h u v. or_r t m x (g.to x h (meets_in (row same x) t j u v));
 }

@@ -10,21 +10,17 @@ use Rattle.tables.specs.declared.Facts.{Facts}
 use Rattle.tables.specs.Rows.{LabelOf, on_document}
 use Rattle.tables.proofs.Clashes.{document_clash, document_bare}
 use Rattle.tables.proofs.Tested.{or_no}
-use Rattle.passes.specs.Steps.{SteppedOf, PassRules, BareRules}
+use Rattle.passes.specs.Steps.{StepOf, Clashes, PassRules, BareRules}
 use Rattle.passes.specs.declared.Stepped.{Stepped}
 
-module _ {n : ℕ} {f : Facts} {r : Stepped} (w : SteppedOf (PassRules n) n f r) (l : ℕ) (o : LabelOf r.facts.label r.facts.root l) (small : r.facts.leaf < 65536) where
-  abbrev spoilt : Bool
-  spoilt = on_document r.facts.root r.facts.leaf r.facts.root l
-
-  pub pass_looked : (p : Bool) → p ≡ spoilt → SteppedOf (BareRules n) n f (record { clash = r.clash || p; more = r.more; facts = r.facts })
-  pass_looked p e = record {
-    clashes = λ d S s. by r.clash refl d S s;
-    seeded = λ d. w.seeded (or_no r.clash p d).0;
-    closed = λ d m S s. record { passed = w.closed (or_no r.clash p d).0 m S s; bare = document_bare r.facts l o (λ y. false≢true (sym (or_no r.clash p d).1 ∙ e ∙ y)) };
-    grown = λ d. w.grown (or_no r.clash p d).0;
+module _ {n : ℕ} {f : Facts} {r : Stepped} (w : StepOf (PassRules n) n f r) (l : ℕ) (o : LabelOf r.facts.label r.facts.root l) (p : Bool)
+    (e : p ≡ on_document r.facts.root r.facts.leaf r.facts.root l) where
+  pub bare_step : p ≡ false → StepOf (BareRules n) n f r
+  bare_step d = record {
+    seeded = w.seeded;
+    closed = λ m S s. record { passed = w.closed m S s; bare = document_bare r.facts l o (λ y. false≢true (sym d ∙ e ∙ y)) };
+    grown = w.grown;
   }
-    where
-      by : (c : Bool) → r.clash ≡ c → (c || p) ≡ true → (S : List Fact) → Seeded n S f → Clash n S
-      by true k d S s = w.clashes k S s
-      by false k d S s = document_clash r.facts l o n S (w.seeded k S s).sound small (sym e ∙ d)
+
+  pub document_clashes : r.facts.leaf < 65536 → p ≡ true → Clashes n f
+  document_clashes small d S s = document_clash r.facts l o n S (w.seeded S s).sound small (sym e ∙ d)

@@ -11,6 +11,8 @@ use native.Mathlib.Decide.{dec_lt, ℕ_discrete}
 use native.Mathlib.Omega.{arith}
 use lib.ListN.{length, get_or-eq_default}
 use lib.Bits.{bit_or}
+use mir.Val.{Fits}
+use mir.Syntax.{w16}
 use Rattle.meaning.specs.Constraint.{Fact, child, below, differ, before, root, leaf, label}
 use Rattle.meaning.specs.Settled.{Settled, Clash, differs, labels, leaf_below, one_parent, one_element}
 use Rattle.meaning.specs.Finite.{Yes, sum, pick}
@@ -27,13 +29,12 @@ use Rattle.tables.proofs.Labels.{label_has, label_is}
 use Rattle.tables.proofs.Groups as groups
 use Rattle.tables.proofs.Groups.{Twin, One, Two, Order, flip, alone, own, each, turn, embed_in, shared_sharing, shared_least, sharing_same}
 use Rattle.passes.specs.Rows.{In, GroupsOf, WholeGroups, Joins, by_leaf, by_child, by_root, JoinedOf}
-use Rattle.sharing.specs.Shares.{share_at, Source, ShareOf, GroupClash, two_labels, apart, SharedOf}
+use Rattle.sharing.specs.Shares.{share_at, Source, ShareOf, GroupClash, two_labels, apart, Shared}
 use Rattle.passes.proofs.Weights.{bits_le}
-use Rattle.passes.specs.Steps.{weight, SteppedOf, PassRules}
+use Rattle.passes.specs.Steps.{weight, StepOf, PassRules}
 use Rattle.passes.specs.declared.Groups.{Groups}
 use Rattle.sharing.specs.declared.Share.{Share}
 use Rattle.sharing.specs.declared.Shares.{Shares}
-use Rattle.sharing.specs.declared.Shared.{Shared}
 use Rattle.passes.specs.declared.Joined.{Joined}
 
 -- the tables that f's groups share
@@ -45,8 +46,8 @@ pub record Start (n : ℕ) (f : Facts) (k : Groups) : Type 0 where
   pub few : n ≤ 16
   pub groups : GroupsOf n f.below f.child f.root k
   pub parent_long : length f.parent ≡ 16
-  pub parent_small : (i : ℕ) → row f.parent i < 65536
-  pub child_small : (i : ℕ) → row f.child i < 65536
+  pub parent_fits : (i : ℕ) → Fits w16 (row f.parent i)
+  pub child_fits : (i : ℕ) → Fits w16 (row f.child i)
 
 module _ {n : ℕ} {f : Facts} {k : Groups} (o : Start n f k) (S : List Fact) (seed : Seeded n S f) where
   abbrev B : List ℕ
@@ -115,7 +116,7 @@ module _ {n : ℕ} {f : Facts} {k : Groups} (o : Start n f k) (S : List Fact) (s
 
   parent_child : (x y : ℕ) → In f.parent x y → P (child y x)
   unfolding has
-  parent_child x y u = sym (seed.parents y x (in_row (row f.parent x) y (o.parent_small x) u) (go (dec_lt x 16))) ∙ u
+  parent_child x y u = sym (seed.parents y x (in_row (row f.parent x) y ((o.parent_fits x).fits) u) (go (dec_lt x 16))) ∙ u
     where
       go : Dec (x < 16) → x < 16
       go (yes h) = h
@@ -156,25 +157,19 @@ module _ {n : ℕ} {f : Facts} {k : Groups} (o : Start n f k) (S : List Fact) (s
 
   -- ---- the tables after the pass
 
-  module _ {s : Shared} {j : Joined} {roots leaves : ℕ} (w : SharedOf n (shares f) E k.several s) (well : s.clash ≡ false)
-      (a : JoinedOf n B k.above f.leaf roots s.shares.child s.shares.parent j) (r : WholeGroups E f.root roots) (l : WholeGroups E f.leaf leaves) where
-    abbrev t : Shares
-    t = s.shares
-
+  module _ {t : Shares} {j : Joined} {roots leaves : ℕ} (w : Shared n (shares f) E k.several t)
+      (a : JoinedOf n B k.above f.leaf roots t.child t.parent j) (r : WholeGroups E f.root roots) (l : WholeGroups E f.leaf leaves) where
     abbrev g : Facts
     g = record { child = t.child; parent = t.parent; below = j.below; above = k.above; differ = t.differ; before = f.before; after = f.after; root = roots; label = t.label; leaf = leaves }
 
-    done : (x : ℕ) → x < n → ShareOf E (shares f) k.several x (share_at t x)
-    done x h = w.done well x h
-
     -- rows from n on are as they were, and hold nothing
     rest : (x : ℕ) → ¬ (x < n) → share_at t x ≡ share_at (shares f) x
-    rest x h = w.rest well x (omega arith)
+    rest x h = w.rest x (omega arith)
 
     -- u has what the groups share of t, and nothing else
-    record Spread (t u : List ℕ) : Type 0 where
-      from : (x y : ℕ) → In u x y → Two (In B) (In t) x y
-      to : (x y : ℕ) → Two (In B) (In t) x y → In u x y
+    record Spread (given u : List ℕ) : Type 0 where
+      from : (x y : ℕ) → In u x y → Two (In B) (In given) x y
+      to : (x y : ℕ) → Two (In B) (In given) x y → In u x y
 
     spread : {t u : List ℕ} → Given t → ((x : ℕ) → ¬ (x < n) → row u x ≡ row t x) → ((x y : ℕ) → x < n → In u x y → Source E t (row E x) y)
         → ((x i y : ℕ) → x < n → In E x i → In t i y → In u x y)
@@ -195,13 +190,13 @@ module _ {n : ℕ} {f : Facts} {k : Groups} (o : Start n f k) (S : List Fact) (s
             (visited x v.right y (λ q. absurd (i q)) v.right_twin) v.holds (group (flip v.right_twin))
 
     child_spread : Spread f.child t.child
-    child_spread = spread child_given (λ x h. ap (λ (i : Share). i.child) (rest x h)) (λ x y h u. (done x h).taking.child y u) (λ x i y h e u. ((done x h).taken i e).child y u) (λ x i z y h e d v u q. (((done x h).taken i e).twins z d v).child u y q)
+    child_spread = spread child_given (λ x h. ap (λ (i : Share). i.child) (rest x h)) (λ x y h u. (w.done x h).taking.child y u) (λ x i y h e u. ((w.done x h).taken i e).child y u) (λ x i z y h e d v u q. (((w.done x h).taken i e).twins z d v).child u y q)
 
     parent_spread : Spread f.parent t.parent
-    parent_spread = spread parent_given (λ x h. ap (λ (i : Share). i.parent) (rest x h)) (λ x y h u. (done x h).taking.parent y u) (λ x i y h e u. ((done x h).taken i e).parent y u) (λ x i z y h e d v u q. (((done x h).taken i e).twins z d v).parent u y q)
+    parent_spread = spread parent_given (λ x h. ap (λ (i : Share). i.parent) (rest x h)) (λ x y h u. (w.done x h).taking.parent y u) (λ x i y h e u. ((w.done x h).taken i e).parent y u) (λ x i z y h e d v u q. (((w.done x h).taken i e).twins z d v).parent u y q)
 
     differ_spread : Spread f.differ t.differ
-    differ_spread = spread differ_given (λ x h. ap (λ (i : Share). i.differ) (rest x h)) (λ x y h u. (done x h).taking.differ y u) (λ x i y h e u. ((done x h).taken i e).differ y u) (λ x i z y h e d v u q. (((done x h).taken i e).twins z d v).differ y q)
+    differ_spread = spread differ_given (λ x h. ap (λ (i : Share). i.differ) (rest x h)) (λ x y h u. (w.done x h).taking.differ y u) (λ x i y h e u. ((w.done x h).taken i e).differ y u) (λ x i z y h e d v u q. (((w.done x h).taken i e).twins z d v).differ y q)
 
     to_child : (x y : ℕ) → In t.parent y x → In t.child x y
     unfolding has
@@ -225,7 +220,7 @@ module _ {n : ℕ} {f : Facts} {k : Groups} (o : Start n f k) (S : List Fact) (s
         q = label_is g x m u
 
         go : Dec (x < n) → One (In B) (λ i. P (label i m)) x
-        go (yes h) = let v = (done x h).taking.label (λ z. q.1 (sym q.0 ∙ z)) in one v.0 (in_16 h) v.1 (label_has f v.0 m (v.2 ∙ q.0) q.1)
+        go (yes h) = let v = (w.done x h).taking.label (λ z. q.1 (sym q.0 ∙ z)) in one v.0 (in_16 h) v.1 (label_has f v.0 m (v.2 ∙ q.0) q.1)
         go (no h) = absurd (h (within (label x m) (label_has f x m (sym (ap (λ (i : Share). i.label) (rest x h)) ∙ q.0) q.1)))
 
     -- but for what joining added to below, the tables have what the groups share
@@ -249,7 +244,7 @@ module _ {n : ℕ} {f : Facts} {k : Groups} (o : Start n f k) (S : List Fact) (s
     to (leaf x) v = whole_to l x v
     to (label x m) v =
         let q = label_is f v.it m v.holds in
-        label_has g x m (((done x (twin_in v.twin)).taken v.it (group v.twin)).label (λ z. q.1 (sym q.0 ∙ z)) ∙ q.0) q.1
+        label_has g x m (((w.done x (twin_in v.twin)).taken v.it (group v.twin)).label (λ z. q.1 (sym q.0 ∙ z)) ∙ q.0) q.1
 
     child_s : (x y : ℕ) → In t.child x y → Settled n S (child x y)
     unfolding has
@@ -309,7 +304,7 @@ module _ {n : ℕ} {f : Facts} {k : Groups} (o : Start n f k) (S : List Fact) (s
       no_differ x u =
           let v = differ_spread.from x x u in
           let t = v.right_twin in
-          (((done x (twin_in t)).taken v.left (group v.left_twin)).twins v.right v.holds (visited x v.right x sym t)).apart (group (flip t))
+          (((w.done x (twin_in t)).taken v.left (group v.left_twin)).twins v.right v.holds (visited x v.right x sym t)).apart (group (flip t))
 
       pub closed : PassRules n g
       unfolding has
@@ -323,52 +318,42 @@ module _ {n : ℕ} {f : Facts} {k : Groups} (o : Start n f k) (S : List Fact) (s
 
 -- ---- how a pass ends
 
-module _ {n : ℕ} {f : Facts} {k : Groups} (o : Start n f k) {s : Shared} (w : SharedOf n (shares f) k.same k.several s) where
-  pub ended_well : {j : Joined} {roots leaves : ℕ} → s.clash ≡ false → JoinedOf n k.below k.above f.leaf roots s.shares.child s.shares.parent j
-      → WholeGroups k.same f.root roots → WholeGroups k.same f.leaf leaves → SteppedOf (PassRules n) n f (record {
-        clash = false;
+module _ {n : ℕ} {f : Facts} {k : Groups} (o : Start n f k) {s : Shares} (w : Shared n (shares f) k.same k.several s) where
+  pub ended_well : {j : Joined} {roots leaves : ℕ} → JoinedOf n k.below k.above f.leaf roots s.child s.parent j
+      → WholeGroups k.same f.root roots → WholeGroups k.same f.leaf leaves → StepOf (PassRules n) n f (record {
         more = j.more;
-        facts = record { child = s.shares.child; parent = s.shares.parent; below = j.below; above = k.above; differ = s.shares.differ; before = f.before; after = f.after; root = roots; label = s.shares.label; leaf = leaves };
+        facts = record { child = s.child; parent = s.parent; below = j.below; above = k.above; differ = s.differ; before = f.before; after = f.after; root = roots; label = s.label; leaf = leaves };
       })
   unfolding weight pick
-  ended_well {j} well a r l = record {
-    clashes = λ d. absurd (false≢true d);
-    seeded = λ d S seed. seeded o S seed w well a r l;
-    closed = λ d still S seed. closed o S seed w well a r l still;
-    grown = λ d. grown j.more refl;
+  ended_well {j} a r l = record {
+    seeded = λ S seed. seeded o S seed w a r l;
+    closed = λ still S seed. closed o S seed w a r l still;
+    grown = grown j.more refl;
   }
     where
       up : (x : ℕ) → row f.below x ≤ row j.below x
       up x = le_trans (o.groups.chained.up x).most (a.up x).most
 
-      child_up : (x : ℕ) → row f.child x ≤ row s.shares.child x
-      child_up x = bits_le 16 _ _ (o.child_small x) (λ y u. kept y u (dec_lt x n))
+      child_up : (x : ℕ) → row f.child x ≤ row s.child x
+      child_up x = bits_le 16 _ _ ((o.child_fits x).fits) (λ y u. kept y u (dec_lt x n))
         where
           -- x is in its own group
-          kept : (y : ℕ) → Yes (bit (row f.child x) y) → Dec (x < n) → Yes (bit (row s.shares.child x) y)
+          kept : (y : ℕ) → Yes (bit (row f.child x) y) → Dec (x < n) → Yes (bit (row s.child x) y)
           kept y u (yes h) =
               let b = o.groups.chained.itself x h in
               let l = le_trans h o.few in
               let e = both_in (row k.below x) (row k.above x) x b ((o.groups.columns.columns x l).to x l b) in
-              ((w.done well x h).taken x (subst (λ (i : ℕ). Yes (bit i x)) (sym (o.groups.common.rows x)) e)).child y u
-          kept y u (no h) = subst (λ (i : ℕ). Yes (bit i y)) (sym (ap (λ (i : Share). i.child) (w.rest well x (omega arith)))) u
+              ((w.done x h).taken x (subst (λ (i : ℕ). Yes (bit i x)) (sym (o.groups.common.rows x)) e)).child y u
+          kept y u (no h) = subst (λ (i : ℕ). Yes (bit i y)) (sym (ap (λ (i : Share). i.child) (w.rest x (omega arith)))) u
 
-      child_sum : sum 16 (row f.child) ≤ sum 16 (row s.shares.child)
-      child_sum = sum_le 16 (row f.child) (row s.shares.child) (λ x h. child_up x)
+      child_sum : sum 16 (row f.child) ≤ sum 16 (row s.child)
+      child_sum = sum_le 16 (row f.child) (row s.child) (λ x h. child_up x)
 
       grown : (b : Bool) → j.more ≡ b → sum 16 (row f.below) + sum 16 (row f.child) + sum 16 (row f.before) + pick b 1 0
-          ≤ sum 16 (row j.below) + sum 16 (row s.shares.child) + sum 16 (row f.before)
+          ≤ sum 16 (row j.below) + sum 16 (row s.child) + sum 16 (row f.before)
       grown false e = let q = sum_le 16 (row f.below) (row j.below) (λ x h. up x) in let p = child_sum in omega arith
       grown true e =
           let m = a.moved e in
           let q = sum_lt 16 (row f.below) (row j.below) (λ x h. up x) m.0 (le_trans m.1 o.few) (let b = (o.groups.chained.up m.0).most in let c = m.2 in omega arith) in
           let p = child_sum in
           omega arith
-
-  pub ended_clash : (g : Facts) (more : Bool) → s.clash ≡ true → SteppedOf (PassRules n) n f (record { clash = true; more = more; facts = g })
-  ended_clash g more c = record {
-    clashes = λ d S seed. group_clash o S seed (w.clashes c);
-    seeded = λ d. absurd (false≢true (sym d));
-    closed = λ d. absurd (false≢true (sym d));
-    grown = λ d. absurd (false≢true (sym d));
-  }

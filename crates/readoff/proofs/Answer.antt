@@ -9,24 +9,27 @@ use native.Mathlib.Omega.{arith}
 use lib.Count.{ones}
 use lib.ListN.{length, get_or, drop, length-append, length-drop, get_or-append}
 use lib.Seq.{get_or-append-add, get_or-drop, ext_get_or}
+use mir.Syntax.{w8, w16}
+use mir.Val.{Fits}
 use Rattle.meaning.specs.Constraint.{Fact}
 use Rattle.meaning.specs.Finite.{tab}
 use Rattle.meaning.specs.ReadOff.{FactSet, order, element, node_at, NodeRecord, nodes, tree_of, place, places, node_bytes, place_bytes, answer_file}
 use Rattle.meaning.proofs.Finite.{length_tab}
-use Rattle.meaning.proofs.Nodes.{node, tree, size_is, node_at_lem, node_inside, element_most, InFront, front_at, which, order_most, nodes_most}
+use Rattle.meaning.proofs.Nodes.{node, tree, size_is, node_at_lem, node_inside, InFront, front_at, which, order_most, nodes_most}
 use Rattle.theory.proofs.AnswerFile.{length_node_bytes, length_place_bytes}
 use Rattle.tables.specs.declared.Facts.{Facts}
 use Rattle.tables.specs.Tables.{row, has, Columns, Ready}
 use Rattle.ordering.specs.declared.Order.{Order}
 use Rattle.ordering.specs.Rows.{Gathered, is_lowest}
 use Rattle.ordering.specs.Numbering.{element_of, numbered}
-use Rattle.ordering.specs.Listing.{groups, listed, Listed}
+use Rattle.ordering.specs.Listing.{Strict, listed}
+use Rattle.ordering.specs.Groups.{groups}
 use Rattle.readoff.specs.Nodes.{Led, place_in, group_record}
 use Rattle.readoff.specs.Written.{Recorded, blank_at, place_record, FileWritten}
-use Rattle.ordering.proofs.Listing.{length_groups}
+use Rattle.ordering.proofs.Listing.{count_is}
 use Rattle.readoff.proofs.Numbering.{element_is, numbered_is}
 use Rattle.readoff.proofs.Meaning.{record_is, places_are}
-use Rattle.readoff.proofs.Preceding.{SayBefore}
+use Rattle.readoff.proofs.Preceding.{SayBefore, says_before, strict}
 use Rattle.ordering.proofs.Layered.{Layered}
 use Rattle.readoff.proofs.Layers.{order_is, tops_are}
 use Rattle.readoff.proofs.Leading.{led}
@@ -123,33 +126,48 @@ module _ (n : ℕ) (h : FactSet) where
 
 -- ---- of the tables
 
--- what is known once the groups are in order
-pub record Ordered (f : Facts) (n lows : ℕ) (rows : List ℕ) (o : Order) : Type 0 where
+-- what is known of tables that are ready once the lowest of their groups are in layers
+pub record InLayers (S : List Fact) (f : Facts) (n lows : ℕ) (rows : List ℕ) : Type 0 where
   pub few : n ≤ 16
-  pub columns : Columns f.below f.above
+  pub ready : Ready n S f
+  pub long : length f.after ≡ 16
+  pub fits : (g : ℕ) → Fits w16 (row f.after g)
   pub low : Gathered n (is_lowest f.below f.above f.root) lows
   pub layered : Layered f.below f.above n lows n rows
-  pub says : SayBefore f
-  pub these : Listed (listed f.after rows n) o
-  pub long : length o.group ≡ 16
 
-pub room_for : (f : Facts) (n lows : ℕ) (rows : List ℕ) → n ≤ 16 → Columns f.below f.above → Gathered n (is_lowest f.below f.above f.root) lows
-    → Layered f.below f.above n lows n rows → SayBefore f → length (listed f.after rows n) ≤ 16
-room_for f n lows rows few m g l says = let a = order_most n (has f) in omega (arith, ap length (order_is f n few m lows g rows l says))
+pub in_layers : {S : List Fact} {f : Facts} {n lows : ℕ} {rows : List ℕ} → n ≤ 16 → Ready n S f → length f.after ≡ 16 → ((g : ℕ) → Fits w16 (row f.after g))
+    → Gathered n (is_lowest f.below f.above f.root) lows → Layered f.below f.above n lows n rows → InLayers S f n lows rows
+in_layers a r l f g d = record { few = a; ready = r; long = l; fits = f; low = g; layered = d }
 
-module _ {f : Facts} {n lows : ℕ} {rows : List ℕ} {o : Order} (s : Ordered f n lows rows o) where
+module _ {S : List Fact} {f : Facts} {n lows : ℕ} {rows : List ℕ} (w : InLayers S f n lows rows) where
+  columns : Columns f.below f.above
+  columns = w.ready.mirrored.ancestors
+
+  says : SayBefore f
+  says = says_before f n w.few S w.ready w.long (λ g. (w.fits g).fits)
+
+  listed_are : listed f.after rows n ≡ order n (has f)
+  listed_are = order_is f n w.few columns lows w.low rows w.layered says
+
+  pub strict_after : Strict f.after
+  strict_after = strict f n w.few S w.ready w.long (λ g. (w.fits g).fits)
+
+  pub room_for : length (listed f.after rows n) ≤ 16
+  room_for = let a = order_most n (has f) in let b = w.few in omega (arith, ap length listed_are)
+
+module _ {S : List Fact} {f : Facts} {n lows : ℕ} {rows : List ℕ} (w : InLayers S f n lows rows) (o : Order) (these : groups o ≡ listed f.after rows n) where
   groups_are : groups o ≡ order n (has f)
-  groups_are = s.these.these ∙ order_is f n s.few s.columns lows s.low rows s.layered s.says
+  groups_are = these ∙ listed_are w
 
   len_is : o.len ≡ length (order n (has f))
-  len_is = let a = s.these.small.few in let b = s.long in sym (length_groups o (omega arith)) ∙ ap length groups_are
+  len_is = sym (count_is o) ∙ ap length groups_are
 
-  pub groups_led : (S : List Fact) → Ready n S f → Led f.below f.above f.root n (groups o)
-  groups_led S r = subst (Led f.below f.above f.root n) (sym groups_are) (led f n s.few S r)
+  pub groups_led : Led f.below f.above f.root n (groups o)
+  groups_led = subst (Led f.below f.above f.root n) (sym groups_are) (led f n w.few S w.ready)
 
   module _ (e : ℕ) (q : e ≡ element_of (ones (row rows 0))) where
     element_exact : e ≡ element n (has f)
-    element_exact = q ∙ ap element_of (tops_are f n s.few s.columns lows s.low rows s.layered s.says) ∙ element_is n (has f)
+    element_exact = q ∙ ap element_of (tops_are f n w.few (columns w) lows w.low rows w.layered (says w)) ∙ element_is n (has f)
 
     numbers_are : numbered e ≡ node_at n (has f)
     numbers_are = ap numbered element_exact ∙ numbered_is n (has f)
@@ -157,15 +175,12 @@ module _ {f : Facts} {n lows : ℕ} {rows : List ℕ} {o : Order} (s : Ordered f
     first_is : numbered e o.len ≡ size n (has f)
     first_is = ap (λ (number : ℕ → ℕ). number o.len) numbers_are ∙ ap (node_at n (has f)) len_is ∙ sym (size_exact n (has f))
 
-    pub few_records : (numbered e o.len + n ≤ 34) × (e ≤ 1)
-    few_records = let a = nodes_most n (has f) in let b = s.few in (omega (arith, first_is), omega (arith, element_exact, element_most n (has f)))
-
-    pub file_written : (first : ℕ) (old mid late new : List ℕ) (vs : List ℕ) → first ≡ numbered e o.len → 136 ≤ length old → ((g : ℕ) → row f.label g < 256)
+    pub file_written : (first : ℕ) (old mid late new : List ℕ) (vs : List ℕ) → first ≡ numbered e o.len → 136 ≤ length old → ((g : ℕ) → Fits w8 (row f.label g))
         → Recorded (λ v. v) blank_at (suc e) old mid → Recorded (numbered e) (group_record f.below f.above f.label n lows e (groups o)) o.len mid late
         → Recorded (λ x. first + x) (place_record vs) n late new → vs ≡ tab n (place_in f.below f.above f.root e (groups o))
         → FileWritten n (has f) old ((first + n) * 4) new
     file_written first old mid late new vs z room bytes a g p d =
         rw (z, first_is)
-        (answered n (has f) old mid late new s.few room (rw element_exact at a)
-        (recorded_as _ _ _ _ _ _ (record_is f n s.few s.columns lows s.low bytes) (rw (element_exact, numbered_is, groups_are, len_is) at g))
-        (rw (z, first_is, d, groups_are, element_exact, places_are f n s.few s.columns) at p))
+        (answered n (has f) old mid late new w.few room (rw element_exact at a)
+        (recorded_as _ _ _ _ _ _ (record_is f n w.few (columns w) lows w.low (λ g. (bytes g).fits)) (rw (element_exact, numbered_is, groups_are, len_is) at g))
+        (rw (z, first_is, d, groups_are, element_exact, places_are f n w.few (columns w)) at p))

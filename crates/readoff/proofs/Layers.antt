@@ -28,7 +28,7 @@ use Rattle.readoff.proofs.Meaning.{lows_is, depth_is}
 module _ (f : Facts) (n : ℕ) (few : n ≤ 16) (m : Columns f.below f.above) (lows : ℕ) (g : Gathered n (is_lowest f.below f.above f.root) lows)
     (rows : List ℕ) (ls : Layered f.below f.above n lows n rows) (says : SayBefore f) where
   members_are : (d : ℕ) → d < 17 → picked 16 (bit (row rows d)) ≡ picked n (λ x. lowest n (has f) x and eqb (depth n (has f) x) d)
-  unfolding in_layer Layered
+  unfolding in_layer
   members_are d h =
       gathered_picked n _ (row rows d) few (ls d h)
       ∙ picked_eq n _ _ (λ x l. rw (lows_is f n few m lows g x l, depth_is f n few m lows g x (omega arith)))
@@ -49,7 +49,6 @@ module _ (f : Facts) (n : ℕ) (few : n ≤ 16) (m : Columns f.below f.above) (l
   order_is = listed_is n (omega arith)
 
   pub tops_are : ones (row rows 0) ≡ length (layer n (has f) 0)
-  unfolding Layered
   tops_are =
       let p : 2 ^ n ≤ 2 ^ 16 = pow_mono few in
       counted 16 (row rows 0) (le_trans (ls 0 (omega arith)).small p) ∙ sym (length_picked 16 (bit (row rows 0)))

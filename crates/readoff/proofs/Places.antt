@@ -13,7 +13,8 @@ use Rattle.rowbits.specs.Bit.{bit}
 use Rattle.tables.specs.Tables.{row}
 use Rattle.ordering.specs.declared.Order.{Order}
 use Rattle.tables.specs.Rows.{Lowest}
-use Rattle.ordering.specs.Listing.{groups, Small, Placed}
+use Rattle.ordering.specs.Listing.{Placed}
+use Rattle.ordering.specs.Groups.{groups}
 use Rattle.readoff.specs.Nodes.{Led}
 use Rattle.ordering.proofs.Listing.{count_is}
 
@@ -31,8 +32,8 @@ unfolding position
 position_eq p q [] h = refl
 position_eq p q (x ∷ xs) h = rw (h x (Memᴰ.head refl), position_eq p q xs (λ y m. h y (Memᴰ.tail m)))
 
-pub place_most : (p : ℕ → Bool) (o : Order) → length o.group ≡ 16 → Small o → position p (groups o) ≤ o.len
-place_most p o long s = let b = position_most p (groups o) in omega (arith, count_is o long s)
+pub place_most : (p : ℕ → Bool) (o : Order) → position p (groups o) ≤ 16
+place_most p o = let c = o.few in omega (arith, position_most p (groups o), count_is o)
 
 -- the place of the lowest of a group is that of the first that is in the group
 pub place_led : (t u : List ℕ) (root n : ℕ) (gs ps : List ℕ) → Led t u root n gs → Placed gs ps → (x k : ℕ) → x < n → ¬ Yes (bit root x) → Lowest (bit_and (row u x) (row t x)) k

@@ -2,55 +2,58 @@
 use mathlib.Core.Path.{◌≡◌, refl, sym, ap, ◌∙◌, subst}
 use mathlib.Core.Logic.{◌≢◌}
 use mathlib.Core.List.{List, [], ◌∷◌, ◌++◌, map, map-append}
-use Prim.Native.Nat.{ℕ, zero, suc, ◌+◌, ◌*◌, ◌≤◌, ◌<◌}
+use Prim.Native.Nat.{ℕ, zero, suc, ◌+◌, ◌-◌, ◌*◌, ◌≤◌, ◌<◌}
 use native.Mathlib.Nat.{add-zero, zero-add, not-suc-le-zero, le_of_suc-le-suc}
-use native.Mathlib.Decide.{ℕ_discrete}
+use native.Mathlib.Decide.{dec_lt, ℕ_discrete}
 use native.Mathlib.Numerals.{add-one}
 use native.Mathlib.Omega.{arith}
-use lib.ListN.{length, get_or, take, drop, set, length-append, length-set, get_or-append, get_or-map}
-use lib.Seq.{take-suc-set, length-take-le, sets-eq, get_or-append-add, get_or-take, get_or-set_other}
+use lib.ListN.{length, get_or, take, drop, set, length-append, length-drop, get_or-append, get_or-map}
+use lib.Seq.{take-suc-set, length-take-le, get_or-append-add, get_or-take, get_or-drop}
 use Rattle.meaning.specs.Finite.{tab}
 use Rattle.meaning.specs.ReadOff.{NodeRecord, blank_record, node_bytes, place_bytes}
 use Rattle.tables.specs.Tables.{row}
 use Rattle.ids.specs.declared.Node.{Node}
 use Rattle.ordering.specs.declared.Order.{Order}
 use Rattle.ordering.specs.Rows.{over_row}
-use Rattle.ordering.specs.Listing.{groups, Small}
+use Rattle.ordering.specs.Groups.{groups}
 use Rattle.readoff.specs.Nodes.{node_numbers, parent_in, node_in, group_record}
 use Rattle.ordering.specs.Numbering.{numbered}
-use Rattle.readoff.specs.Written.{Recorded, Put, place_record}
+use Rattle.readoff.specs.Written.{Recorded, Put, blank_at, place_record}
 use Rattle.ordering.proofs.Listing.{member_at}
 
 -- ---- one record
 
-module _ (v a b c d : ℕ) (old : List ℕ) (room : v * 4 + 4 ≤ length old) where
-  abbrev most : List ℕ
-  most = set (set (set old (v * 4) a) (v * 4 + 1) b) (v * 4 + 2) c
-
+module _ (v : ℕ) (bs old : List ℕ) (four : length bs ≡ 4) (room : v * 4 + 4 ≤ length old) where
   abbrev new : List ℕ
-  new = set most (v * 4 + 3) d
+  new = take (v * 4) old ++ (bs ++ drop 4 (drop (v * 4) old))
 
-  abbrev bytes : List ℕ
-  bytes = a ∷ b ∷ c ∷ d ∷ []
+  front : length (take (v * 4) old) ≡ v * 4
+  front = length-take-le (v * 4) old (omega arith)
 
-  here : (j : ℕ) → j < 4 → get_or new (v * 4 + j) 0 ≡ get_or bytes j 0
+  long : length new ≡ length old
+  long = simp (length-append, length-drop, front, four) (omega arith)
+
+  here : (j : ℕ) → j < 4 → get_or new (v * 4 + j) 0 ≡ get_or bs j 0
   here j m =
-      let p : v * 4 + 1 ≡ suc (v * 4) = omega arith in
-      let q : v * 4 + 2 ≡ suc (suc (v * 4)) = omega arith in
-      let r : v * 4 + 3 ≡ suc (suc (suc (v * 4))) = omega arith in
-      let f = length-take-le (v * 4) old (omega arith) in
-      let e : new ≡ take (v * 4) old ++ bytes ++ drop (v * 4 + 4) old = rw (p, q, r) (sets-eq bytes old (v * 4) room) in
-      ap (λ (xs : List ℕ). get_or xs (v * 4 + j) 0) e
-      ∙ get_or-append (take (v * 4) old ++ bytes) _ 0 (v * 4 + j) (omega (arith, length-append (take (v * 4) old) bytes))
-      ∙ ap (λ (k : ℕ). get_or (take (v * 4) old ++ bytes) (k + j) 0) (sym f) ∙ get_or-append-add (take (v * 4) old) bytes j 0
+      ap (λ (k : ℕ). get_or new (k + j) 0) (sym front) ∙ get_or-append-add (take (v * 4) old) _ j 0 ∙ get_or-append bs _ 0 j (rw four m)
 
-  pub put_four : Put v bytes old new
-  put_four = record { long = simp length-set; these = λ i j l m. here j m; others = λ u j f m. other u j (f 0 (omega arith)) m }
+  ahead : (i : ℕ) → i < v * 4 → get_or new i 0 ≡ get_or old i 0
+  ahead i l = get_or-append (take (v * 4) old) _ 0 i (rw front l) ∙ get_or-take (v * 4) old i 0 l
+
+  behind : (k : ℕ) → get_or new (v * 4 + (4 + k)) 0 ≡ get_or old (v * 4 + (4 + k)) 0
+  behind k =
+      ap (λ (i : ℕ). get_or new (i + (4 + k)) 0) (sym front) ∙ get_or-append-add (take (v * 4) old) _ (4 + k) 0
+      ∙ ap (λ (i : ℕ). get_or (bs ++ drop 4 (drop (v * 4) old)) (i + k) 0) (sym four) ∙ get_or-append-add bs _ k 0
+      ∙ get_or-drop 4 (drop (v * 4) old) k 0 ∙ get_or-drop (v * 4) old (4 + k) 0
+
+  pub put_four : Put v bs old new
+  put_four = record { long = long; these = λ i j l m. here j m; others = λ u j f m. other u j (f 0 (omega arith)) m (dec_lt u v) }
     where
-      other : (u j : ℕ) → u ≢ v → j < 4 → get_or new (u * 4 + j) 0 ≡ get_or old (u * 4 + j) 0
-      other u j f m =
-          get_or-set_other most (v * 4 + 3) (u * 4 + j) d 0 (λ e. omega arith) ∙ get_or-set_other (set (set old (v * 4) a) (v * 4 + 1) b) (v * 4 + 2) (u * 4 + j) c 0 (λ e. omega arith)
-          ∙ get_or-set_other (set old (v * 4) a) (v * 4 + 1) (u * 4 + j) b 0 (λ e. omega arith) ∙ get_or-set_other old (v * 4) (u * 4 + j) a 0 (λ e. omega arith)
+      other : (u j : ℕ) → u ≢ v → j < 4 → Dec (u < v) → get_or new (u * 4 + j) 0 ≡ get_or old (u * 4 + j) 0
+      other u j f m (yes l) = ahead (u * 4 + j) (omega arith)
+      other u j f m (no l) =
+          let e : v * 4 + (4 + (u * 4 + j - (v * 4 + 4))) ≡ u * 4 + j = omega arith in
+          subst (λ (i : ℕ). get_or new i 0 ≡ get_or old i 0) e (behind _)
 
 -- ---- one record more
 
@@ -75,6 +78,10 @@ module _ (number : ℕ → ℕ) (bytes : ℕ → List ℕ) where
 
   pub recorded_as : (other : ℕ → List ℕ) (k : ℕ) (old new : List ℕ) → ((i : ℕ) → i < k → bytes i ≡ other i) → Recorded number bytes k old new → Recorded number other k old new
   recorded_as other k old new e r = record { long = r.long; these = λ i j l m. r.these i j l m ∙ ap (λ (bs : List ℕ). get_or bs j 0) (e i l); others = r.others }
+
+-- the document node
+pub document : {old new : List ℕ} → Put 0 (blank_at 0) old new → Recorded (λ v. v) blank_at 1 old new
+document w = recorded_more _ _ (λ i j l. l) 0 0 _ _ _ _ refl refl (recorded_none _ _ _) w
 
 -- ---- the records of a file
 
@@ -103,11 +110,11 @@ unfolding place_bytes
 place_bytes_at vs x j l m = quads_at place_bytes 0 (λ i a xs. refl) (λ i a. refl) vs 0 x j l m ∙ ap (λ (k : ℕ). get_or (place_bytes k (get_or vs x 0 ∷ [])) j 0) (zero-add x)
 
 -- the record that is computed is that of the group
-pub group_record_lem : (t u labels : List ℕ) (n lows element : ℕ) (o : Order) → length o.group ≡ 16 → Small o → (i : ℕ) → i < o.len → (own above up : ℕ) → own ≡ numbered element i
+pub group_record_lem : (t u labels : List ℕ) (n lows element : ℕ) (o : Order) (i : ℕ) → i < o.len → (own above up : ℕ) → own ≡ numbered element i
     → above ≡ over_row n (row u (get_or o.group i record { 0 = 0 }).0) (row t (get_or o.group i record { 0 = 0 }).0) → up ≡ parent_in t u lows element (groups o) above
     → (1 ∷ own ∷ up ∷ row labels (get_or o.group i record { 0 = 0 }).0 ∷ []) ≡ group_record t u labels n lows element (groups o) i
 unfolding node_in node_bytes
-group_record_lem t u labels n lows element o long s i l own above up z a e = rw (member_at o long s i l, z, e, a)
+group_record_lem t u labels n lows element o i l own above up z a e = rw (member_at o i l, z, e, a)
 
 -- ---- the assignment, variable by variable
 

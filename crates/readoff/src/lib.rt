@@ -2,144 +2,110 @@
 // it; a node for each group of the other variables, by depth, then siblings in their order and otherwise by lowest variable; and the node of each variable.
 #![tactic(auto)]
 
-ghost use Rattle.std.specs.Prelude.{◌≡◌, List, [], ◌∷◌, suc, ◌+◌, ◌*◌, ◌<◌, ◌≤◌, length};
+ghost use Rattle.std.specs.Prelude.{◌≡◌, List, [], ◌∷◌, suc, ◌+◌, ◌*◌, ◌≤◌, length};
 ghost use Rattle.meaning.specs.Constraint.{Fact};
-ghost use Rattle.meaning.specs.Finite.{tab};
+ghost use Rattle.meaning.specs.Finite.{one, tab};
 ghost use Rattle.tables.specs.Tables.{showing, Ready};
 ghost use Rattle.tables.specs.declared.Facts.{Facts};
-ghost use Rattle.ordering.specs.Numbering.{numbered};
-ghost use Rattle.ordering.specs.Listing.{groups, Small};
-ghost use Rattle.readoff.specs.Nodes.{Led, node_numbers, place_in, parent_in, group_record};
+ghost use Rattle.readoff.specs.Nodes.{node_numbers};
+ghost use Rattle.readoff.specs.Planned.{number_for, LedFor, node_for, parent_for, record_for};
 ghost use Rattle.readoff.specs.Written.{Recorded, Put, blank_at, place_record, WrittenOf};
 
-use ids::{Node, Var};
-use ordering::Order;
+use ids::{Node, Var, Variables};
+use ordering::{Ancestry, Front, Order};
 
-// The parent of a group, where these variables are over it. Next under the document node that is the blank element, node 1, or else node 0.
-fn parent_of(
-    order: Order,
-    over: u16,
+// What the nodes are read from: what is above and below each variable, the lowest of the groups as a row and in their order, and what is in front of them.
+#[derive(Clone, Copy)]
+struct Plan {
+    ancestry: Ancestry,
     lows: u16,
-    below: [u16; 16],
-    above: [u16; 16],
-    element: u8,
-) -> Node
-    requires { Small order × (numbered element order.len < 256) }
-    ensures { result.0 ≡ parent_in below above lows element (groups order) over }
-{
-    if over & lows == 0 {
-        return Node(element);
-    }
-    ordering::node_at(element, ordering::nearest(order, over, below, above))
+    order: Order,
+    front: Front,
 }
 
-// The node of each variable: the document node, or that of the lowest of its group.
-fn assign(
-    order: Order,
-    below: [u16; 16],
-    above: [u16; 16],
-    root: u16,
-    element: u8,
-    n: usize,
-) -> [Node; 16]
-    requires { Small order × (numbered element order.len < 256) × (n ≤ 16) × Led below above root n (groups order) }
-    ensures { node_numbers n result ≡ tab n (place_in below above root element (groups order)) }
-{
-    let first = Node(0);
-    let mut nodes = [first; 16];
-    let at = ordering::places(order);
-    for x in 0..n {
-        if rowbits::has(root, x) {
-            nodes[x] = Node(0);
-            continue;
+impl Plan {
+    // The parent of a group, where these variables are over it.
+    fn parent_of(&self, over: u16) -> Node
+        ensures { result.0 ≡ parent_for self.now over }
+    {
+        if over & self.lows == 0 {
+            return self.front.top();
         }
-        let up = above[x];
-        let down = below[x];
-        let low = tables::lowest(up & down);
-        let place = at[low];
-        nodes[x] = ordering::node_at(element, place as usize);
+        self.front.node_at(self.order.nearest(&self.ancestry, over))
     }
-    nodes
+
+    // The node of each variable: the document node, or that of the lowest of its group.
+    fn assign(&self, root: u16) -> [Node; 16]
+        requires { LedFor self.now root }
+        ensures { node_numbers self.now.ancestry.n.count result ≡ tab self.now.ancestry.n.count (node_for self.now root) }
+    {
+        let mut nodes = [Node(0); 16];
+        let at = self.order.places();
+        for x in 0..self.ancestry.n.count {
+            if rowbits::has(root, x) {
+                nodes[x] = Node(0);
+                continue;
+            }
+            let low = tables::lowest(self.ancestry.above[x] & self.ancestry.below[x]);
+            nodes[x] = self.front.node_at(at[low] as usize);
+        }
+        nodes
+    }
+
+    // Puts the nodes of the groups.
+    fn put_nodes(&self, answer: &mut [u8], label: [u8; 16])
+        requires { number_for self.now self.now.order.len * 4 ≤ length answer.old }
+        ensures { Recorded (number_for self.now) (record_for self.now label) self.now.order.len answer.old answer.new }
+    {
+        for i in 0..self.order.len {
+            let g = self.order.group[i];
+            let parent = self.parent_of(self.ancestry.over(g));
+            put_node(answer, self.front.node_at(i), parent, label[g.0 as usize]);
+        }
+    }
 }
 
 // A record of four bytes, at its number.
-fn put(answer: &mut [u8], number: usize, kind: u8, own: u8, node: u8, last: u8)
+fn put(answer: &mut [u8], number: usize, bytes: [u8; 4])
     requires { number * 4 + 4 ≤ length answer.old }
-    ensures { Put number (kind ∷ own ∷ node ∷ last ∷ []) answer.old answer.new }
+    ensures { Put number bytes answer.old answer.new }
 {
     let at = number * 4;
-    answer[at] = kind;
-    answer[at + 1] = own;
-    answer[at + 2] = node;
-    answer[at + 3] = last;
+    answer[at..at + 4].copy_from_slice(&bytes);
 }
 
 fn put_node(answer: &mut [u8], own: Node, parent: Node, label: u8)
     requires { own.0 * 4 + 4 ≤ length answer.old }
     ensures { Put own.0 (1 ∷ own.0 ∷ parent.0 ∷ label ∷ []) answer.old answer.new }
 {
-    put(answer, own.0 as usize, 1, own.0, parent.0, label);
+    put(answer, own.0 as usize, [1, own.0, parent.0, label]);
 }
 
 fn put_place(answer: &mut [u8], number: usize, own: Var, node: Node)
     requires { number * 4 + 4 ≤ length answer.old }
     ensures { Put number (2 ∷ own.0 ∷ node.0 ∷ 0 ∷ []) answer.old answer.new }
 {
-    put(answer, number, 2, own.0, node.0, 0);
+    put(answer, number, [2, own.0, node.0, 0]);
 }
 
 // The document node and the blank element.
-fn put_front(answer: &mut [u8], element: u8)
-    requires { (element ≤ 1) × (suc element * 4 ≤ length answer.old) }
-    ensures { Recorded (λ v. v) blank_at (suc element) answer.old answer.new }
+fn put_front(answer: &mut [u8], front: Front)
+    requires { suc (one front.element) * 4 ≤ length answer.old }
+    ensures { Recorded (λ v. v) blank_at (suc (one front.element)) answer.old answer.new }
 {
     put_node(answer, Node(0), Node(0), 0);
-    if element == 1 {
+    if front.element {
         put_node(answer, Node(1), Node(0), 0);
     }
 }
 
-// The nodes of the groups.
-fn put_nodes(
-    answer: &mut [u8],
-    order: Order,
-    below: [u16; 16],
-    above: [u16; 16],
-    label: [u8; 16],
-    lows: u16,
-    element: u8,
-    n: usize,
-)
-    requires { Small order × (numbered element order.len < 256) × (n ≤ 16) × (numbered element order.len * 4 ≤ length answer.old) }
-    ensures { Recorded (numbered element) (group_record below above label n lows element (groups order)) order.len answer.old answer.new }
-{
-    let len = order.len;
-    for i in 0..len {
-        let g = order.group[i];
-        let x = g.0 as usize;
-        let up = above[x];
-        let down = below[x];
-        let l = label[x];
-        let parent = parent_of(
-            order,
-            ordering::over(up, down, n),
-            lows,
-            below,
-            above,
-            element,
-        );
-        put_node(answer, ordering::node_at(element, i), parent, l);
-    }
-}
-
 // The places of the variables.
-fn put_places(answer: &mut [u8], first: usize, nodes: [Node; 16], n: usize)
-    requires { (n ≤ 16) × ((first + n) * 4 ≤ length answer.old) }
-    ensures { Recorded (λ x. first + x) (place_record (node_numbers n nodes)) n answer.old answer.new }
+fn put_places(answer: &mut [u8], first: usize, nodes: [Node; 16], n: Variables)
+    requires { (first + n.count) * 4 ≤ length answer.old }
+    ensures { Recorded (λ x. first + x) (place_record (node_numbers n.count nodes)) n.count answer.old answer.new }
 {
-    for x in 0..n {
-        let v = nodes[x];
-        put_place(answer, first + x, Var(x as u8), v);
+    for x in 0..n.count {
+        put_place(answer, first + x, Var(x as u8), nodes[x]);
     }
 }
 
@@ -150,23 +116,27 @@ pub fn read_off(
     after: [u16; 16],
     label: [u8; 16],
     root: u16,
-    n: usize,
+    n: Variables,
     answer: &mut [u8],
 ) -> usize
-    requires { (n ≤ 16) × (136 ≤ length answer.old) × ((S : List Fact) × (g : Facts) × Ready n S (showing below above after label root g)) }
-    ensures { WrittenOf below above after label root n answer.old result answer.new }
+    requires { (136 ≤ length answer.old) × ((S : List Fact) × (g : Facts) × Ready n.count S (showing below above after label root g)) }
+    ensures { WrittenOf below above after label root n.count answer.old result answer.new }
 {
-    let low = ordering::lows(below, above, root, n);
-    let layer = ordering::layers(below, above, low, n);
-    let order = ordering::in_order(layer, after, n);
-    let top = layer[0];
-    let element = ordering::element_of(top);
-    put_front(answer, element);
-    put_nodes(answer, order, below, above, label, low, element, n);
-    let len = order.len;
-    let size = ordering::node_at(element, len);
-    let first = size.0 as usize;
-    let nodes = assign(order, below, above, root, element, n);
+    let ancestry = Ancestry { below, above, n };
+    let lows = ancestry.lows(root);
+    let layer = ancestry.layers(lows);
+    let order = Order::in_order(layer, after, n);
+    let front = Front::of(layer[0]);
+    let plan = Plan {
+        ancestry,
+        lows,
+        order,
+        front,
+    };
+    put_front(answer, front);
+    plan.put_nodes(answer, label);
+    let first = front.node_at(order.len).0 as usize;
+    let nodes = plan.assign(root);
     put_places(answer, first, nodes, n);
-    (first + n) * 4
+    (first + n.count) * 4
 }

@@ -1,11 +1,12 @@
 -- Entering one below fact enters either alternative of a join, since a fact that is settled already changes nothing when it is given (tables/proofs/Known);
 -- but for the differ fact of a chain join's second.
-use mathlib.Core.Path.{◌≡◌, refl, sym, ap, ◌∙◌}
+use mathlib.Core.Path.{◌≡◌, refl, sym, ap, subst, ◌∙◌}
 use mathlib.Core.Logic.{⊎_elim}
 use mathlib.Core.Bool.{Bool, true, false, false≢true}
 use mathlib.Core.List.Memᴰ
 use mathlib.Core.List.{List, [], ◌∷◌, Memᴰ}
 use mathlib.Core.Option.{some}
+use Rattle.std.specs.Prelude.{Option, Some, None}
 use Prim.Native.Nat.{ℕ}
 use Rattle.meaning.specs.Constraint.{Fact, differ}
 use Rattle.meaning.specs.Settled.{Settled}
@@ -17,16 +18,14 @@ use Rattle.theory.proofs.Search.{first_join_found}
 use Rattle.tables.specs.Tables.{has, Ready}
 use Rattle.tables.specs.declared.Facts.{Facts}
 use Rattle.tables.proofs.Known.{ready_more}
-use Rattle.stages.specs.Found.{kind_of, join_of}
+use Rattle.stages.specs.Found.{Found, kind_of, join_of}
 use Rattle.joins.specs.Found.{FoundOf}
-use Rattle.stages.specs.declared.Found.{Found}
-use Rattle.stages.specs.declared.Found.TheVariants.{Nothing, One}
+use Rattle.stages.specs.declared.Join as coded-join
 use Rattle.stages.specs.declared.JoinKind as coded
-use Rattle.ids.specs.declared.Var.{Var}
 use Rattle.enter.specs.Entered.{Forked}
 use Rattle.search.specs.Searching.{fact, Enters, StepOf}
 use Rattle.search.specs.declared.Below.{Below}
-use Rattle.search.specs.declared.Step.TheVariants.{Solved, Split}
+use Rattle.search.specs.declared.Split.{Split}
 
 -- the fact itself, and with differ
 pub enters_one : (n : ℕ) (S : List Fact) (p : Below) → Enters n S p false (fact p ∷ [])
@@ -80,18 +79,24 @@ chain_forked n T f t z x y q = record {
 
 -- ---- the step from the first join found, for any S that the tables are ready for
 
-pub joined : {r : Found} {k l : coded.JoinKind} {z x y : Var} → r ≡ One k z x y → k ≡ l → join_of r ≡ some (join (kind_of l) z.0 x.0 y.0)
+pub joined : {r : Found} {j : coded-join.Join} {k : coded.JoinKind} → r ≡ Some j → j.kind ≡ k
+    → join_of r ≡ some (join (kind_of k) j.z.0 j.x.0 j.y.0)
 unfolding join_of
 joined e d = rw (e, d)
 
+-- the second alternative of each kind
+pub step_taken : (n : ℕ) (f : Facts) (p : Below) (a b : Below × Bool) → a ≡ b → StepOf n f (Some (record { first = p; second = b.0; apart = b.1 }))
+    → StepOf n f (Some (record { first = p; second = a.0; apart = a.1 }))
+step_taken n f p a b e s = subst (λ (x : Below × Bool). StepOf n f (Some (record { first = p; second = x.0; apart = x.1 }))) (sym e) s
+
 module _ (n : ℕ) (f : Facts) (r : Found) (found : FoundOf n f r) where
-  pub step_solved : r ≡ Nothing → StepOf n f Solved
+  pub step_solved : r ≡ None → (s : Option Split) → s ≡ None → StepOf n f s
   unfolding join_of
-  step_solved e S g = sym (found S g) ∙ ap join_of e
+  step_solved e s d = subst (StepOf n f) (sym d) (λ S g. sym (found S g) ∙ ap join_of e)
 
   -- a join of any kind, with what its two alternatives enter
   pub step_split : (T : List Fact) → Ready n T f → (j : Join) → join_of r ≡ some j → (p q : Below) (apart : Bool) → (Yes apart → IsJoin n T j → Forked f q.upper.0 q.lower.0)
-      → ((S : List Fact) → IsJoin n S j → Enters n S p false (first_alternative j) × Enters n S q apart (second_alternative j)) → StepOf n f (Split p q apart)
+      → ((S : List Fact) → IsJoin n S j → Enters n S p false (first_alternative j) × Enters n S q apart (second_alternative j)) → StepOf n f (Some (record { first = p; second = q; apart = apart }))
   step_split T t j e p q apart forked enters =
       let a = (first_adds n T t.inside j (is_join T t)).inside (fact p) (Memᴰ.append_left T (enters T (is_join T t)).0.one) in
       let b = (second_adds n T t.inside j (is_join T t)).inside (fact q) (Memᴰ.append_left T (enters T (is_join T t)).1.one) in (

@@ -1,9 +1,11 @@
 -- One line of the search, step by step: what it reports at each return, from what the two alternatives report.
-use mathlib.Core.Path.{◌≡◌, refl, ap, subst, ◌∙◌}
+use mathlib.Core.Path.{◌≡◌, refl, ap, subst}
 use mathlib.Core.Logic.{◌≢◌}
-use mathlib.Core.Bool.{Bool, true, false}
+use mathlib.Core.Bool.{Bool, false}
 use mathlib.Core.List.{List, ◌++◌}
 use mathlib.Core.Option.{none}
+use Rattle.std.specs.Prelude.{Option, Some}
+use Rattle.std.specs.Prelude as std
 use Prim.Native.Nat.{ℕ, ◌+◌, ◌≤◌, ◌<◌}
 use native.Mathlib.Decide.{dec_le}
 use native.Mathlib.Omega.{arith}
@@ -15,25 +17,26 @@ use Rattle.theory.proofs.Absent.{Adds}
 use Rattle.theory.proofs.Steps.{EndsAs, search_clash, search_solved, search_first, search_second, adds_first, adds_second}
 use Rattle.tables.specs.Tables.{has, Ready}
 use Rattle.tables.specs.declared.Facts.{Facts}
-use Rattle.tables.specs.declared.Settled.{Settled}
 use Rattle.enter.specs.Entered.{EnteredOf}
 use Rattle.search.specs.Searching.{facts, Enters, Alternatives, StepOf, Line, without_tree, TreeRows, Reports, Report}
 use Rattle.search.specs.declared.Below.{Below}
-use Rattle.search.specs.declared.Step.{Step}
+use Rattle.search.specs.declared.Split.{Split}
+use Rattle.search.specs.declared.Shown.{Shown}
 use Rattle.search.specs.declared.End.TheVariants.{Tree, None, Spent}
 use Rattle.search.specs.declared.Searched.{Searched}
 use Rattle.search.proofs.Reporting.{WasNone, reports_none, reports_tree, reports_spent, reports_search, was_none}
 
 -- the step taken is this one
-pub step_as : (n : ℕ) (f : Facts) {r q : Step} → r ≡ q → StepOf n f r → StepOf n f q
+pub step_as : (n : ℕ) (f : Facts) {r q : Option Split} → r ≡ q → StepOf n f r → StepOf n f q
 step_as n f e w = subst (StepOf n f) e w
 
 -- ---- the two alternatives
 
 -- the tables after an alternative
 entered_line : (n : ℕ) (S : List Fact) (f : Facts) → Ready n S f → (p : Below) (apart : Bool) (A : List Fact) → Inside n (A ++ S) → Enters n S p apart A
-    → (e : Settled) → EnteredOf n f (facts p apart) e → Line n (A ++ S) e
-entered_line n S f r p apart A ins w e g = record { inside = ins; clashes = λ q. w.clash (g.clashes q S r); ready = λ q. w.ready (g.settles q S r) }
+    → (e : Option Facts) → EnteredOf n f (facts p apart) e → Line n (A ++ S) e
+entered_line n S f r p apart A ins w std.None g = record { inside = ins; settled = w.clash (g S r) }
+entered_line n S f r p apart A ins w (Some e) g = record { inside = ins; settled = w.ready (g S r) }
 
 module _ (n : ℕ) (S : List Fact) (f : Facts) (w : Ready n S f) (p q : Below) (apart : Bool) (t : Alternatives n S f p q apart) where
   abbrev pub S₁ : List Fact
@@ -49,10 +52,10 @@ module _ (n : ℕ) (S : List Fact) (f : Facts) (w : Ready n S f) (p q : Below) (
   adds₂ = adds_second n S w.inside w.free (has f) w.decides t.join t.is_first
 
   -- what they start from
-  pub first_line : (e : Settled) → EnteredOf n f (facts p false) e → Line n S₁ e
+  pub first_line : (e : Option Facts) → EnteredOf n f (facts p false) e → Line n S₁ e
   first_line e g = entered_line n S f w p false _ adds₁.inside t.first e g
 
-  pub second_line : (e : Settled) → EnteredOf n f (facts q apart) e → Line n S₂ e
+  pub second_line : (e : Option Facts) → EnteredOf n f (facts q apart) e → Line n S₂ e
   second_line e g = entered_line n S f w q apart _ adds₂.inside t.second e g
 
   -- how the search ends, from how they end
@@ -75,17 +78,17 @@ module _ (n : ℕ) (S : List Fact) (f : Facts) (w : Ready n S f) (p q : Below) (
 -- ---- what a line reports, with k alternatives entered before
 
 module _ (A n k : ℕ) (S : List Fact) where
-  pub line_clash : (s : Settled) → Line n S s → s.clash ≡ true → k ≤ A → (r : Searched) → r ≡ without_tree None k → Report A n k S r
-  line_clash s l e h r d = reports_search A n S (search_clash n S l.inside (l.clashes e)) k k r (omega arith) (reports_none A n k r h d)
+  pub line_clash : Line n S std.None → k ≤ A → Report A n k S (without_tree None k)
+  line_clash l h = reports_search A n S (search_clash n S l.inside l.settled) k k _ (omega arith) (reports_none A n k _ h refl)
 
   module _ (f : Facts) (w : Ready n S f) where
-    pub line_solved : first_join n (has f) ≡ none → k ≤ A → (r : Searched) → r.end ≡ Tree → r.count ≡ k → TreeRows n S r → Report A n k S r
-    line_solved e h r a b g =
-        reports_search A n S (search_solved n S w.inside w.free (has f) w.decides e) k k r (omega arith) (reports_tree A n k r S h a b g)
+    pub line_solved : first_join n (has f) ≡ none → k ≤ A → (s : Shown) → TreeRows n S s → Report A n k S (record { count = k; end = Tree s })
+    line_solved e h s g =
+        reports_search A n S (search_solved n S w.inside w.free (has f) w.decides e) k k _ (omega arith) (reports_tree A n k _ S s h refl refl g)
 
     module _ (p q : Below) (apart : Bool) (t : Alternatives n S f p q apart) where
-      pub line_spent : k ≡ A → (r : Searched) → r ≡ without_tree Spent k → Report A n k S r
-      line_spent e r d = let m = more n S f w p q apart t in reports_spent A n _ _ r (omega arith) (d ∙ ap (without_tree Spent) e)
+      pub line_spent : k ≡ A → Report A n k S (without_tree Spent k)
+      line_spent e = let m = more n S f w p q apart t in reports_spent A n _ _ _ (omega arith) (ap (without_tree Spent) e)
 
       -- from the first alternative's report
       module _ (r : Searched) (g : Report A n (k + 1) (S₁ n S f w p q apart t) r) where
@@ -107,11 +110,11 @@ module _ (A n k : ℕ) (S : List Fact) where
           pub first_counted : (k < r.count) × (r.count ≤ A)
           first_counted = let v = first_none in (omega arith, omega arith)
 
-          pub line_spent_second : r.count ≡ A → (z : Searched) → z ≡ without_tree Spent r.count → Report A n k S z
-          line_spent_second d z b =
+          pub line_spent_second : r.count ≡ A → Report A n k S (without_tree Spent r.count)
+          line_spent_second d =
               let v = first_none in
               let y = (went_on n S f w p q apart t v.is).count in
-              reports_spent A n _ _ z (omega arith) (b ∙ ap (without_tree Spent) d)
+              reports_spent A n _ _ _ (omega arith) (ap (without_tree Spent) d)
 
           pub line_second : (z : Searched) → Report A n (r.count + 1) (S₂ n S f w p q apart t) z → Report A n k S z
           line_second z h =

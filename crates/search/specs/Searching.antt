@@ -1,5 +1,5 @@
 -- What a line of the search starts from, and what it reports of the fixed search.
-use Rattle.std.specs.Prelude.{◌≡◌, Bool, true, false, ℕ, ◌+◌, ◌≤◌, ◌<◌, replicate}
+use Rattle.std.specs.Prelude.{◌≡◌, Bool, false, ℕ, ◌+◌, ◌≤◌, ◌<◌, Option, Some, None}
 use mathlib.Core.List.{List, ◌++◌, Memᴰ}
 use Rattle.std.proofs.Math.Option.{none, some}
 use Rattle.meaning.specs.Constraint.{Fact, below}
@@ -10,13 +10,12 @@ use Rattle.meaning.specs.Closed.{Inside}
 use Rattle.theory.specs.Search.{first_join, search}
 use Rattle.tables.specs.Tables.{has, showing, Ready}
 use Rattle.tables.specs.declared.Facts.{Facts}
-use Rattle.tables.specs.declared.Settled.{Settled}
 use Rattle.enter.specs.Entered.{entering, Forked}
 use Rattle.search.specs.declared.Below.{Below}
-use Rattle.search.specs.declared.Step.{Step}
-use Rattle.search.specs.declared.Step.TheVariants.{Solved, Split}
+use Rattle.search.specs.declared.Split.{Split}
+use Rattle.search.specs.declared.Shown.{Shown}
 use Rattle.search.specs.declared.End.{End}
-use Rattle.search.specs.declared.End.TheVariants.{Tree, None, Spent}
+use Rattle.search.specs.declared.End.TheVariants as end
 use Rattle.search.specs.declared.Searched.{Searched}
 
 -- ---- one step
@@ -45,10 +44,12 @@ pub record Alternatives (n : ℕ) (S : List Fact) (f : Facts) (p q : Below) (apa
   pub first : Enters n S p false (first_alternative join)
   pub second : Enters n S q apart (second_alternative join)
 
-abbrev pub StepOf : ℕ → Facts → Step → Type 0
-StepOf n f Solved = (S : List Fact) → Ready n S f → first_join n (has f) ≡ none
-StepOf n f (Split p q apart) =
-    PairInside n p × PairInside n q × (Yes apart → Forked f q.upper.0 q.lower.0) × ((S : List Fact) → Ready n S f → Alternatives n S f p q apart)
+-- no join is left, or what the two alternatives of the first join enter
+abbrev pub StepOf : ℕ → Facts → Option Split → Type 0
+StepOf n f None = (S : List Fact) → Ready n S f → first_join n (has f) ≡ none
+StepOf n f (Some s) =
+    PairInside n s.first × PairInside n s.second × (Yes s.apart → Forked f s.second.upper.0 s.second.lower.0)
+    × ((S : List Fact) → Ready n S f → Alternatives n S f s.first s.second s.apart)
 
 -- ---- a line
 
@@ -56,24 +57,27 @@ abbrev pub tables_of : (child parent below above differ before after label : Lis
 tables_of c p b a d e s l r f = record { child = c; parent = p; below = b; above = a; differ = d; before = e; after = s; root = r; label = l; leaf = f }
 
 -- tables that were settled for S: they decide its settled set, or S has a clash
-pub record Line (n : ℕ) (S : List Fact) (s : Settled) : Type 0 where
+abbrev pub SettledAs : ℕ → List Fact → Option Facts → Type 0
+SettledAs n S None = Clash n S
+SettledAs n S (Some f) = Ready n S f
+
+pub record Line (n : ℕ) (S : List Fact) (s : Option Facts) : Type 0 where
   pub inside : Inside n S
-  pub clashes : s.clash ≡ true → Clash n S
-  pub ready : s.clash ≡ false → Ready n S s.facts
+  pub settled : SettledAs n S s
 
--- an end without a tree: blank rows
+-- an end without a tree, after c alternatives in all
 abbrev pub without_tree : End → ℕ → Searched
-without_tree e c = record { end = e; root = 0; count = c; below = replicate 16 0; above = replicate 16 0; after = replicate 16 0; label = replicate 16 0 }
+without_tree e c = record { count = c; end = e }
 
--- the rows that r shows are those of tables that decide the settled set of R
-abbrev pub TreeRows : ℕ → List Fact → Searched → Type 0
-TreeRows n R r = (g : Facts) × Ready n R (showing r.below r.above r.after r.label r.root g)
+-- the rows that s shows are those of tables that decide the settled set of R
+abbrev pub TreeRows : ℕ → List Fact → Shown → Type 0
+TreeRows n R s = (g : Facts) × Ready n R (showing s.below s.above s.after s.label s.root g)
 
 -- r reports a search that ends in o after entering c alternatives in all
 pub record Reports (A n : ℕ) (o : Outcome) (c : ℕ) (r : Searched) : Type 0 where
-  pub spent : A < c → r ≡ without_tree Spent A
-  pub none : c ≤ A → o ≡ in_none → r ≡ without_tree None c
-  pub tree : c ≤ A → {R : List Fact} → o ≡ in_tree R → (r.end ≡ Tree) × (r.count ≡ c) × TreeRows n R r
+  pub spent : A < c → r ≡ without_tree end.Spent A
+  pub none : c ≤ A → o ≡ in_none → r ≡ without_tree end.None c
+  pub tree : c ≤ A → {R : List Fact} → o ≡ in_tree R → (s : Shown) × (r.end ≡ end.Tree s) × (r.count ≡ c) × TreeRows n R s
 
 -- the report of a search of S, with k alternatives entered before
 abbrev pub Report : ℕ → ℕ → ℕ → List Fact → Searched → Type 0
@@ -82,5 +86,5 @@ Report A n k S r = Reports A n (search n S).outcome (k + (search n S).count) r
 abbrev pub LineOf : ℕ → ℕ → Facts → ℕ → Searched → Type 0
 LineOf A n f k r = (S : List Fact) → Ready n S f → Report A n k S r
 
-abbrev pub SearchedOf : ℕ → ℕ → Settled → ℕ → Searched → Type 0
+abbrev pub SearchedOf : ℕ → ℕ → Option Facts → ℕ → Searched → Type 0
 SearchedOf A n s k r = (S : List Fact) → Line n S s → Report A n k S r

@@ -4,6 +4,8 @@ use mathlib.Core.Bool.{Bool, true, false}
 use mathlib.Core.List.{List}
 use Prim.Native.Nat.{ℕ, ◌+◌, ◌<◌, ◌≤◌}
 use native.Mathlib.Omega.{arith}
+use mir.Val.{Fits}
+use mir.Syntax.{w16}
 use Rattle.meaning.specs.Constraint.{Fact}
 use Rattle.meaning.specs.ReadOff.{Decides}
 use Rattle.meaning.specs.Finite.{Yes, pick, sum}
@@ -14,7 +16,7 @@ use Rattle.tables.specs.Tables.{row, has, Seeded, Ready}
 use Rattle.tables.specs.declared.Facts.{Facts}
 use Rattle.tables.specs.Free.{Bare}
 use Rattle.tables.proofs.Clashes.{free_clash}
-use Rattle.passes.specs.Steps.{weight, SteppedOf, PassRules}
+use Rattle.passes.specs.Steps.{weight, StepOf, PassRules}
 use Rattle.passes.specs.declared.Stepped.{Stepped}
 use Rattle.settle.proofs.Sibling.{SiblingRules}
 
@@ -33,17 +35,18 @@ module _ (n : ℕ) (S : List Fact) (f : Facts) (seed : Seeded n S f) (passed : P
     mirrored = record { parents = seed.parents; ancestors = passed.ancestors; siblings = seed.siblings };
   }
 
-pub grew : {G : Facts → Type 0} {n : ℕ} {f : Facts} {r : Stepped} → SteppedOf G n f r → r.clash ≡ false → r.more ≡ true → weight f < weight r.facts
+pub grew : {G : Facts → Type 0} {n : ℕ} {f : Facts} {r : Stepped} → StepOf G n f r → r.more ≡ true → weight f < weight r.facts
 unfolding pick
-grew {f = f} {r = r} w c m = let a : weight f + 1 ≤ weight r.facts = subst (λ (b : Bool). weight f + pick b 1 0 ≤ weight r.facts) m (w.grown c) in omega arith
+grew {f = f} {r = r} w m = let a : weight f + 1 ≤ weight r.facts = subst (λ (b : Bool). weight f + pick b 1 0 ≤ weight r.facts) m w.grown in omega arith
 
 -- no step makes the tables less
-pub no_less : {G : Facts → Type 0} {n : ℕ} {f : Facts} {r : Stepped} → SteppedOf G n f r → r.clash ≡ false → weight f ≤ weight r.facts
-no_less {f = f} {r = r} w c = let a : weight f + pick r.more 1 0 ≤ weight r.facts = w.grown c in omega arith
+pub no_less : {G : Facts → Type 0} {n : ℕ} {f : Facts} {r : Stepped} → StepOf G n f r → weight f ≤ weight r.facts
+no_less {f = f} {r = r} w = let a : weight f + pick r.more 1 0 ≤ weight r.facts = w.grown in omega arith
 
-pub weight_most : (f : Facts) → ((x : ℕ) → row f.below x < 65536) → ((x : ℕ) → row f.child x < 65536) → ((x : ℕ) → row f.before x < 65536) → weight f ≤ 3145680
+pub weight_most : (f : Facts) → ((x : ℕ) → Fits w16 (row f.below x)) → ((x : ℕ) → Fits w16 (row f.child x)) → ((x : ℕ) → Fits w16 (row f.before x))
+    → weight f ≤ 3145680
 unfolding weight
 weight_most f b c d = let p = most (row f.below) b in let q = most (row f.child) c in let r = most (row f.before) d in omega arith
   where
-    most : (t : ℕ → ℕ) → ((x : ℕ) → t x < 65536) → sum 16 t ≤ 1048560
-    most t h = sum_bound 16 65535 t (λ x l. let a = h x in omega arith)
+    most : (t : ℕ → ℕ) → ((x : ℕ) → Fits w16 (t x)) → sum 16 t ≤ 1048560
+    most t h = sum_bound 16 65535 t (λ x l. let a = (h x).fits in omega arith)

@@ -1,3 +1,4 @@
 mod Reaching
 mod Sibling
 mod Ending
+pub mod Rounds

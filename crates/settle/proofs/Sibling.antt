@@ -1,7 +1,7 @@
 -- What settling does for siblings, in two steps: before takes the rows that were shared and chained, then child those that were passed along it, and
 -- differ what each gives. For every S that the tables are to settle from, either step leaves tables to settle S from. What a pass closed stays
 -- closed under the first; where child gained nothing the rules of siblings hold after it, and the second is not made.
-use mathlib.Core.Path.{◌≡◌, sym, ◌∙◌, subst}
+use mathlib.Core.Path.{◌≡◌, refl, sym, ◌∙◌, subst}
 use mathlib.Core.Logic.{inl, inr, ⊎_elim}
 use mathlib.Core.Bool.{Bool, true, false}
 use mathlib.Core.List.{List}
@@ -18,16 +18,15 @@ use Rattle.meaning.proofs.Finite.{sum_le, sum_lt}
 use Rattle.meaning.proofs.Least.{settled_within}
 use Rattle.rowbits.specs.Bit.{bit}
 use Rattle.tables.specs.Tables.{row, has, Columns, Sound, Seeded}
-use Rattle.tables.specs.Rows.{Blank, Transposed}
+use Rattle.tables.specs.Rows.{Blank, Crossed, Transposed}
 use Rattle.tables.specs.Free.{Clear, Bare}
 use Rattle.tables.specs.declared.Facts.{Facts}
 use Rattle.tables.proofs.Bits.{in_both, both_in, none_in}
 use Rattle.tables.proofs.Loops.{transposed_columns}
 use Rattle.tables.proofs.Clashes.{crossed_clash, uncrossed_clear}
 use Rattle.passes.specs.Rows.{In}
-use Rattle.settle.specs.Siblings.{Unlike, Groupwise, PassedOn, Parted, OrderOf}
+use Rattle.settle.specs.Siblings.{Unlike, Groupwise, PassedOn, Parted, InOrder}
 use Rattle.passes.specs.Steps.{weight, PassRules}
-use Rattle.settle.specs.declared.Order.{Order}
 
 -- the group of rules of siblings; none is above the other
 pub record SiblingRules (n : ℕ) (f : Facts) : Type 0 where
@@ -60,17 +59,21 @@ module _ {t rows columns r : List ℕ} (w : Parted t rows columns r) (m : Turned
 
 -- ---- with the new rows of before
 
-abbrev pub ordering : Facts → Order → List ℕ → Facts
-ordering f r differs = record { child = f.child; parent = f.parent; below = f.below; above = f.above; differ = differs; before = r.before; after = r.after; root = f.root; label = f.label; leaf = f.leaf }
+abbrev pub ordering : Facts → (befores afters differs : List ℕ) → Facts
+ordering f b a d = record { child = f.child; parent = f.parent; below = f.below; above = f.above; differ = d; before = b; after = a; root = f.root; label = f.label; leaf = f.leaf }
 
--- what settling knows where it was computed
-pub record Rowed (n : ℕ) (f : Facts) (r : Order) : Type 0 where
+-- what settling knows where they were computed
+pub record Rowed (n : ℕ) (f : Facts) (befores : List ℕ) : Type 0 where
   pub few : n ≤ 16
   pub columns : Columns f.below f.above
-  pub order : OrderOf n f.before f.below f.above r
-  pub after_long : length r.after ≡ 16
+  pub order : InOrder n f.before f.below f.above befores
 
-module _ {n : ℕ} {f : Facts} {r : Order} (o : Rowed n f r) (S : List Fact) (seed : Seeded n S f) where
+-- and of their columns
+pub record Columned (befores afters : List ℕ) : Type 0 where
+  pub columns : Transposed befores afters
+  pub long : length afters ≡ 16
+
+module _ {n : ℕ} {f : Facts} {befores : List ℕ} (o : Rowed n f befores) (S : List Fact) (seed : Seeded n S f) where
   in_16 : {x : ℕ} → x < n → x < 16
   in_16 h = le_trans h o.few
 
@@ -96,40 +99,43 @@ module _ {n : ℕ} {f : Facts} {r : Order} (o : Rowed n f r) (S : List Fact) (se
       subst (λ (k : ℕ). Yes (bit k y)) (sym (o.order.common.rows x))
       (both_in (row f.below x) (row f.above x) y u (o.columns y x (in_16 i.1) (in_16 i.0) ∙ v))
 
-  before_s : (x y : ℕ) → In r.before x y → Settled n S (before x y)
+  before_s : (x y : ℕ) → In befores x y → Settled n S (before x y)
   unfolding has
   before_s = o.order.ordered.sound S (λ x y. seed.sound (before x y)) (λ x y u. let q = same_out x y u in (below_s x y q.0, below_s y x q.1))
 
-  before_in : (x y : ℕ) → In r.before x y → (x < n) × (y < n)
+  before_in : (x y : ℕ) → In befores x y → (x < n) × (y < n)
   before_in x y u = within (before x y) (before_s x y u)
 
-  turned : Turned r.before r.after
-  turned = turned_rows o.few o.order.columns o.after_long before_in
-
-  sound_with : (differs : List ℕ) → ((x y : ℕ) → In differs x y → Settled n S (differ x y)) → Sound n S (ordering f r differs)
+  sound_with : (afters differs : List ℕ) → ((x y : ℕ) → In differs x y → Settled n S (differ x y)) → Sound n S (ordering f befores afters differs)
   unfolding has
-  sound_with t h (child x y) u = seed.sound (child x y) u
-  sound_with t h (below x y) u = seed.sound (below x y) u
-  sound_with t h (differ x y) u = h x y u
-  sound_with t h (before x y) u = before_s x y u
-  sound_with t h (root x) u = seed.sound (root x) u
-  sound_with t h (leaf x) u = seed.sound (leaf x) u
-  sound_with t h (label x l) u = seed.sound (label x l) u
+  sound_with a t h (child x y) u = seed.sound (child x y) u
+  sound_with a t h (below x y) u = seed.sound (below x y) u
+  sound_with a t h (differ x y) u = h x y u
+  sound_with a t h (before x y) u = before_s x y u
+  sound_with a t h (root x) u = seed.sound (root x) u
+  sound_with a t h (leaf x) u = seed.sound (leaf x) u
+  sound_with a t h (label x l) u = seed.sound (label x l) u
 
-  pub ordered_clash : r.clash ≡ true → Clash n S
+  pub ordered_clash : Crossed befores f.below f.above true → Clash n S
   unfolding has
-  ordered_clash e =
-      let h = sound_with f.differ (λ x y. seed.sound (differ x y)) in
-      crossed_clash n o.few (ordering f r f.differ) o.columns (λ φ u. within φ (h φ u)) r.clash o.order.crossed S h e
+  ordered_clash w =
+      let h = sound_with f.after f.differ (λ x y. seed.sound (differ x y)) in
+      crossed_clash n o.few (ordering f befores f.after f.differ) o.columns (λ φ u. within φ (h φ u)) true w S h refl
 
-  module _ {differs : List ℕ} (d : Parted f.differ r.before r.after differs) where
+  turned : {afters : List ℕ} → Columned befores afters → Turned befores afters
+  turned m = turned_rows o.few m.columns m.long before_in
+
+  module _ {afters differs : List ℕ} (m : Columned befores afters) (d : Parted f.differ befores afters differs) where
     abbrev g : Facts
-    g = ordering f r differs
+    g = ordering f befores afters differs
+
+    turns : Turned befores afters
+    turns = turned m
 
     sound : Sound n S g
     unfolding has
-    sound = sound_with differs
-        (parted_least d turned (λ i j. Settled n S (differ i j)) (λ i j. differ_back) (λ i j. seed.sound (differ i j)) (λ i j u. before_differ (before_s i j u)))
+    sound = sound_with afters differs
+        (parted_least d turns (λ i j. Settled n S (differ i j)) (λ i j. differ_back) (λ i j. seed.sound (differ i j)) (λ i j u. before_differ (before_s i j u)))
 
     keeps : (φ : Fact) → Yes (has f φ) → Yes (has g φ)
     unfolding has
@@ -149,9 +155,9 @@ module _ {n : ℕ} {f : Facts} {r : Order} (o : Rowed n f r) (S : List Fact) (se
       sound = sound;
       child_differ = λ x y u. d.to x y (inl (seed.child_differ x y u));
       before_differ = λ x y u. d.to x y (inr (inl u));
-      turned = parted_turned d turned seed.turned;
+      turned = parted_turned d turns seed.turned;
       parents = seed.parents;
-      siblings = transposed_columns o.order.columns;
+      siblings = transposed_columns m.columns;
     }
 
     -- roots, leaves and labels are as they were
@@ -159,9 +165,9 @@ module _ {n : ℕ} {f : Facts} {r : Order} (o : Rowed n f r) (S : List Fact) (se
     unfolding has
     ordered_bare b = record { no_leaf = b.no_leaf; no_label = b.no_label }
 
-    module _ (e : r.clash ≡ false) (p : PassRules n f) where
+    module _ (k : Crossed befores f.below f.above false) (p : PassRules n f) where
       clear : Clear (λ φ. Yes (has g φ))
-      clear = uncrossed_clear n o.few g o.columns (λ φ u. within φ (sound φ u)) r.clash o.order.crossed e
+      clear = uncrossed_clear n o.few g o.columns (λ φ u. within φ (sound φ u)) false k refl
 
       groups : Groupwise n same
       unfolding has
@@ -174,19 +180,19 @@ module _ {n : ℕ} {f : Facts} {r : Order} (o : Rowed n f r) (S : List Fact) (se
       unfolding has
       first_in x y u = within (before x y) (seed.sound (before x y) u)
 
-      firsts : (x y u : ℕ) → In f.below x u → In f.below u x → In r.before x y → In r.before u y
+      firsts : (x y u : ℕ) → In f.below x u → In f.below u x → In befores x y → In befores u y
       firsts x y u a b = o.order.ordered.firsts groups first_in x y u (same_in u x b a)
 
-      lasts : (x y u : ℕ) → In f.below y u → In f.below u y → In r.before x y → In r.before x u
+      lasts : (x y u : ℕ) → In f.below y u → In f.below u y → In befores x y → In befores x u
       lasts x y u a b = o.order.ordered.lasts groups first_in x y u (same_in y u a b)
 
       same_differ : (x y u : ℕ) → In f.below x u → In f.below u x → In differs x y → In differs u y
       unfolding has
       same_differ x y u a b v = d.to u y (⊎_elim (λ c. inl (p.sharing.same_differ x y u a b c))
-          (λ c. inr (⊎_elim (λ c. inl (firsts x y u a b c)) (λ c. inr (turned.back y u (lasts y x u a b (turned.fro x y c)))) c)) (d.from x y v))
+          (λ c. inr (⊎_elim (λ c. inl (firsts x y u a b c)) (λ c. inr (turns.back y u (lasts y x u a b (turns.fro x y c)))) c)) (d.from x y v))
 
       -- nothing is before itself, since it is below itself
-      no_before : (x : ℕ) → In r.before x x → ⊥
+      no_before : (x : ℕ) → In befores x x → ⊥
       unfolding has
       no_before x u = clear.not_above x x u (p.sharing.self_below x (before_in x x u).0)
 
@@ -200,7 +206,7 @@ module _ {n : ℕ} {f : Facts} {r : Order} (o : Rowed n f r) (S : List Fact) (se
           chain = p.sharing.chain;
           root_below = p.sharing.root_below;
           leaf_below = p.sharing.leaf_below;
-          differ_back = parted_turned d turned seed.turned;
+          differ_back = parted_turned d turns seed.turned;
           same_parent = p.sharing.same_parent;
           same_child = p.sharing.same_child;
           same_differ = same_differ;
@@ -210,19 +216,19 @@ module _ {n : ℕ} {f : Facts} {r : Order} (o : Rowed n f r) (S : List Fact) (se
         };
         one_parent = p.one_parent;
         one_element = p.one_element;
-        apart = λ x u. ⊎_elim (p.apart x) (⊎_elim (no_before x) (λ v. no_before x (turned.fro x x v))) (d.from x x u);
+        apart = λ x u. ⊎_elim (p.apart x) (⊎_elim (no_before x) (λ v. no_before x (turns.fro x x v))) (d.from x x u);
         ancestors = p.ancestors;
       }
 
       -- where child gained nothing
-      pub ordered_closed : {childs : List ℕ} {b : Bool} → PassedOn f.child r.before r.after childs → Unlike f.child childs b → b ≡ false → SiblingRules n g
+      pub ordered_closed : {childs : List ℕ} {b : Bool} → PassedOn f.child befores afters childs → Unlike f.child childs b → b ≡ false → SiblingRules n g
       unfolding has
       ordered_closed {childs} c u z = record {
         siblings = record {
           before_chain = λ x y z u v. let i = before_in x y u in o.order.ordered.chained x y z (in_16 i.0) i.1 u v;
           before_differ = λ x y u. d.to x y (inr (inl u));
           before_child = λ x y u p q. was u y (child_in u x q) (c.later x y u (child_in u x q) p q);
-          after_child = λ x y u p q. was u x (child_in u y q) (c.earlier x y u (child_in u y q) (turned.back x y p) q);
+          after_child = λ x y u p q. was u x (child_in u y q) (c.earlier x y u (child_in u y q) (turns.back x y p) q);
           same_before = firsts;
           same_after = lasts;
         };
@@ -284,18 +290,18 @@ module _ {n : ℕ} {f : Facts} {childs parents differs : List ℕ} (few : n ≤ 
 
 -- ---- both, and that the tables grew
 
-module _ {n : ℕ} {f : Facts} {r : Order} {differs childs : List ℕ} (o : Rowed n f r) (d : Parted f.differ r.before r.after differs)
-    (c : PassedOn f.child r.before r.after childs) where
-  pub both_seeded : {parents aparts : List ℕ} → Transposed childs parents → length parents ≡ 16 → Parted differs childs parents aparts → (S : List Fact) → Seeded n S f
-      → Seeded n S (passing (ordering f r differs) childs parents aparts)
-  both_seeded t long e S seed = passed_seeded o.few c t long (turned o S seed) e S (ordered_seeded o S seed d)
+module _ {n : ℕ} {f : Facts} {befores afters differs childs : List ℕ} (o : Rowed n f befores) (d : Parted f.differ befores afters differs)
+    (c : PassedOn f.child befores afters childs) where
+  pub both_seeded : {parents aparts : List ℕ} → Columned befores afters → Transposed childs parents → length parents ≡ 16 → Parted differs childs parents aparts → (S : List Fact) → Seeded n S f
+      → Seeded n S (passing (ordering f befores afters differs) childs parents aparts)
+  both_seeded m t long e S seed = passed_seeded o.few c t long (turned o S seed m) e S (ordered_seeded o S seed m d)
 
-  pub both_grew : (parents aparts : List ℕ) {b : Bool} → Unlike f.child childs b → b ≡ true → weight f < weight (passing (ordering f r differs) childs parents aparts)
+  pub both_grew : (parents aparts : List ℕ) {b : Bool} → Unlike f.child childs b → b ≡ true → weight f < weight (passing (ordering f befores afters differs) childs parents aparts)
   unfolding weight
   both_grew parents aparts u m =
       let w = u.some m in
       let p = sum_lt 16 (row f.child) (row childs) (λ k _. (c.up k).most) w.0 w.1 (let l = (c.up w.0).most in let q = w.2 in omega arith) in
-      let q = sum_le 16 (row f.before) (row r.before) (λ k _. (o.order.ordered.up k).most) in
+      let q = sum_le 16 (row f.before) (row befores) (λ k _. (o.order.ordered.up k).most) in
       omega arith
 
 -- ---- tables without a before fact need neither

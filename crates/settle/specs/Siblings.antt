@@ -1,5 +1,5 @@
 -- What is computed of siblings, table by table: settling puts the tables together.
-use Rattle.std.specs.Prelude.{Bool, true, false, ◌≡◌, ◌≢◌, ◌⊎◌, List, ℕ, ◌<◌}
+use Rattle.std.specs.Prelude.{Bool, true, false, ◌≡◌, ◌≢◌, ◌⊎◌, List, ℕ, ◌<◌, MatchOption, Option}
 use Rattle.meaning.specs.Constraint.{Fact, child, below, before}
 use Rattle.meaning.specs.Settled.{Settled}
 use Rattle.tables.specs.Tables.{row}
@@ -46,10 +46,23 @@ pub record Parted (t rows columns r : List ℕ) : Type 0 where
   pub from : (x y : ℕ) → In r x y → In t x y ⊎ (In rows x y ⊎ In columns x y)
   pub to : (x y : ℕ) → In t x y ⊎ (In rows x y ⊎ In columns x y) → In r x y
 
--- the rows of before as the groups of below order them, their columns, and whether they have a number in common with below or above
-pub record OrderOf (n : ℕ) (t below above : List ℕ) (r : Order) : Type 0 where
+-- the rows of before as the groups of below order them
+pub record InOrder (n : ℕ) (t below above r : List ℕ) : Type 0 where
   pub same : List ℕ
   pub common : Common below above same
-  pub ordered : Ordered n t same r.before
+  pub ordered : Ordered n t same r
+
+-- they have a number in common with below or above
+pub record Crossing (n : ℕ) (t below above : List ℕ) : Type 0 where
+  pub rows : List ℕ
+  pub order : InOrder n t below above rows
+  pub crossed : Crossed rows below above true
+
+-- they have none, and here they are with their columns
+pub record Uncrossed (n : ℕ) (t below above : List ℕ) (r : Order) : Type 0 where
+  pub order : InOrder n t below above r.before
+  pub crossed : Crossed r.before below above false
   pub columns : Transposed r.before r.after
-  pub crossed : Crossed r.before below above r.clash
+
+abbrev pub OrderOf : ℕ → (t below above : List ℕ) → Option Order → Type 0
+OrderOf n t b a r = MatchOption r (Crossing n t b a) (Uncrossed n t b a)

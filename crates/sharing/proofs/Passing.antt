@@ -14,7 +14,7 @@ use Rattle.rowbits.specs.Bit.{bit}
 use Rattle.tables.specs.Tables.{row}
 use Rattle.tables.proofs.Loops.{below_cases}
 use Rattle.tables.proofs.Members.{Passed, passed_all}
-use Rattle.sharing.specs.Shares.{share_at, Taking, Taken, ShareOf, GroupClash, SharedOf}
+use Rattle.sharing.specs.Shares.{Clashing, share_at, stored, Taking, Taken, ShareOf, GroupClash, two_labels, Shared}
 use Rattle.sharing.specs.declared.Share.{Share}
 use Rattle.sharing.specs.declared.Shares.{Shares}
 
@@ -29,9 +29,6 @@ pub record Long (r : Shares) : Type 0 where
   pub parent : length r.parent ≡ 16
   pub differ : length r.differ ≡ 16
   pub label : length r.label ≡ 16
-
-abbrev pub stored : Shares → ℕ → Share → Shares
-stored r x s = record { child = set r.child x s.child; parent = set r.parent x s.parent; differ = set r.differ x s.differ; label = set r.label x s.label }
 
 module _ (same : List ℕ) (t : Shares) (several : ℕ) where
   pub share_of : (x ys v : ℕ) (s : Share) → ys ≡ 0 → Taking same t (row same x) s → v ≡ bit_or several (2 ^ x)
@@ -68,12 +65,13 @@ module _ (same : List ℕ) (t : Shares) (several : ℕ) where
       there : (k : ℕ) → k ≢ x → share_at (stored r x s) k ≡ share_at r k
       there k n = rw (other_row r.child x s.child k n, other_row r.parent x s.parent k n, other_row r.differ x s.differ k n, other_row r.label x s.label k n) refl
 
-  pub shared_rows : (n x : ℕ) (r : Shares) (c : Bool) → x ≤ n → n ≤ x → c ≡ false → Passing x r → SharedOf n t same several (record { clash = c; shares = r })
-  shared_rows n x r c most least e w = record {
-    clashes = λ d. absurd (false≢true (sym e ∙ d));
-    done = λ d k h. w.done k (omega arith);
-    rest = λ d k h. w.rest k (omega arith);
-  }
+  pub shared_rows : (n x : ℕ) (r : Shares) → x ≤ n → n ≤ x → Passing x r → Shared n t same several r
+  shared_rows n x r most least w = record { done = λ k h. w.done k (omega arith); rest = λ k h. w.rest k (omega arith) }
 
-  pub shared_clash : (n : ℕ) (r : Shares) → GroupClash n t same → SharedOf n t same several (record { clash = true; shares = r })
-  shared_clash n r h = record { clashes = λ d. h; done = λ d. absurd (false≢true (sym d)); rest = λ d. absurd (false≢true (sym d)) }
+  -- what was taken so far has another label than y
+  pub two_clash : (n x y : ℕ) (s : Share) → x < n → Taking same t (row same x) s → Yes (bit (row same x) y) → Clashing s.label (row t.label y) true
+      → GroupClash n t same
+  two_clash n x y s h w own k =
+      let q = k.clash refl in
+      let v = w.label q.0 in
+      two_labels x v.0 y h v.1 own (λ e. q.0 (sym v.2 ∙ e)) q.1 (λ e. q.2 (sym v.2 ∙ e))

@@ -66,8 +66,14 @@ rows_grown {s} {r} {c} {p} {d} {l} e = record {
 }
 
 module _ (same : List ℕ) (t : Shares) (own : ℕ) where
-  pub taking_none : Taking same t own (record { child = 0; parent = 0; differ = 0; label = 0 })
-  taking_none = record { child = λ j u. none_in j u; parent = λ j u. none_in j u; differ = λ j u. none_in j u; label = λ z. absurd (z refl) }
+  -- nothing is taken yet
+  pub taking_none : (s : Share) → (s.child ≡ 0) × ((s.parent ≡ 0) × ((s.differ ≡ 0) × (s.label ≡ 0))) → Taking same t own s
+  taking_none s (c, (p, (d, l))) = record {
+    child = λ j u. none_in j (of j c u);
+    parent = λ j u. none_in j (of j p u);
+    differ = λ j u. none_in j (of j d u);
+    label = λ z. absurd (z l);
+  }
 
   -- the rows of y are added, before the loop over z
   pub added : {s r : Share} (y : ℕ) → Taking same t own s → Yes (bit own y)

@@ -1,5 +1,5 @@
 -- What the loops of a pass give each variable: all that its group has, with the groups of what the group has.
-use Rattle.std.specs.Prelude.{◌≡◌, ◌≢◌, ◌⊎◌, Bool, true, false, List, ℕ, ◌^◌, ◌<◌, ◌≤◌, eqb}
+use Rattle.std.specs.Prelude.{◌≡◌, ◌≢◌, ◌⊎◌, Bool, true, false, List, ℕ, ◌^◌, ◌<◌, ◌≤◌, eqb, set, MatchOption, Option}
 use Rattle.std.specs.Int.Bits.{bit_or}
 use Rattle.meaning.specs.Finite.{Yes, pick}
 use Rattle.rowbits.specs.Bit.{bit}
@@ -7,7 +7,6 @@ use Rattle.tables.specs.Tables.{row}
 use Rattle.tables.specs.Rows.{gained}
 use Rattle.sharing.specs.declared.Share.{Share}
 use Rattle.sharing.specs.declared.Shares.{Shares}
-use Rattle.sharing.specs.declared.Shared.{Shared}
 
 -- whether two labels, 0 for none, clash
 pub record Clashing (l m : ℕ) (r : Bool) : Type 0 where
@@ -29,6 +28,10 @@ pub record WithGroup (s : Share) (c p : Bool) (group : ℕ) (r : Share) : Type 0
 -- what variable x has
 abbrev pub share_at : Shares → ℕ → Share
 share_at t x = record { child = row t.child x; parent = row t.parent x; differ = row t.differ x; label = row t.label x }
+
+-- the tables where x has s
+abbrev pub stored : Shares → ℕ → Share → Shares
+stored t x s = record { child = set t.child x s.child; parent = set t.parent x s.parent; differ = set t.differ x s.differ; label = set t.label x s.label }
 
 -- j is in a row of the group, or the same as a number of such a row
 abbrev pub Source : List ℕ → List ℕ → ℕ → ℕ → Type 0
@@ -67,7 +70,11 @@ pub data GroupClash (n : ℕ) (t : Shares) (same : List ℕ) : Type 0 where
       → row t.label y ≢ row t.label z → GroupClash n t same
   apart : (x y z : ℕ) → x < n → Yes (bit (row same x) y) → Yes (bit (row t.differ y) z) → Yes (bit (row same z) x) → GroupClash n t same
 
-pub record SharedOf (n : ℕ) (t : Shares) (same : List ℕ) (several : ℕ) (r : Shared) : Type 0 where
-  pub clashes : r.clash ≡ true → GroupClash n t same
-  pub done : r.clash ≡ false → (x : ℕ) → x < n → ShareOf same t several x (share_at r.shares x)
-  pub rest : r.clash ≡ false → (x : ℕ) → n ≤ x → share_at r.shares x ≡ share_at t x
+-- each x below n has its share, and the others have what they had
+pub record Shared (n : ℕ) (t : Shares) (same : List ℕ) (several : ℕ) (r : Shares) : Type 0 where
+  pub done : (x : ℕ) → x < n → ShareOf same t several x (share_at r x)
+  pub rest : (x : ℕ) → n ≤ x → share_at r x ≡ share_at t x
+
+-- None is a clash
+abbrev pub SharedOf : ℕ → Shares → List ℕ → ℕ → Option Shares → Type 0
+SharedOf n t same several r = MatchOption r (GroupClash n t same) (Shared n t same several)

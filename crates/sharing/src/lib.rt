@@ -1,9 +1,11 @@
 // Sharing: each variable takes what its group has. `share_rows` is pub only because crates are split: its caller shows what it requires.
 #![tactic(auto)]
 
-ghost use Rattle.std.specs.Prelude.{◌≡◌, ◌≤◌, eqb};
+ghost use Rattle.std.specs.Prelude.{◌≡◌, ◌<◌, eqb};
 ghost use Rattle.meaning.specs.Finite.{pick};
-ghost use Rattle.sharing.specs.Shares.{Clashing, WithRows, WithGroup, SharedOf};
+ghost use Rattle.sharing.specs.Shares.{Clashing, WithRows, WithGroup, share_at, stored, SharedOf};
+
+use ids::Variables;
 
 fn clashes(l: u8, m: u8) -> bool
     ensures { Clashing l m result }
@@ -21,7 +23,7 @@ fn either_label(l: u8, m: u8) -> u8
 }
 
 // What a variable takes from its group.
-#[derive(Clone, Copy)]
+#[derive(Clone, Copy, Default)]
 pub struct Share {
     pub child: u16,
     pub parent: u16,
@@ -29,26 +31,29 @@ pub struct Share {
     pub label: u8,
 }
 
-fn with_rows(s: Share, child: u16, parent: u16, differ: u16, label: u8) -> Share
-    ensures { WithRows s child parent differ label result }
-{
-    Share {
-        child: s.child | child,
-        parent: s.parent | parent,
-        differ: s.differ | differ,
-        label: either_label(s.label, label),
+impl Share {
+    // With all that one of the group has.
+    fn with_rows(self, of: Share) -> Share
+        ensures { WithRows self of.child of.parent of.differ of.label result }
+    {
+        Share {
+            child: self.child | of.child,
+            parent: self.parent | of.parent,
+            differ: self.differ | of.differ,
+            label: either_label(self.label, of.label),
+        }
     }
-}
 
-// With a group that differs, and may be of children or of parents.
-fn with_group(s: Share, child: bool, parent: bool, group: u16) -> Share
-    ensures { WithGroup s child parent group result }
-{
-    Share {
-        child: tables::gain(child, s.child, group),
-        parent: tables::gain(parent, s.parent, group),
-        differ: s.differ | group,
-        label: s.label,
+    // With a group that differs, and may be of children or of parents.
+    fn with_group(self, child: bool, parent: bool, group: u16) -> Share
+        ensures { WithGroup self child parent group result }
+    {
+        Share {
+            child: tables::gain(child, self.child, group),
+            parent: tables::gain(parent, self.parent, group),
+            differ: self.differ | group,
+            label: self.label,
+        }
     }
 }
 
@@ -61,57 +66,64 @@ pub struct Shares {
     pub label: [u8; 16],
 }
 
-#[derive(Clone, Copy)]
-pub struct Shared {
-    pub clash: bool,
-    pub shares: Shares,
+impl Shares {
+    // What x has.
+    fn row(&self, x: usize) -> Share
+        requires { x < 16 }
+        ensures { result ≡ share_at self.now x }
+    {
+        Share {
+            child: self.child[x],
+            parent: self.parent[x],
+            differ: self.differ[x],
+            label: self.label[x],
+        }
+    }
+
+    // Now x has s.
+    fn set(&mut self, x: usize, s: Share)
+        requires { x < 16 }
+        ensures { self.new ≡ stored self.old x s }
+    {
+        self.child[x] = s.child;
+        self.parent[x] = s.parent;
+        self.differ[x] = s.differ;
+        self.label[x] = s.label;
+    }
 }
 
 // The loops of a pass: x takes what each y of its group has: its label, and its child, parent and differ with the group of z, for each z
-// that y has.
-pub fn share_rows(t: Shares, same: [u16; 16], several: u16, n: usize) -> Shared
-    requires { n ≤ 16 }
-    ensures { SharedOf n t same several result }
+// that y has. None where they clash.
+pub fn share_rows(t: Shares, same: [u16; 16], several: u16, n: Variables) -> Option<Shares>
+    ensures { SharedOf n.count t same several result }
 {
     let mut shares = t;
-    let mut clash = false;
-    'pass: for x in 0..n {
-        let visits = several | tables::one(x);
-        let mut s = Share {
-            child: 0,
-            parent: 0,
-            differ: 0,
-            label: 0,
-        };
-        let mut ys = same[x];
-        while ys != 0 {
-            let y = tables::lowest(ys);
-            let ly = t.label[y];
-            if clashes(s.label, ly) {
-                clash = true;
-                break 'pass;
-            }
-            let cy = t.child[y];
-            let py = t.parent[y];
-            let dy = t.differ[y];
-            s = with_rows(s, cy, py, dy, ly);
-            let mut zs = dy & visits;
-            while zs != 0 {
-                let z = tables::lowest(zs);
-                let group = same[z];
-                if rowbits::has(group, x) {
-                    clash = true;
-                    break 'pass;
+    'pass: {
+        for x in 0..n.count {
+            let visits = several | tables::one(x);
+            let mut s = Share::default();
+            let mut ys = same[x];
+            while ys != 0 {
+                let y = tables::lowest(ys);
+                let of = t.row(y);
+                if clashes(s.label, of.label) {
+                    break 'pass None;
                 }
-                s = with_group(s, rowbits::has(cy, z), rowbits::has(py, z), group);
-                zs = tables::rest(zs);
+                s = s.with_rows(of);
+                let mut zs = of.differ & visits;
+                while zs != 0 {
+                    let z = tables::lowest(zs);
+                    let group = same[z];
+                    if rowbits::has(group, x) {
+                        break 'pass None;
+                    }
+                    s = s.with_group(rowbits::has(of.child, z), rowbits::has(of.parent, z), group);
+                    zs = tables::rest(zs);
+                }
+                ys = tables::rest(ys);
             }
-            ys = tables::rest(ys);
+            shares.set(x, s);
         }
-        shares.child[x] = s.child;
-        shares.parent[x] = s.parent;
-        shares.differ[x] = s.differ;
-        shares.label[x] = s.label;
+        Some(shares)
     }
-    Shared { clash, shares }
 }

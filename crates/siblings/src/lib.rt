@@ -36,35 +36,25 @@ fn family(before: [u16; 16], after: [u16; 16], group: u16) -> u16
 fn to_family(f: Facts, group: u16, parents: u16, earlier: u16, later: u16) -> Facts
     ensures { GivenToFamily f group parents earlier later result }
 {
-    let below = f.below;
-    let above = f.above;
-    let child = f.child;
-    let parent = f.parent;
-    let differ = f.differ;
-    let before = f.before;
-    let after = f.after;
-    let kin = family(before, after, group);
-    let over = tables::union_rows(above, parents);
-    let under = tables::union_rows(below, kin);
-    let new_before = tables::raise(before, earlier, later);
-    let new_after = tables::raise(after, later, earlier);
-    let new_child = tables::raise(child, parents, kin);
-    let new_parent = tables::raise(parent, kin, parents);
-    let new_below = tables::raise(below, over, under);
-    let new_above = tables::raise(above, under, over);
-    let new_differ = spread(spread(differ, earlier, later, later), parents, kin, kin);
-    let label = f.label;
+    let kin = family(f.before, f.after, group);
+    let over = tables::union_rows(f.above, parents);
+    let under = tables::union_rows(f.below, kin);
+    let before = tables::raise(f.before, earlier, later);
+    let after = tables::raise(f.after, later, earlier);
+    let child = tables::raise(f.child, parents, kin);
+    let parent = tables::raise(f.parent, kin, parents);
+    let below = tables::raise(f.below, over, under);
+    let above = tables::raise(f.above, under, over);
+    let differ = spread(spread(f.differ, earlier, later, later), parents, kin, kin);
     Facts {
-        child: new_child,
-        parent: new_parent,
-        below: new_below,
-        above: new_above,
-        differ: new_differ,
-        before: new_before,
-        after: new_after,
-        root: f.root,
-        label,
-        leaf: f.leaf,
+        child,
+        parent,
+        below,
+        above,
+        differ,
+        before,
+        after,
+        ..f
     }
 }
 
@@ -72,17 +62,12 @@ fn to_family(f: Facts, group: u16, parents: u16, earlier: u16, later: u16) -> Fa
 pub fn pass_on(f: Facts, group: u16, parents: u16) -> Facts
     ensures { PassedOf f group parents result }
 {
-    let before = f.before;
-    let after = f.after;
-    let later = tables::union_rows(before, group);
-    let earlier = tables::union_rows(after, group);
+    let later = tables::union_rows(f.before, group);
+    let earlier = tables::union_rows(f.after, group);
     if earlier | later == 0 {
         return f;
     }
-    let new_before = spread(before, group, later, earlier);
-    let new_after = spread(after, group, earlier, later);
-    let mut g = f;
-    g.before = new_before;
-    g.after = new_after;
-    to_family(g, group, parents, earlier, later)
+    let before = spread(f.before, group, later, earlier);
+    let after = spread(f.after, group, earlier, later);
+    to_family(Facts { before, after, ..f }, group, parents, earlier, later)
 }

@@ -17,7 +17,7 @@ use Rattle.tables.specs.declared.Facts.{Facts}
 use Rattle.tables.proofs.Bits.{in_both, both_in, all_is, all_has}
 use Rattle.tables.proofs.Loops.{below_cases}
 use Rattle.stages.specs.Found.{join_of, StageOf}
-use Rattle.stages.specs.declared.Found.TheVariants.{Nothing}
+use Rattle.std.specs.Prelude.{None}
 use Rattle.stages.proofs.Find.{first_of_is_none}
 
 -- no join at a z that was passed
@@ -29,7 +29,7 @@ pub none_more : (j : JoinKind) (n : ℕ) (f : Facts) (z : ℕ) → NoneBefore j 
 none_more j n f z before at S r k x y l hx hy =
     ⊎_elim (λ e. subst (λ (i : ℕ). ¬ Yes (is_a_join (has f) j i x y)) (sym e) (at S r x y hx hy)) (λ m. before S r k x y m hx hy) (below_cases l)
 
-pub none_first : (j : JoinKind) (n : ℕ) (f : Facts) (z : ℕ) → n ≤ z → NoneBefore j n f z → StageOf j n f Nothing
+pub none_first : (j : JoinKind) (n : ℕ) (f : Facts) (z : ℕ) → n ≤ z → NoneBefore j n f z → StageOf j n f None
 unfolding join_of
 none_first j n f z l before S r = sym (first_of_is_none n (is_a_join (has f) j) (join j) (λ k x y hk. before S r k x y (le_trans hk l)))
 

@@ -1,15 +1,18 @@
 -- The join that an answer names, and what the answer of a stage says of the tables.
-use Rattle.std.specs.Prelude.{◌≡◌, List, ℕ}
-use Rattle.std.proofs.Math.Option.{Option, none, some}
+use Rattle.std.specs.Prelude.{◌≡◌, List, ℕ, Option, Some, None}
+use Rattle.std.proofs.Math.Option as math
 use Rattle.meaning.specs.Constraint.{Fact}
 use Rattle.meaning.specs.FixedSearch.{JoinKind, parent_join, chain_join, sibling_join, document_join, Join, join}
 use Rattle.theory.specs.Search.{is_a_join, first_of}
 use Rattle.tables.specs.Tables.{has, Ready}
 use Rattle.tables.specs.declared.Facts.{Facts}
-use Rattle.stages.specs.declared.Found.{Found}
-use Rattle.stages.specs.declared.Found.TheVariants.{Nothing, One}
+use Rattle.stages.specs.declared.Join as coded-join
 use Rattle.stages.specs.declared.JoinKind as coded
 use Rattle.stages.specs.declared.JoinKind.TheVariants.{Parent, Chain, Sibling, Document}
+
+-- what the code answers
+abbrev pub Found : Type 0
+Found = Option coded-join.Join
 
 abbrev pub kind_of : coded.JoinKind → JoinKind
 kind_of Parent = parent_join
@@ -17,9 +20,9 @@ kind_of Chain = chain_join
 kind_of Sibling = sibling_join
 kind_of Document = document_join
 
-unfoldable pub join_of : Found → Option Join
-join_of Nothing = none
-join_of (One k z x y) = some (join (kind_of k) z.0 x.0 y.0)
+unfoldable pub join_of : Found → math.Option Join
+join_of None = math.none
+join_of (Some j) = math.some (join (kind_of j.kind) j.z.0 j.x.0 j.y.0)
 
 -- the first join of a kind, or nothing where there is none; so its variables are below n
 abbrev pub StageOf : JoinKind → ℕ → Facts → Found → Type 0

@@ -1,9 +1,10 @@
-// What a stage answers. Each kind of join has a stage, which finds the first of its kind: the smallest first variable, then the second, then the third.
+// What a stage finds. Each kind of join has a stage, which finds the first of its kind: the smallest first variable, then the second,
+// then the third.
 #![tactic(auto)]
 
 use ids::Var;
 
-#[derive(Clone, Copy)]
+#[derive(Clone, Copy, PartialEq, Eq)]
 pub enum JoinKind {
     Parent,
     Chain,
@@ -11,9 +12,12 @@ pub enum JoinKind {
     Document,
 }
 
-// A join by its kind and its variables, in the order in which they are compared: z, x, y; of siblings y, a, x; of the document node r, y, w.
-#[derive(Clone, Copy)]
-pub enum Found {
-    Nothing,
-    One(JoinKind, Var, Var, Var),
+// A join by its kind and its variables, in the order in which they are compared: z, x, y; of siblings y, a, x; of the document node
+// r, y, w.
+#[derive(Clone, Copy, PartialEq, Eq)]
+pub struct Join {
+    pub kind: JoinKind,
+    pub z: Var,
+    pub x: Var,
+    pub y: Var,
 }

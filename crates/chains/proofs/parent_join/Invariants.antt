@@ -1,5 +1,4 @@
 -- `chains::parent_join` meets its contract: the loop has passed no z with a parent join.
-use Prim.Native.Nat.{◌≤◌, ◌-◌}
 use Rattle.meaning.specs.FixedSearch.{parent_join}
 use Rattle.tables.specs.declared.Facts.{Facts}
 use Rattle.stages.specs.Found.{with_below}
@@ -8,7 +7,4 @@ use Rattle.stages.proofs.Stage.{NoneBefore}
 use Rattle.chains.proofs.parent_join.Given as goal
 
 abbrev pub invariant-loop-z : goal.invariant-loop-z
-invariant-loop-z l = (l.z ≤ l.n) × ((f : Facts) → NoneBefore parent_join l.n (with_parent l.parent (with_below l.below l.above f)) l.z)
-
-abbrev pub decreases-loop-z : goal.decreases-loop-z
-decreases-loop-z l = l.n - l.z
+invariant-loop-z l = (f : Facts) → NoneBefore parent_join l.fn.n.count (with_parent l.fn.parent (with_below l.fn.below l.fn.above f)) l.z

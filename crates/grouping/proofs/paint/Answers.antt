@@ -4,20 +4,11 @@ use Rattle.grouping.proofs.Loops.{painting_none, painting_more, was_painted, non
 use borrow.Author.Rules.{rules}
 use Rattle.grouping.proofs.paint.Goals as goal
 
-variable_in : (c : goal.After-lowest-x) → c.lowest-x.result < 16
-variable_in c = next_in_lem _ _ _ _ c.loop-rest.invariant.passed c.loop-rest-test.true c.lowest-x.ensures
-
 pub returns-then-l-eq0 : goal.returns-then-l-eq0
 returns-then-l-eq0 c = none_painted _ _ _ c.requires c.if-l-eq0.true
 
-pub loop-rest-init : goal.loop-rest-init
-loop-rest-init c = painting_none _ _ _ (search rules) c.ranges.rows.fits
-
 pub bounds-a-x : goal.bounds-a-x
-bounds-a-x c = variable_in c
-
-pub rest-rest-requires : goal.rest-rest-requires
-rest-rest-requires c = c.loop-rest-test.true
+bounds-a-x c = next_in_lem _ _ _ _ c.loop-rest.invariant.passed c.loop-rest-test.true c.lowest-x.ensures
 
 pub loop-rest-smaller : goal.loop-rest-smaller
 loop-rest-smaller c =

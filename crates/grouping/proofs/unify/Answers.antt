@@ -3,35 +3,43 @@ use mathlib.Core.Path.{refl, sym, ◌∙◌}
 use mir.Val.{Fits}
 use mir.Syntax.{w16}
 use Rattle.meaning.proofs.Tests.{not_yes}
-use Rattle.grouping.proofs.Making.{unify_differs, unify_labels, unify_document, unify_well}
+use Rattle.grouping.proofs.Making.{Masks, unify_differs, unify_labels, unify_document, unify_well}
 use borrow.Author.Rules.{rules}
 use Rattle.grouping.proofs.unify.Goals as goal
+use Rattle.grouping.proofs.unify.Goals.{After-union_rows-far}
+
+masks : (c : After-union_rows-far) → Masks c.args.f c.args.x c.args.lower c.args.upper c.when.result c.union_rows-far.result
+masks c =
+    let root : Fits w16 c.args.f.root = search (rules, c.well_formed) in
+    let leaf : Fits w16 c.args.f.leaf = search (rules, c.well_formed) in
+    record {
+      small = c.ranges.x.fits;
+      root_small = root.fits;
+      leaf_small = leaf.fits;
+      is_w = c.requires.0;
+      is_near = c.requires.1;
+      is_from = rw (c.when.ensures, c.meet.ensures);
+      is_far = c.union_rows-far.ensures;
+    }
 
 pub returns-then-meet : goal.returns-then-meet
 returns-then-meet c =
-    unify_differs _ _ _ _ _ _ c.ranges.x.fits c.requires.0 c.requires.1 c.union_rows-far.ensures (rw (c.when.ensures, c.meet.ensures))
-    _ c.union_rows-others.ensures (sym c.meet-2.ensures ∙ c.if-meet.true) _ c.refused.ensures
-
-pub two_labels-requires : goal.two_labels-requires
-two_labels-requires c = c.label_of-shown.ensures
+    unify_differs _ _ _ _ _ _ (masks (goal.at.returns-then-meet c).After-union_rows-far)
+    _ c.union_rows-others.ensures (sym c.meet-2.ensures ∙ c.if-meet.true)
 
 pub returns-then-two_labels : goal.returns-then-two_labels
 returns-then-two_labels c =
-    unify_labels _ _ _ _ _ _ c.ranges.x.fits c.requires.0 c.requires.1 c.union_rows-far.ensures (rw (c.when.ensures, c.meet.ensures))
-    _ c.label_of-shown.ensures (c.two_labels.ensures.two c.if-two_labels.true) _ c.refused-then-two_labels.ensures
+    unify_labels _ _ _ _ _ _ (masks (goal.at.returns-then-two_labels c).After-union_rows-far)
+    _ c.label_of-shown.ensures (c.two_labels.ensures.two c.if-two_labels.true)
 
 pub returns-then-on_document : goal.returns-then-on_document
 returns-then-on_document c =
-    unify_document _ _ _ _ _ _ c.ranges.x.fits c.requires.0 c.requires.1 c.union_rows-far.ensures (rw (c.when.ensures, c.meet.ensures))
-    (let h : Fits w16 c.args.f.root = search (rules, c.well_formed) in h.fits) (let h : Fits w16 c.args.f.leaf = search (rules, c.well_formed) in h.fits) _ c.label_of-shown.ensures (sym c.on_document.ensures ∙ c.if-on_document.true) _ c.refused-then-on_document.ensures
-
-pub paint-new_label-requires : goal.paint-new_label-requires
-paint-new_label-requires c = c.label_of-shown.ensures
+    unify_document _ _ _ _ _ _ (masks (goal.at.returns-then-on_document c).After-union_rows-far)
+    _ c.label_of-shown.ensures (sym c.on_document.ensures ∙ c.if-on_document.true)
 
 pub returns : goal.returns
 returns c =
-    unify_well _ _ _ _ _ _ c.ranges.x.fits c.requires.0 c.requires.1 c.union_rows-far.ensures (rw (c.when.ensures, c.meet.ensures))
-    (let h : Fits w16 c.args.f.root = search (rules, c.well_formed) in h.fits) (let h : Fits w16 c.args.f.leaf = search (rules, c.well_formed) in h.fits) _ _
+    unify_well _ _ _ _ _ _ (masks (goal.at.returns c).After-union_rows-far) _ _
     (record {
       is_parents = c.union_rows-parents.ensures;
       children = _;

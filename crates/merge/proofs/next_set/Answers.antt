@@ -10,15 +10,9 @@ use Rattle.merge.proofs.Loops.{none_apart, none_union, one_union}
 use borrow.Author.Rules.{rules}
 use Rattle.merge.proofs.next_set.Goals as goal
 
-pub returns-then-next-ne0 : goal.returns-then-next-ne0
-returns-then-next-ne0 c h a = inl (c.with_gap-next.ensures h, c.if-next-ne0.true)
-
 pub returns-then-root-eq0 : goal.returns-then-root-eq0
 returns-then-root-eq0 c h a =
     inr (0, rw (← c.if-next-ne0.false) (c.with_gap-next.ensures h), none_union _ _ c.if-root-eq0.true, none_apart _ 0 refl)
-
-pub offset_bounds-child-x : goal.offset_bounds-child-x
-offset_bounds-child-x c = omega (arith, lowest_in _ _ c.ranges.root.fits c.if-root-eq0.false c.lowest-x.ensures)
 
 pub bounds-child-x : goal.bounds-child-x
 bounds-child-x c = lowest_in _ _ c.ranges.root.fits c.if-root-eq0.false c.lowest-x.ensures

@@ -12,14 +12,8 @@ variable_in c = lowest_in _ _ c.ranges.rows.fits c.if-rows-eq0.false c.lowest-x.
 pub returns-then-rows-eq0 : goal.returns-then-rows-eq0
 returns-then-rows-eq0 c h = none_apart _ _ c.if-rows-eq0.true
 
-pub offset_bounds-below-x : goal.offset_bounds-below-x
-offset_bounds-below-x c = omega (arith, variable_in c)
-
 pub bounds-below-x : goal.bounds-below-x
 bounds-below-x c = variable_in c
-
-pub offset_bounds-above-x : goal.offset_bounds-above-x
-offset_bounds-above-x c = omega (arith, variable_in c)
 
 pub bounds-above-x : goal.bounds-above-x
 bounds-above-x c = variable_in c

@@ -1,12 +1,12 @@
--- `ordering::earliest` meets its contract: each member that was passed has one that goes before it.
+-- `ordering::earliest` meets its contract: some members are left, and each that was passed has one that goes before it.
 use mathlib.Core.Logic.{◌≢◌}
 use lib.Bits.{bit_and}
 use Rattle.tables.specs.Tables.{row}
 use Rattle.tables.proofs.Members.{Passed}
 use Rattle.ordering.proofs.earliest.Given as goal
 
-abbrev pub invariant-loop-left : goal.invariant-loop-left
-invariant-loop-left l = Passed (λ i. bit_and l.row (row l.after i) ≢ 0) l.row l.left
+abbrev pub invariant-loop-after : goal.invariant-loop-after
+invariant-loop-after l = record { some : l.left ≢ 0; passed : Passed (λ i. bit_and l.row (row l.after i) ≢ 0) l.row l.left }
 
-abbrev pub decreases-loop-left : goal.decreases-loop-left
-decreases-loop-left l = l.left
+abbrev pub decreases-loop-after : goal.decreases-loop-after
+decreases-loop-after l = l.left

@@ -1,10 +1,6 @@
 -- `passes::join_rows` meets its contract: the loop has joined the rows below x.
-use Prim.Native.Nat.{◌≤◌, ◌-◌}
 use Rattle.passes.proofs.Joining.{Joining}
 use Rattle.passes.proofs.join_rows.Given as goal
 
 abbrev pub invariant-loop-x : goal.invariant-loop-x
-invariant-loop-x l = (l.x ≤ l.n) × Joining l.initial.a l.above l.leaf l.root l.child l.parent l.x l.a l.more
-
-abbrev pub decreases-loop-x : goal.decreases-loop-x
-decreases-loop-x l = l.n - l.x
+invariant-loop-x l = Joining l.initial.a l.above l.leaf l.root l.child l.parent l.x l.a l.more

@@ -1,20 +1,12 @@
 -- `readoff::put` meets its contract.
+use mathlib.Core.Path.{◌≡◌}
+use Prim.Native.Nat.{◌+◌, ◌-◌, ◌*◌}
 use native.Mathlib.Omega.{arith}
-use lib.ListN.{length-set}
+use borrow.Author.Rules.{rules}
 use Rattle.readoff.proofs.Written.{put_four}
 use Rattle.readoff.proofs.put.Goals as goal
 
-pub bounds-answer-at-2 : goal.bounds-answer-at-2
-bounds-answer-at-2 c = simp length-set (omega arith)
-
-pub bounds-answer-at-3 : goal.bounds-answer-at-3
-bounds-answer-at-3 c = simp length-set (omega arith)
-
-pub bounds-answer-at-4 : goal.bounds-answer-at-4
-bounds-answer-at-4 c = simp length-set (omega arith)
-
-pub shape_of-answer : goal.shape_of-answer
-shape_of-answer c = simp length-set
-
 pub returns : goal.returns
-returns c = put_four c.args.number c.args.kind c.args.own c.args.node c.args.last c.args.answer.now c.requires
+returns c =
+    let width : c.args.number * 4 + 4 - c.args.number * 4 ≡ 4 = omega arith in
+    rw (c.copy_from_slice.ensures.after, width) (put_four c.args.number c.args.bytes c.args.answer.now (search rules) c.requires)

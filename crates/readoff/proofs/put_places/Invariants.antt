@@ -1,11 +1,8 @@
 -- `readoff::put_places` meets its contract: at x the places of the variables below x are written.
-use Prim.Native.Nat.{◌+◌, ◌≤◌, ◌-◌}
+use Prim.Native.Nat.{◌+◌}
 use Rattle.readoff.specs.Nodes.{node_numbers}
 use Rattle.readoff.specs.Written.{Recorded, place_record}
 use Rattle.readoff.proofs.put_places.Given as goal
 
 abbrev pub invariant-loop-x : goal.invariant-loop-x
-invariant-loop-x l = (l.x ≤ l.n) × Recorded (λ y. l.first + y) (place_record (node_numbers l.n l.nodes)) l.x l.initial.answer l.answer
-
-abbrev pub decreases-loop-x : goal.decreases-loop-x
-decreases-loop-x l = l.n - l.x
+invariant-loop-x l = Recorded (λ y. l.first + y) (place_record (node_numbers l.fn.n.count l.nodes)) l.x l.initial.answer l.answer

@@ -1,5 +1,4 @@
 -- `settle::reach` meets its contract: z by z each row gains row z of b where the same row of a has z.
-use Prim.Native.Nat.{◌≤◌, ◌-◌}
 use Rattle.rowbits.specs.Bit.{bit}
 use Rattle.tables.specs.Tables.{row}
 use Rattle.tables.specs.Rows.{gained}
@@ -8,13 +7,7 @@ use Rattle.settle.proofs.Reaching.{Reaching}
 use Rattle.settle.proofs.reach.Given as goal
 
 abbrev pub invariant-loop-x : goal.invariant-loop-x
-invariant-loop-x l = (l.x ≤ 16) × Rowing (λ k v. gained (bit (row l.a k) l.z) v l.by) 16 l.initial.r l.x l.r
-
-abbrev pub decreases-loop-x : goal.decreases-loop-x
-decreases-loop-x l = 16 - l.x
+invariant-loop-x l = Rowing (λ k v. gained (bit (row l.a k) l.z) v l.by) 16 l.initial.r l.x l.r
 
 abbrev pub invariant-loop-z : goal.invariant-loop-z
-invariant-loop-z l = (l.z ≤ 16) × Reaching l.initial.r l.a l.b l.z l.r
-
-abbrev pub decreases-loop-z : goal.decreases-loop-z
-decreases-loop-z l = 16 - l.z
+invariant-loop-z l = Reaching l.initial.r l.a l.b l.z l.r

@@ -7,7 +7,7 @@ use Rattle.passes.specs.Steps.{weight}
 use Rattle.settle.proofs.settle.Given as goal
 
 abbrev pub invariant-loop-p : goal.invariant-loop-p
-invariant-loop-p l = (S : List Fact) → Seeded l.n S l.f → Seeded l.n S l.g
+invariant-loop-p l = (S : List Fact) → Seeded l.n.count S l.fn.f → Seeded l.n.count S l.g
 
 abbrev pub decreases-loop-p : goal.decreases-loop-p
 decreases-loop-p l = 3145728 - weight l.g
