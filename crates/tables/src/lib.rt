@@ -25,13 +25,6 @@ pub struct Facts {
     pub leaf: u16,
 }
 
-// What settling answers: settled tables, or a clash and the tables that came in.
-#[derive(Clone, Copy)]
-pub struct Settled {
-    pub clash: bool,
-    pub facts: Facts,
-}
-
 pub fn one(y: usize) -> u16
     requires { y < 16 }
     ensures { result ≡ 2 ^ y }
