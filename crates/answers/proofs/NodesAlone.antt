@@ -4,16 +4,16 @@ use mathlib.Core.Bool.{Bool, true, false}
 use mathlib.Core.List.{List, [], ◌∷◌, map}
 use Prim.Native.Nat.{ℕ, suc, ◌/◌, ◌%◌, ◌≤◌, ◌<◌}
 use native.Mathlib.Omega.{arith}
-use lib.Dec.{eqb}
-use lib.ListN.{length, take}
+use lib.Dec.{eqb, leb}
+use lib.ListN.{length, length-map}
 use lib.Seq.{take-length}
 use borrow.Author.Tests.{eq-eqb, ne_eqb, lt-leb, le-leb}
 use Rattle.meaning.specs.Finite.{pick, ◌and◌}
 use Rattle.meaning.specs.ReadOff.{NodeRecord}
 use Rattle.meaning.specs.Files.{Quad, quads, nodes_fine, node_of, all_nodes, JudgedNodes, refused_nodes, accepted_nodes, judge_nodes}
 use Rattle.meaning.proofs.Records.{length_quads}
-use Rattle.answers.specs.Judgement.{leading, judged_nodes_as, nodes_judgement}
-use Rattle.answers.specs.declared.Judgement.TheVariants.{Accepted, Refused}
+use Rattle.answers.specs.Judgement.{leading, judged_nodes_as, nodes_judgement, nodes_checked}
+use Rattle.std.specs.Prelude.{Ok, Err}
 use Rattle.answers.proofs.Parts.{leading_most}
 
 pub leading_all_nodes : (qs : List Quad) → leading qs ≡ length qs → all_nodes qs ≡ true
@@ -44,45 +44,33 @@ module _ (bs : List ℕ) where
     unfolding judge_nodes pick
     nodes_9 n = rw (eq-eqb _ _ m, leading_some_nodes (quads bs) (λ d. n (e ∙ d ∙ length_quads bs)))
 
-    pub nodes_within : k ≤ length bs / 4
-    nodes_within = omega (arith, leading_most (quads bs), length_quads bs)
+    is_all : k ≡ length bs / 4 → all_nodes (quads bs) ≡ true
+    is_all d = leading_all_nodes (quads bs) (omega (arith, length_quads bs))
 
-    module _ (d : k ≡ length bs / 4) where
-      is_all : all_nodes (quads bs) ≡ true
-      is_all = leading_all_nodes (quads bs) (omega (arith, length_quads bs))
-
-      pub count_is : length (quads bs) ≡ k
-      count_is = omega (arith, length_quads bs)
-
-      pub nodes_few : k < 2 → judge_nodes bs ≡ refused_nodes 10
-      unfolding judge_nodes pick ◌and◌
-      nodes_few l = rw (eq-eqb _ _ m, is_all, count_is, lt-leb _ _ l)
-
-      pub nodes_many : 64 < k → judge_nodes bs ≡ refused_nodes 10
-      unfolding judge_nodes pick ◌and◌
-      nodes_many l = rw (eq-eqb _ _ m, is_all, count_is, le-leb 2 k (omega arith), lt-leb _ _ l)
-
-      pub nodes_11 : 2 ≤ k → k ≤ 64 → judge_nodes bs ≡ pick (nodes_fine 0 (take k (quads bs))) (accepted_nodes (map node_of (quads bs))) (refused_nodes 11)
-      unfolding judge_nodes pick ◌and◌
-      nodes_11 l n =
-          let z : k ≡ length (quads bs) = omega (arith, count_is) in
-          let t : take k (quads bs) ≡ quads bs = ap (λ (j : ℕ). take j (quads bs)) z ∙ take-length (quads bs) in
-          rw (eq-eqb _ _ m, is_all, count_is, le-leb _ _ l, le-leb _ _ n, t)
+    pub nodes_10_11 : k ≡ length bs / 4 → nodes_judgement bs ≡ nodes_checked (quads bs)
+    unfolding nodes_judgement judged_nodes_as judge_nodes nodes_checked pick
+    nodes_10_11 d = rw (eq-eqb _ _ m, is_all d) (by (leb 2 (length (quads bs)) and leb (length (quads bs)) 64) (nodes_fine 0 (quads bs)))
+      where
+        by : (a b : Bool) → judged_nodes_as (pick a (pick b (accepted_nodes (map node_of (quads bs))) (refused_nodes 11)) (refused_nodes 10))
+            ≡ pick a (pick b (Ok (length (quads bs))) (Err 11)) (Err 10)
+        by true true = ap Ok (length-map (quads bs) node_of)
+        by true false = refl
+        by false b = refl
 
 -- ---- what the code's judgement says
 
-pub accepted_alone : (bs : List ℕ) (k : ℕ) → nodes_judgement bs ≡ Accepted k → (vs : List NodeRecord) × (judge_nodes bs ≡ accepted_nodes vs)
+pub accepted_alone : (bs : List ℕ) (k : ℕ) → nodes_judgement bs ≡ Ok k → (vs : List NodeRecord) × (judge_nodes bs ≡ accepted_nodes vs)
 unfolding nodes_judgement judged_nodes_as
 accepted_alone bs k d = by (judge_nodes bs) refl d
   where
-    by : (j : JudgedNodes) → judge_nodes bs ≡ j → judged_nodes_as j ≡ Accepted k → (vs : List NodeRecord) × (judge_nodes bs ≡ accepted_nodes vs)
+    by : (j : JudgedNodes) → judge_nodes bs ≡ j → judged_nodes_as j ≡ Ok k → (vs : List NodeRecord) × (judge_nodes bs ≡ accepted_nodes vs)
     by (refused_nodes q) e t = let z : ◌≡◌ {A = ℕ} 0 1 = cc in absurd (omega arith)
     by (accepted_nodes vs) e t = (vs, e)
 
-pub refused_alone : (bs : List ℕ) (q : ℕ) → nodes_judgement bs ≡ Refused q → judge_nodes bs ≡ refused_nodes q
+pub refused_alone : (bs : List ℕ) (q : ℕ) → nodes_judgement bs ≡ Err q → judge_nodes bs ≡ refused_nodes q
 unfolding nodes_judgement judged_nodes_as
 refused_alone bs q d = by (judge_nodes bs) d
   where
-    by : (j : JudgedNodes) → judged_nodes_as j ≡ Refused q → j ≡ refused_nodes q
+    by : (j : JudgedNodes) → judged_nodes_as j ≡ Err q → j ≡ refused_nodes q
     by (refused_nodes p) t = cc
     by (accepted_nodes vs) t = let z : ◌≡◌ {A = ℕ} 0 1 = cc in absurd (omega arith)

@@ -1,2 +1,2 @@
-pub mod Front
+mod Front
 pub mod Moves

@@ -1,280 +1,214 @@
--- An axis, its name and a test: what the code has read is what the reader of bytes left has got.
-use mathlib.Core.Path.{◌≡◌, refl, sym, ap, ◌∙◌, subst}
-use mathlib.Core.Bool.{Bool, true, false, Bool-set}
-use mathlib.Core.List.{List, [], ◌∷◌}
-use Prim.Native.Nat.{ℕ, zero, suc, ◌+◌, ◌≤◌, ◌<◌, suc-le-suc}
-use native.Mathlib.Nat.{not-suc-le-zero, zero-lt-suc, add-zero}
-use Rattle.meaning.proofs.PathSheets.{letter_range}
-use native.Mathlib.Omega.{arith}
-use lib.ListN.{length, get_or, drop}
-use lib.Seq.{drop-drop, get_or-drop}
-use lib.Dec.{eqb}
+-- An axis, its name and a test: what the code has read is what the reader of bytes has got.
+use Rattle.std.proofs.Common.{◌≡◌, refl, sym, ap, ◌∙◌, subst, Bool, true, false, ◌||◌, true≢false, List, [], ◌∷◌, ℕ, length, take, drop, get_or, ◌≤◌, nat_eq, eqb, Option, None, Some, MatchOption, Bor}
+use Rattle.std.proofs.Common.{arith, ◌-◌, length-drop}
+use Rattle.std.proofs.lemmas.Bool.{false≢true}
+use Rattle.std.proofs.lemmas.List.{take_all}
 use borrow.Author.Tests.{ne_eqb}
-use Rattle.meaning.specs.Finite.{Yes, pick, ◌and◌}
+use lib.Pointwise.{pointwise}
+use Rattle.meaning.specs.Finite.{Yes, pick, ◌and◌, ◌or◌}
+use Rattle.meaning.proofs.Tests.{pick_yes, pick_no, not_yes, is_eq, and_left, and_right, yes_not}
+use Rattle.axes.proofs.Front.{front_pointwise}
 use Rattle.meaning.specs.Ascii.{ascii}
-use Rattle.meaning.specs.Paths.{Axis, to_self, to_child, to_parent, to_descendant, to_ancestor, to_descendant_or_self, to_ancestor_or_self, to_following_sibling, to_preceding_sibling, is_letter, Test, letter, any, Step, move, axis_text, test_byte}
-use Rattle.meaning.proofs.Tests.{pick_yes, pick_no, eq_yes, is_eq, not_yes}
+use Rattle.meaning.specs.Tree.{is_capital}
+use Rattle.meaning.specs.Paths as spec
+use Rattle.meaning.specs.Paths.{axis_text, is_small, is_letter, Test, letter, any, test_byte, Step, move}
 use Rattle.theory.specs.PathReader.{after_name, axis_at, test_by, test_at, move_at}
 use Rattle.theory.specs.Reader.{Got, nothing, got, and_then, byte, front}
-use Rattle.axes.specs.declared.Axis as code
-use Rattle.axes.specs.declared.Named.{Named}
-use Rattle.axes.specs.declared.Named.TheVariants as named
-use Rattle.axes.specs.declared.Moved.TheVariants as moved
-use Rattle.axes.specs.Moving.{axis_for, AxisRead, MoveRead}
+use Rattle.axes.specs.declared.Axis.{Axis}
+use Rattle.axes.specs.Moving.{axis_for, axis_view, name_got, NameRead, AxisRead, is_tested, MoveRead}
 
-name_long : (a : Axis) → 0 < length (axis_text a)
-unfolding axis_text ascii
-name_long to_self = omega arith
-name_long to_child = omega arith
-name_long to_parent = omega arith
-name_long to_descendant = omega arith
-name_long to_ancestor = omega arith
-name_long to_descendant_or_self = omega arith
-name_long to_ancestor_or_self = omega arith
-name_long to_following_sibling = omega arith
-name_long to_preceding_sibling = omega arith
+abbrev IsSome : {A : Type 0} → Option A → Type 0
+IsSome None = ⊥
+IsSome (Some x) = Unit {0}
 
--- a name stands there, or it does not
-pub name_hit : (s : List ℕ) (at : ℕ) (a : Axis) (g : Got Axis) → Yes (front (drop at s) (axis_text a)) → at + length (axis_text a) ≤ length s
-    → AxisRead s at (after_name a (drop at s) g) (named.Is (axis_for a) (at + length (axis_text a)))
-unfolding after_name
-name_hit s at a g y l =
-    let n = length (axis_text a) in
-    let p = name_long a in
-    subst (λ (k : Got Axis). AxisRead s at k (named.Is (axis_for a) (at + n))) (sym (pick_yes _ _ y)) (at + n, refl, sym (drop-drop n at s), omega arith, l)
+-- what was read is nothing, if it shows nothing
+view_none : (r : Option (Axis × Bor (List ℕ))) → axis_view r ≡ None → r ≡ None
+view_none None e = refl
+view_none (Some x) e = absurd (subst IsSome e tt)
 
-pub name_miss : (s : List ℕ) (at : ℕ) (a : Axis) (g : Got Axis) (r : Named) → front (drop at s) (axis_text a) ≡ false → AxisRead s at g r → AxisRead s at (after_name a (drop at s) g) r
-unfolding after_name
-name_miss s at a g r e h = subst (λ (k : Got Axis). AxisRead s at k r) (sym (pick_no _ _ (not_yes e))) h
+abbrev some_move : Axis → ℕ → List ℕ → Option (Axis × ℕ × List ℕ)
+some_move a t rest = Some (a, t, rest)
 
--- a word whose first byte is another does not stand there
-pub other_first : (bs : List ℕ) (c : ℕ) (w : List ℕ) → (byte bs ≡ c → ⊥) → front bs (c ∷ w) ≡ false
-unfolding front ◌and◌
-other_first [] c w n = refl
-other_first (b ∷ bs) c w n = ap (λ (k : Bool). k and front bs w) (ne_eqb b c n)
+abbrev just : Axis → List ℕ → Option (Axis × List ℕ)
+just a rest = Some (a, rest)
 
--- ---- the names by their first byte, in the order in which they are tried
+-- what the library's stripping of a prefix says
+pub stripped : (s w : List ℕ) (a : Axis) (rest : List ℕ) → pointwise nat_eq (take (length w) s) w ≡ true → rest ≡ drop (length w) s
+    → ◌≡◌ {A = Option (Axis × List ℕ)} (Some (a, rest)) (name_got s w a)
+stripped s w a rest h e =
+    ap (λ (k : List ℕ). just a k) e ∙ sym (pick_yes (just a (drop (length w) s)) None (sym (front_pointwise s w) ∙ h))
 
-module _ (s : List ℕ) (at : ℕ) where
-  byte_here : byte (drop at s) ≡ get_or s at 0
-  byte_here = get_or-drop at s 0 0 ∙ ap (λ (k : ℕ). get_or s k 0) (add-zero at)
+pub not_stripped : (s w : List ℕ) (a : Axis) → pointwise nat_eq (take (length w) s) w ≡ false
+    → ◌≡◌ {A = Option (Axis × List ℕ)} None (name_got s w a)
+not_stripped s w a h = sym (pick_no (just a (drop (length w) s)) None (not_yes (sym (front_pointwise s w) ∙ h)))
 
-  -- a name that begins with another byte
-  skip : (a : Axis) (c : ℕ) (w : List ℕ) → axis_text a ≡ c ∷ w → (get_or s at 0 ≡ c → ⊥) → (g : Got Axis) (r : Named) → AxisRead s at g r → AxisRead s at (after_name a (drop at s) g) r
-  skip a c w e n g r h = name_miss s at a g r (ap (front (drop at s)) e ∙ other_first (drop at s) c w (λ d. n (sym byte_here ∙ d))) h
+module _ (s : List ℕ) (a : spec.Axis) (r : Option (Axis × Bor (List ℕ))) where
+  -- one name, and nothing else
+  pub name_alone : NameRead s (axis_text a) (axis_for a) r → AxisRead (after_name a s nothing) r
+  unfolding after_name pick
+  name_alone h = go (front s (axis_text a)) h
+    where
+      go : (b : Bool) → axis_view r ≡ pick b (Some (axis_for a, drop (length (axis_text a)) s)) None
+          → AxisRead (pick b (got a (drop (length (axis_text a)) s)) nothing) r
+      go true h = h
+      go false h = view_none r h
 
-  abbrev from_self : Got Axis
-  from_self = after_name to_self (drop at s) nothing
+  -- a name, and else what was read otherwise
+  pub name_first : (g : Got spec.Axis) (q : Option (Axis × Bor (List ℕ))) → NameRead s (axis_text a) (axis_for a) q
+      → MatchOption q (AxisRead g r) (λ x. r ≡ Some x) → AxisRead (after_name a s g) r
+  unfolding after_name pick
+  name_first g q h m = go (front s (axis_text a)) q h m
+    where
+      go : (b : Bool) (q : Option (Axis × Bor (List ℕ))) → axis_view q ≡ pick b (Some (axis_for a, drop (length (axis_text a)) s)) None
+          → MatchOption q (AxisRead g r) (λ x. r ≡ Some x) → AxisRead (pick b (got a (drop (length (axis_text a)) s)) g) r
+      go true None h m = absurd (subst IsSome (sym h) tt)
+      go true (Some x) h m = ap axis_view m ∙ h
+      go false None h m = m
+      go false (Some x) h m = absurd (subst IsSome h tt)
 
-  abbrev from_child : Got Axis
-  from_child = after_name to_child (drop at s) from_self
+-- ---- the names by their first byte
 
-  abbrev from_parent : Got Axis
-  from_parent = after_name to_parent (drop at s) from_child
+pub with_d : (s : List ℕ) → get_or s 0 0 ≡ 100 → axis_at s ≡ after_name spec.to_descendant_or_self s (after_name spec.to_descendant s nothing)
+unfolding axis_at after_name front pick axis_text ascii ◌and◌
+with_d [] e = absurd (omega arith)
+with_d (b ∷ s) e = subst (λ (k : ℕ). axis_at (k ∷ s) ≡ after_name spec.to_descendant_or_self (k ∷ s) (after_name spec.to_descendant (k ∷ s) nothing)) (sym e) refl
 
-  abbrev from_ancestor : Got Axis
-  from_ancestor = after_name to_ancestor (drop at s) from_parent
+pub with_a : (s : List ℕ) → get_or s 0 0 ≡ 97 → axis_at s ≡ after_name spec.to_ancestor_or_self s (after_name spec.to_ancestor s nothing)
+unfolding axis_at after_name front pick axis_text ascii ◌and◌
+with_a [] e = absurd (omega arith)
+with_a (b ∷ s) e = subst (λ (k : ℕ). axis_at (k ∷ s) ≡ after_name spec.to_ancestor_or_self (k ∷ s) (after_name spec.to_ancestor (k ∷ s) nothing)) (sym e) refl
 
-  abbrev from_descendant : Got Axis
-  from_descendant = after_name to_descendant (drop at s) from_ancestor
+pub with_p : (s : List ℕ) → get_or s 0 0 ≡ 112 → axis_at s ≡ after_name spec.to_preceding_sibling s (after_name spec.to_parent s nothing)
+unfolding axis_at after_name front pick axis_text ascii ◌and◌
+with_p [] e = absurd (omega arith)
+with_p (b ∷ s) e = subst (λ (k : ℕ). axis_at (k ∷ s) ≡ after_name spec.to_preceding_sibling (k ∷ s) (after_name spec.to_parent (k ∷ s) nothing)) (sym e) refl
 
-  abbrev from_ancestor_or_self : Got Axis
-  from_ancestor_or_self = after_name to_ancestor_or_self (drop at s) from_descendant
+pub with_f : (s : List ℕ) → get_or s 0 0 ≡ 102 → axis_at s ≡ after_name spec.to_following_sibling s nothing
+unfolding axis_at after_name front pick axis_text ascii ◌and◌
+with_f [] e = absurd (omega arith)
+with_f (b ∷ s) e = subst (λ (k : ℕ). axis_at (k ∷ s) ≡ after_name spec.to_following_sibling (k ∷ s) nothing) (sym e) refl
 
-  abbrev from_preceding : Got Axis
-  from_preceding = after_name to_preceding_sibling (drop at s) from_ancestor_or_self
+pub with_c : (s : List ℕ) → get_or s 0 0 ≡ 99 → axis_at s ≡ after_name spec.to_child s nothing
+unfolding axis_at after_name front pick axis_text ascii ◌and◌
+with_c [] e = absurd (omega arith)
+with_c (b ∷ s) e = subst (λ (k : ℕ). axis_at (k ∷ s) ≡ after_name spec.to_child (k ∷ s) nothing) (sym e) refl
 
-  abbrev from_following : Got Axis
-  from_following = after_name to_following_sibling (drop at s) from_preceding
+pub with_s : (s : List ℕ) → get_or s 0 0 ≡ 115 → axis_at s ≡ after_name spec.to_self s nothing
+unfolding axis_at after_name front pick axis_text ascii ◌and◌
+with_s [] e = absurd (omega arith)
+with_s (b ∷ s) e = subst (λ (k : ℕ). axis_at (k ∷ s) ≡ after_name spec.to_self (k ∷ s) nothing) (sym e) refl
 
-  module _ (r : Named) where
-    past_two : (get_or s at 0 ≡ 99 → ⊥) → (get_or s at 0 ≡ 115 → ⊥) → AxisRead s at nothing r → AxisRead s at from_child r
-    unfolding axis_text ascii
-    past_two c f h = skip to_child 99 _ refl c from_self r (skip to_self 115 _ refl f nothing r h)
+pub with_none : (s : List ℕ) → (get_or s 0 0 ≡ 100 → ⊥) → (get_or s 0 0 ≡ 97 → ⊥) → (get_or s 0 0 ≡ 112 → ⊥)
+    → (get_or s 0 0 ≡ 102 → ⊥) → (get_or s 0 0 ≡ 99 → ⊥) → (get_or s 0 0 ≡ 115 → ⊥) → axis_at s ≡ nothing
+unfolding axis_at after_name front pick axis_text ascii ◌and◌
+with_none [] d a p f c z = refl
+with_none (b ∷ s) d a p f c z = rw (ne_eqb b 100 d, ne_eqb b 97 a, ne_eqb b 112 p, ne_eqb b 102 f, ne_eqb b 99 c, ne_eqb b 115 z) refl
 
-    past_three : (get_or s at 0 ≡ 112 → ⊥) → (get_or s at 0 ≡ 99 → ⊥) → (get_or s at 0 ≡ 115 → ⊥) → AxisRead s at nothing r → AxisRead s at from_parent r
-    unfolding axis_text ascii
-    past_three p c f h = skip to_parent 112 _ refl p from_child r (past_two c f h)
+module _ (s : List ℕ) (a : spec.Axis) (r : Option (Axis × Bor (List ℕ))) where
+  pub read_one : axis_at s ≡ after_name a s nothing → NameRead s (axis_text a) (axis_for a) r → AxisRead (axis_at s) r
+  read_one e h = subst (λ (g : Got spec.Axis). AxisRead g r) (sym e) (name_alone s a r h)
 
-    -- past the names with d and with a
-    past_d_and_a : (get_or s at 0 ≡ 100 → ⊥) → (get_or s at 0 ≡ 97 → ⊥) → AxisRead s at from_parent r → AxisRead s at from_ancestor_or_self r
-    unfolding axis_text ascii
-    past_d_and_a m n h =
-        skip to_ancestor_or_self 97 _ refl n from_descendant r (skip to_descendant 100 _ refl m from_ancestor r (skip to_ancestor 97 _ refl n from_parent r h))
+  pub read_two : (b : spec.Axis) (q : Option (Axis × Bor (List ℕ))) → axis_at s ≡ after_name a s (after_name b s nothing)
+      → NameRead s (axis_text a) (axis_for a) q → MatchOption q (NameRead s (axis_text b) (axis_for b) r) (λ x. r ≡ Some x)
+      → AxisRead (axis_at s) r
+  read_two b q e h m = subst (λ (g : Got spec.Axis). AxisRead g r) (sym e) (name_first s a r (after_name b s nothing) q h (other q m))
+    where
+      other : (q : Option (Axis × Bor (List ℕ))) → MatchOption q (NameRead s (axis_text b) (axis_for b) r) (λ x. r ≡ Some x)
+          → MatchOption q (AxisRead (after_name b s nothing) r) (λ x. r ≡ Some x)
+      other None h = name_alone s b r h
+      other (Some x) h = h
 
-    -- the first byte is d
-    module _ (e : get_or s at 0 ≡ 100) (n : front (drop at s) (axis_text to_descendant_or_self) ≡ false) where
-      pub d_second : AxisRead s at from_descendant r → AxisRead s at (axis_at (drop at s)) r
-      unfolding axis_at axis_text ascii
-      d_second h =
-          name_miss s at to_descendant_or_self from_following r n
-          (skip to_following_sibling 102 _ refl (λ d. omega (arith, e, d)) from_preceding r
-          (skip to_preceding_sibling 112 _ refl (λ d. omega (arith, e, d)) from_ancestor_or_self r
-          (skip to_ancestor_or_self 97 _ refl (λ d. omega (arith, e, d)) from_descendant r h)))
+pub read_none : (s : List ℕ) → axis_at s ≡ nothing → AxisRead (axis_at s) None
+read_none s e = subst (λ (g : Got spec.Axis). AxisRead g None) (sym e) refl
 
-      pub d_none : front (drop at s) (axis_text to_descendant) ≡ false → AxisRead s at nothing r → AxisRead s at (axis_at (drop at s)) r
-      unfolding axis_text ascii
-      d_none m h =
-          d_second (name_miss s at to_descendant from_ancestor r m (skip to_ancestor 97 _ refl (λ d. omega (arith, e, d)) from_parent r
-          (past_three (λ d. omega (arith, e, d)) (λ d. omega (arith, e, d)) (λ d. omega (arith, e, d)) h)))
+-- ---- the move behind an axis
 
-    -- it is a
-    module _ (e : get_or s at 0 ≡ 97) where
-      pub a_first : AxisRead s at from_ancestor_or_self r → AxisRead s at (axis_at (drop at s)) r
-      unfolding axis_at axis_text ascii
-      a_first h =
-          skip to_descendant_or_self 100 _ refl (λ d. omega (arith, e, d)) from_following r
-          (skip to_following_sibling 102 _ refl (λ d. omega (arith, e, d)) from_preceding r
-          (skip to_preceding_sibling 112 _ refl (λ d. omega (arith, e, d)) from_ancestor_or_self r h))
+abbrev after_axis : Got spec.Axis → Got Step
+after_axis g = and_then g λ a r. pick (front r (58 ∷ 58 ∷ [])) (and_then (test_at (drop 2 r)) λ t q. got (move a t) q) nothing
 
-      pub a_second : front (drop at s) (axis_text to_ancestor_or_self) ≡ false → AxisRead s at from_ancestor r → AxisRead s at (axis_at (drop at s)) r
-      unfolding axis_text ascii
-      a_second n h = a_first (name_miss s at to_ancestor_or_self from_descendant r n (skip to_descendant 100 _ refl (λ d. omega (arith, e, d)) from_ancestor r h))
+-- the axis that was read
+axis_some : (g : Got spec.Axis) (a : Axis) (r : Bor (List ℕ)) → AxisRead g (Some (a, r)) → (b : spec.Axis) × (axis_for b ≡ a) × (g ≡ got b r.now)
+axis_some nothing a r h = absurd (subst IsSome h tt)
+axis_some (got b rest) a r h = (b, sym (ap (first_of_some a) h), sym (ap (λ (k : Option (Axis × List ℕ)). got b (second_of_some k)) h))
+  where
+    first_of_some : Axis → Option (Axis × List ℕ) → Axis
+    first_of_some d None = d
+    first_of_some d (Some x) = x.0
 
-      pub a_none : front (drop at s) (axis_text to_ancestor_or_self) ≡ false → front (drop at s) (axis_text to_ancestor) ≡ false → AxisRead s at nothing r → AxisRead s at (axis_at (drop at s)) r
-      a_none n m h =
-          a_second n (name_miss s at to_ancestor from_parent r m (past_three (λ d. omega (arith, e, d)) (λ d. omega (arith, e, d)) (λ d. omega (arith, e, d)) h))
+    second_of_some : Option (Axis × List ℕ) → List ℕ
+    second_of_some None = []
+    second_of_some (Some x) = x.1
 
-    -- it is p
-    module _ (e : get_or s at 0 ≡ 112) where
-      pub p_first : AxisRead s at from_preceding r → AxisRead s at (axis_at (drop at s)) r
-      unfolding axis_at axis_text ascii
-      p_first h =
-          skip to_descendant_or_self 100 _ refl (λ d. omega (arith, e, d)) from_following r
-          (skip to_following_sibling 102 _ refl (λ d. omega (arith, e, d)) from_preceding r h)
+axis_nothing : (g : Got spec.Axis) → AxisRead g None → g ≡ nothing
+axis_nothing nothing h = refl
+axis_nothing (got b rest) h = absurd (subst IsSome (sym h) tt)
 
-      pub p_second : front (drop at s) (axis_text to_preceding_sibling) ≡ false → AxisRead s at from_parent r → AxisRead s at (axis_at (drop at s)) r
-      p_second n h = p_first (name_miss s at to_preceding_sibling from_ancestor_or_self r n (past_d_and_a (λ d. omega (arith, e, d)) (λ d. omega (arith, e, d)) h))
+-- the test was read, or was none
+tested : (b : spec.Axis) (t : ℕ) (bs : List ℕ) (q : Bor (List ℕ)) → q.now ≡ bs → (v : Bool) (e : is_letter t ≡ v) → (v || eqb t 42) ≡ true
+    → MoveRead (and_then (test_by t v e bs) λ t q. got (move b t) q) (Some (axis_for b, t, q))
+unfolding test_by pick test_byte
+tested b t bs q w true e h = (b, letter t e, refl, ap (λ (k : List ℕ). some_move (axis_for b) t k) w)
+tested b t bs q w false e h = subst (λ (k : Got Test). MoveRead (and_then k λ t q. got (move b t) q) (Some (axis_for b, t, q))) (sym (pick_yes _ _ h))
+    (b, any, refl, ap (λ (k : List ℕ). some_move (axis_for b) t k) w ∙ ap (λ (k : ℕ). some_move (axis_for b) k bs) (is_eq h))
 
-      pub p_none : front (drop at s) (axis_text to_preceding_sibling) ≡ false → front (drop at s) (axis_text to_parent) ≡ false → AxisRead s at nothing r → AxisRead s at (axis_at (drop at s)) r
-      p_none n m h = p_second n (name_miss s at to_parent from_child r m (past_two (λ d. omega (arith, e, d)) (λ d. omega (arith, e, d)) h))
+not_tested : (b : spec.Axis) (t : ℕ) (bs : List ℕ) (v : Bool) (e : is_letter t ≡ v) → (v || eqb t 42) ≡ false
+    → ◌≡◌ {A = Got Step} (and_then (test_by t v e bs) λ t q. got (move b t) q) nothing
+unfolding test_by pick
+not_tested b t bs true e h = absurd (true≢false h)
+not_tested b t bs false e h = ap (λ (k : Got Test). and_then k λ t q. got (move b t) q) (pick_no _ _ (not_yes h))
 
-    -- it is f
-    module _ (e : get_or s at 0 ≡ 102) where
-      pub f_first : AxisRead s at from_following r → AxisRead s at (axis_at (drop at s)) r
-      unfolding axis_at axis_text ascii
-      f_first h = skip to_descendant_or_self 100 _ refl (λ d. omega (arith, e, d)) from_following r h
+colons : (b : spec.Axis) (x y : ℕ) (bs : List ℕ) → x ≡ 58 → y ≡ 58
+    → after_axis (got b (x ∷ y ∷ bs)) ≡ (and_then (test_at bs) λ t q. got (move b t) q)
+unfolding front pick ◌and◌
+colons b x y bs c d = rw (c, d) refl
 
-      pub f_none : front (drop at s) (axis_text to_following_sibling) ≡ false → AxisRead s at nothing r → AxisRead s at (axis_at (drop at s)) r
-      unfolding axis_text ascii
-      f_none n h =
-          f_first (name_miss s at to_following_sibling from_preceding r n
-          (skip to_preceding_sibling 112 _ refl (λ d. omega (arith, e, d)) from_ancestor_or_self r
-          (past_d_and_a (λ d. omega (arith, e, d)) (λ d. omega (arith, e, d)) (past_three (λ d. omega (arith, e, d)) (λ d. omega (arith, e, d)) (λ d. omega (arith, e, d)) h))))
+pick_same : {A : Type 0} {x z : A} (b : Bool) → (Yes b → x ≡ z) → pick b x z ≡ z
+unfolding pick
+pick_same true f = f refl
+pick_same false f = refl
 
-    -- it is none of these
-    pub past_four : (get_or s at 0 ≡ 100 → ⊥) → (get_or s at 0 ≡ 97 → ⊥) → (get_or s at 0 ≡ 112 → ⊥) → (get_or s at 0 ≡ 102 → ⊥) → AxisRead s at from_child r
-        → AxisRead s at (axis_at (drop at s)) r
-    unfolding axis_at axis_text ascii
-    past_four m n p q h =
-        skip to_descendant_or_self 100 _ refl m from_following r
-        (skip to_following_sibling 102 _ refl q from_preceding r
-        (skip to_preceding_sibling 112 _ refl p from_ancestor_or_self r (past_d_and_a m n (skip to_parent 112 _ refl p from_child r h))))
+no_test : (b : spec.Axis) (rs : List ℕ) → Yes (front rs (58 ∷ 58 ∷ []))
+    → (3 ≤ length rs → get_or rs 0 0 ≡ 58 → get_or rs 1 0 ≡ 58 → is_tested (get_or rs 2 0) ≡ true → ⊥)
+    → ◌≡◌ {A = Got Step} (and_then (test_at (drop 2 rs)) λ t q. got (move b t) q) nothing
+unfolding front test_at
+no_test b [] y n = absurd (false≢true y)
+no_test b (x ∷ []) y n = absurd (false≢true (and_right (eqb x 58) y))
+no_test b (x ∷ z ∷ []) y n = not_tested b 0 [] (is_letter 0) refl (unfold is_letter is_small is_capital ◌or◌ ◌and◌ in refl)
+no_test b (x ∷ z ∷ t ∷ bs) y n =
+    let c : x ≡ 58 = is_eq (and_left (eqb z 58 and true) y) in
+    let d : z ≡ 58 = is_eq (and_left true (and_right (eqb x 58) y)) in
+    not_tested b t bs (is_letter t) refl (yes_not (n (omega arith) c d))
 
--- ---- what was read of the axis
-
-abbrev IsNamed : Named → Type 0
-IsNamed (named.Is b e) = Unit {0}
-IsNamed named.Unknown = ⊥
-
-pub axis_none : (s : List ℕ) (at : ℕ) (g : Got Axis) (n : Named) → AxisRead s at g n → n ≡ named.Unknown → g ≡ nothing
-axis_none s at nothing n h e = refl
-axis_none s at (got a r) n h e = absurd (subst IsNamed (sym h.1 ∙ e) tt)
-
-abbrev axis_is : code.Axis → Named → code.Axis
-axis_is d (named.Is b e) = b
-axis_is d named.Unknown = d
-
-abbrev end_is : Named → ℕ
-end_is (named.Is b e) = e
-end_is named.Unknown = 0
-
-pub axis_some : (s : List ℕ) (at : ℕ) (g : Got Axis) (n : Named) (b : code.Axis) (e : ℕ) → AxisRead s at g n → n ≡ named.Is b e
-    → (a : Axis) × (axis_for a ≡ b) × (g ≡ got a (drop e s)) × (at < e) × (e ≤ length s)
-axis_some s at nothing n b e h d = absurd (subst IsNamed (sym d ∙ h) tt)
-axis_some s at (got a r) n b e h d =
-    let p : named.Is (axis_for a) h.0 ≡ named.Is b e = sym h.1 ∙ d in
-    let v : h.0 ≡ e = ap end_is p in
-    (a, ap (axis_is b) p, ap (got a) (sym h.2 ∙ ap (λ (k : ℕ). drop k s) v), subst (λ (k : ℕ). at < k) v h.3, subst (λ (k : ℕ). k ≤ length s) v h.4)
-
--- ---- the move
-
-module _ (s : List ℕ) (at : ℕ) where
-  pub move_none : axis_at (drop at s) ≡ nothing → MoveRead s at (move_at (drop at s)) moved.Not
+module _ (s : List ℕ) where
+  -- no axis
+  pub move_none : AxisRead (axis_at s) None → MoveRead (move_at s) None
   unfolding move_at
-  move_none e = subst (λ (g : Got Step). MoveRead s at g moved.Not) (sym (ap (λ (g : Got Axis). and_then g λ a r. pick (front r (58 ∷ 58 ∷ [])) (and_then (test_at (drop 2 r)) λ t q. got (move a t) q) nothing) e)) refl
+  move_none h = subst (λ (g : Got spec.Axis). MoveRead (after_axis g) None) (sym (axis_nothing (axis_at s) h)) refl
 
-  module _ (a : Axis) (b : code.Axis) (f : axis_for a ≡ b) (e : ℕ) (h : axis_at (drop at s) ≡ got a (drop e s)) where
-    after_axis : move_at (drop at s) ≡ pick (front (drop e s) (58 ∷ 58 ∷ [])) (and_then (test_at (drop 2 (drop e s))) λ t q. got (move a t) q) nothing
+  module _ (a : Axis) (r : Bor (List ℕ)) (h : AxisRead (axis_at s) (Some (a, r))) where
+    pub move_is : (q : Bor (List ℕ)) → 3 ≤ length r.now → get_or r.now 0 0 ≡ 58 → get_or r.now 1 0 ≡ 58 → is_tested (get_or r.now 2 0) ≡ true
+        → q.now ≡ take (length r.now - 3) (drop 3 r.now) → MoveRead (move_at s) (Some (a, get_or r.now 2 0, q))
+    unfolding move_at test_at
+    move_is q l c d t w =
+        let z = axis_some (axis_at s) a r h in
+        subst (λ (k : Axis). MoveRead (after_axis (axis_at s)) (Some (k, get_or r.now 2 0, q))) z.1
+        (subst (λ (g : Got spec.Axis). MoveRead (after_axis g) (Some (axis_for z.0, get_or r.now 2 0, q))) (sym z.2) (go r.now z.0 l c d t (w ∙ take_all (length r.now - 3) (drop 3 r.now) (let e = length-drop 3 r.now in omega arith))))
+      where
+        go : (rs : List ℕ) (b : spec.Axis) → 3 ≤ length rs → get_or rs 0 0 ≡ 58 → get_or rs 1 0 ≡ 58 → is_tested (get_or rs 2 0) ≡ true
+            → q.now ≡ drop 3 rs → MoveRead (after_axis (got b rs)) (Some (axis_for b, get_or rs 2 0, q))
+        go [] b l c d t w = absurd (omega arith)
+        go (x ∷ []) b l c d t w = absurd (omega arith)
+        go (x ∷ y ∷ []) b l c d t w = absurd (omega arith)
+        go (x ∷ y ∷ z ∷ rs) b l c d t w =
+            subst (λ (g : Got Step). MoveRead g (Some (axis_for b, z, q))) (sym (colons b x y (z ∷ rs) c d)) (tested b z rs q w (is_letter z) refl t)
+
+    pub move_not : (3 ≤ length r.now → get_or r.now 0 0 ≡ 58 → get_or r.now 1 0 ≡ 58 → is_tested (get_or r.now 2 0) ≡ true → ⊥)
+        → MoveRead (move_at s) None
     unfolding move_at
-    after_axis = ap (λ (g : Got Axis). and_then g λ a r. pick (front r (58 ∷ 58 ∷ [])) (and_then (test_at (drop 2 r)) λ t q. got (move a t) q) nothing) h
-
-    pub no_colons : front (drop e s) (58 ∷ 58 ∷ []) ≡ false → MoveRead s at (move_at (drop at s)) moved.Not
-    no_colons n = subst (λ (g : Got Step). MoveRead s at g moved.Not) (sym (after_axis ∙ pick_no _ _ (not_yes n))) refl
-
-    -- the byte of the test
-    test_byte_lem : byte (drop 2 (drop e s)) ≡ get_or s (e + 2) 0
-    test_byte_lem = let q : e + 2 + 0 ≡ e + 2 = omega arith in ap (λ (k : List ℕ). get_or k 0 0) (drop-drop 2 e s) ∙ get_or-drop (e + 2) s 0 0 ∙ ap (λ (k : ℕ). get_or s k 0) q
-
-    after_colons : Yes (front (drop e s) (58 ∷ 58 ∷ [])) → move_at (drop at s) ≡ and_then (test_at (drop 2 (drop e s))) (λ t q. got (move a t) q)
-    after_colons y = after_axis ∙ pick_yes _ _ y
-
-    after_test : drop (e + 3) s ≡ drop 1 (drop 2 (drop e s))
-    after_test = let q : e + 2 + 1 ≡ e + 3 = omega arith in sym (ap (drop 1) (drop-drop 2 e s) ∙ drop-drop 1 (e + 2) s ∙ ap (λ (k : ℕ). drop k s) q)
-
-    test_letter : (bs : List ℕ) (v : Bool) (q : is_letter (byte bs) ≡ v) (l : Yes (is_letter (byte bs))) → test_by (byte bs) v q (drop 1 bs) ≡ got (letter (byte bs) l) (drop 1 bs)
-    unfolding test_by
-    test_letter bs true q l = ap (λ (k : Yes (is_letter (byte bs))). got (letter (byte bs) k) (drop 1 bs)) (Bool-set (is_letter (byte bs)) true q l)
-    test_letter bs false q l = absurd (not_yes q l)
-
-    test_other : (bs : List ℕ) (v : Bool) (q : is_letter (byte bs) ≡ v) → ¬ Yes (is_letter (byte bs)) → test_by (byte bs) v q (drop 1 bs) ≡ pick (eqb (byte bs) 42) (got any (drop 1 bs)) nothing
-    unfolding test_by
-    test_other bs true q n = absurd (n q)
-    test_other bs false q n = refl
-
-    module _ (y : Yes (front (drop e s) (58 ∷ 58 ∷ []))) (l : at < e) (m : e + 2 ≤ length s) where
-      pub a_letter : (c : ℕ) → c ≡ get_or s (e + 2) 0 → Yes (is_letter c) → e + 3 ≤ length s → MoveRead s at (move_at (drop at s)) (moved.Is b c (e + 3))
-      unfolding test_byte test_at
-      a_letter c d z i =
-          let bs = drop 2 (drop e s) in
-          let u : c ≡ byte bs = d ∙ sym test_byte_lem in
-          let z' : Yes (is_letter (byte bs)) = subst (λ (k : ℕ). Yes (is_letter k)) u z in
-          let g : move_at (drop at s) ≡ got (move a (letter (byte bs) z')) (drop 1 bs) =
-          after_colons y ∙ ap (λ (k : Got Test). and_then k λ t q. got (move a t) q) (test_letter bs (is_letter (byte bs)) refl z') in
-          subst (λ (k : Got Step). MoveRead s at k (moved.Is b c (e + 3))) (sym g)
-          (a, letter (byte bs) z', e + 3, ap (λ (k : code.Axis). moved.Is k c (e + 3)) (sym f) ∙ ap (λ (k : ℕ). moved.Is (axis_for a) k (e + 3)) u, refl, after_test, omega arith, i)
-
-      -- no letter
-      after_other : (c : ℕ) → c ≡ get_or s (e + 2) 0 → is_letter c ≡ false
-          → move_at (drop at s) ≡ and_then (pick (eqb c 42) (got any (drop 1 (drop 2 (drop e s)))) nothing) (λ t q. got (move a t) q)
-      unfolding test_at
-      after_other c d z =
-          let bs = drop 2 (drop e s) in
-          let u : c ≡ byte bs = d ∙ sym test_byte_lem in
-          after_colons y
-          ∙ ap (λ (k : Got Test). and_then k λ t q. got (move a t) q)
-          (test_other bs (is_letter (byte bs)) refl (not_yes (subst (λ (k : ℕ). is_letter k ≡ false) u z)) ∙ ap (λ (k : ℕ). pick (eqb k 42) (got any (drop 1 bs)) nothing) (sym u))
-
-      pub a_star : (c : ℕ) → c ≡ get_or s (e + 2) 0 → is_letter c ≡ false → c ≡ 42 → e + 3 ≤ length s → MoveRead s at (move_at (drop at s)) (moved.Is b c (e + 3))
-      unfolding test_byte
-      a_star c d z w i =
-          let g = after_other c d z ∙ ap (λ (k : Got Test). and_then k λ t q. got (move a t) q) (pick_yes _ _ (eq_yes w)) in
-          subst (λ (k : Got Step). MoveRead s at k (moved.Is b c (e + 3))) (sym g)
-          (a, any, e + 3, ap (λ (k : code.Axis). moved.Is k c (e + 3)) (sym f) ∙ ap (λ (k : ℕ). moved.Is (axis_for a) k (e + 3)) w, refl, after_test, omega arith, i)
-
-      pub no_test : (c : ℕ) → c ≡ get_or s (e + 2) 0 → is_letter c ≡ false → (c ≡ 42 → ⊥) → MoveRead s at (move_at (drop at s)) moved.Not
-      no_test c d z w =
-          let g = after_other c d z ∙ ap (λ (k : Got Test). and_then k λ t q. got (move a t) q) (pick_no _ _ (λ h. w (is_eq h))) in
-          subst (λ (k : Got Step). MoveRead s at k moved.Not) (sym g) refl
-
--- a byte that is not 0 lies within
-pub inside : (s : List ℕ) (i : ℕ) → 0 < get_or s i 0 → i < length s
-inside [] i h = absurd (not-suc-le-zero h)
-inside (a ∷ s) zero h = zero-lt-suc _
-inside (a ∷ s) (suc i) h = suc-le-suc (inside s i h)
-
-pub letter_inside : (s : List ℕ) (i c : ℕ) → c ≡ get_or s i 0 → Yes (is_letter c) → i < length s
-letter_inside s i c e l = let h = (letter_range c l).0 in inside s i (omega arith)
-
-pub byte_inside : (s : List ℕ) (i c : ℕ) → c ≡ get_or s i 0 → 0 < c → i < length s
-byte_inside s i c e l = inside s i (omega arith)
+    move_not n =
+        let z = axis_some (axis_at s) a r h in
+        subst (λ (g : Got Step). MoveRead g None) (sym (ap (λ (g : Got spec.Axis). after_axis g) z.2 ∙ go r.now z.0 n)) refl
+      where
+        go : (rs : List ℕ) (b : spec.Axis)
+            → (3 ≤ length rs → get_or rs 0 0 ≡ 58 → get_or rs 1 0 ≡ 58 → is_tested (get_or rs 2 0) ≡ true → ⊥) → after_axis (got b rs) ≡ nothing
+        go rs b n = pick_same (front rs (58 ∷ 58 ∷ [])) (λ y. no_test b rs y n)

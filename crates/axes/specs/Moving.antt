@@ -1,32 +1,49 @@
--- What is read of an axis and a test: what the axis writes, and the place behind them.
-use Rattle.std.specs.Prelude.{◌≡◌, true, false, List, ℕ, ◌≤◌, ◌<◌, length, drop}
+-- What is read of an axis and a test: what stands for the axis, the byte of the test, and the bytes behind them.
+use Rattle.std.specs.Prelude.{◌≡◌, Bool, ◌||◌, eqb, List, ℕ, length, drop, Option, None, Some, option_map}
+use Rattle.std.specs.Borrow.{Bor}
+use Rattle.meaning.specs.Finite.{pick}
 use Rattle.meaning.specs.Paths as spec
-use Rattle.meaning.specs.Paths.{Test, Step, move, test_byte}
-use Rattle.theory.specs.Reader.{Got, nothing, got}
+use Rattle.meaning.specs.Paths.{is_letter, Test, Step, move, test_byte}
+use Rattle.theory.specs.Reader.{Got, nothing, got, front}
 use Rattle.axes.specs.declared.Axis.{Axis}
-use Rattle.axes.specs.declared.Named.{Named}
-use Rattle.axes.specs.declared.Named.TheVariants as named
-use Rattle.axes.specs.declared.Moved.{Moved}
-use Rattle.axes.specs.declared.Moved.TheVariants as moved
+use Rattle.axes.specs.declared.Axis.TheVariants.{Itself, Child, Parent, Descendant, Ancestor, DescendantOrSelf, AncestorOrSelf, FollowingSibling, PrecedingSibling}
 
--- the kind of an axis's record, and whether its x is the node reached
+-- the code's axis for an axis of the meaning
 abbrev pub axis_for : spec.Axis → Axis
-axis_for spec.to_self = record { 0 = 4; 1 = false }
-axis_for spec.to_child = record { 0 = 1; 1 = false }
-axis_for spec.to_parent = record { 0 = 1; 1 = true }
-axis_for spec.to_descendant = record { 0 = 3; 1 = false }
-axis_for spec.to_ancestor = record { 0 = 3; 1 = true }
-axis_for spec.to_descendant_or_self = record { 0 = 2; 1 = false }
-axis_for spec.to_ancestor_or_self = record { 0 = 2; 1 = true }
-axis_for spec.to_following_sibling = record { 0 = 9; 1 = false }
-axis_for spec.to_preceding_sibling = record { 0 = 9; 1 = true }
+axis_for spec.to_self = Itself
+axis_for spec.to_child = Child
+axis_for spec.to_parent = Parent
+axis_for spec.to_descendant = Descendant
+axis_for spec.to_ancestor = Ancestor
+axis_for spec.to_descendant_or_self = DescendantOrSelf
+axis_for spec.to_ancestor_or_self = AncestorOrSelf
+axis_for spec.to_following_sibling = FollowingSibling
+axis_for spec.to_preceding_sibling = PrecedingSibling
 
--- r is an axis read of s at a place, and the place after its name
-abbrev pub AxisRead : List ℕ → ℕ → Got spec.Axis → Named → Type 0
-AxisRead s at nothing r = r ≡ named.Unknown
-AxisRead s at (got a rest) r = (e : ℕ) × (r ≡ named.Is (axis_for a) e) × (drop e s ≡ rest) × (at < e) × (e ≤ length s)
+-- what was read, with the bytes behind the reference
+abbrev pub axis_view : Option (Axis × Bor (List ℕ)) → Option (Axis × List ℕ)
+axis_view r = option_map (λ p. (p.0, p.1.now)) r
 
--- r is a move read of s at a place, and the place after it
-abbrev pub MoveRead : List ℕ → ℕ → Got Step → Moved → Type 0
-MoveRead s at nothing r = r ≡ moved.Not
-MoveRead s at (got m rest) r = (a : spec.Axis) × (t : Test) × (e : ℕ) × (r ≡ moved.Is (axis_for a) (test_byte t) e) × (m ≡ move a t) × (drop e s ≡ rest) × (at < e) × (e ≤ length s)
+abbrev pub move_view : Option (Axis × ℕ × Bor (List ℕ)) → Option (Axis × ℕ × List ℕ)
+move_view r = option_map (λ m. (m.0, m.1, m.2.now)) r
+
+-- an axis and the bytes behind its name, if the name is the front of s
+abbrev pub name_got : List ℕ → List ℕ → Axis → Option (Axis × List ℕ)
+name_got s name a = pick (front s name) (Some (a, drop (length name) s)) None
+
+abbrev pub NameRead : List ℕ → List ℕ → Axis → Option (Axis × Bor (List ℕ)) → Type 0
+NameRead s name a r = axis_view r ≡ name_got s name a
+
+-- r is an axis that was got, and the bytes behind its name
+abbrev pub AxisRead : Got spec.Axis → Option (Axis × Bor (List ℕ)) → Type 0
+AxisRead nothing r = r ≡ None
+AxisRead (got a rest) r = axis_view r ≡ Some (axis_for a, rest)
+
+-- a letter or *
+abbrev pub is_tested : ℕ → Bool
+is_tested b = is_letter b || eqb b 42
+
+-- r is a move that was got, and the bytes behind it
+abbrev pub MoveRead : Got Step → Option (Axis × ℕ × Bor (List ℕ)) → Type 0
+MoveRead nothing r = r ≡ None
+MoveRead (got m rest) r = (a : spec.Axis) × (t : Test) × (m ≡ move a t) × (move_view r ≡ Some (axis_for a, test_byte t, rest))

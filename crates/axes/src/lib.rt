@@ -1,130 +1,74 @@
-// A step's axis and test at a place in a text of paths: what the axis writes, the byte of the test, and the place behind them.
+// A step's axis and test at the front of the bytes left of a text of paths, and the bytes behind them.
 #![tactic(auto)]
 
-ghost use Rattle.std.specs.Prelude.{◌≡◌, true, ◌+◌, ◌<◌, ◌≤◌, length, drop};
+ghost use Rattle.std.specs.Prelude.{◌≡◌, ◌+◌, ◌<◌, length, IfSome};
 ghost use Rattle.theory.specs.PathReader.{axis_at, move_at};
-ghost use Rattle.theory.specs.Reader.{front};
-ghost use Rattle.axes.specs.Moving.{AxisRead, MoveRead};
+ghost use Rattle.axes.specs.Moving.{NameRead, AxisRead, is_tested, MoveRead};
 
 use lent::byte_at;
 
-// The kinds of record that axes write.
-const CHILD: u8 = 1;
-
-const BELOW: u8 = 2;
-
-const STRICTLY_BELOW: u8 = 3;
-
-const SAME: u8 = 4;
-
-const BEFORE: u8 = 9;
-
-// What an axis writes: the kind of its record, and whether x is the node reached.
-#[derive(Clone, Copy)]
-pub struct Axis(pub u8, pub bool);
-
-// An axis and the place after its name.
-#[derive(Clone, Copy)]
-pub enum Named {
-    Is(Axis, usize),
-    Unknown,
+// The axes of a step. `Itself` is named self in a text, which is no name here.
+#[derive(Clone, Copy, PartialEq, Eq)]
+pub enum Axis {
+    Itself,
+    Child,
+    Parent,
+    Descendant,
+    Ancestor,
+    DescendantOrSelf,
+    AncestorOrSelf,
+    FollowingSibling,
+    PrecedingSibling,
 }
 
-// An axis, the byte of a test and the place after it.
-#[derive(Clone, Copy)]
-pub enum Moved {
-    Is(Axis, u8, usize),
-    Not,
-}
-
-// Whether the word stands at a place.
-fn starts(s: &[u8], at: usize, word: &[u8]) -> bool
-    requires { 0 < length word.now }
-    ensures value { result ≡ front (drop at s.now) word.now }
-    ensures within { result ≡ true → at + length word.now ≤ length s.now }
+// The axis and the bytes behind its name, if the name stands at the front.
+fn named<'a>(s: &'a [u8], name: &[u8], axis: Axis) -> Option<(Axis, &'a [u8])>
+    ensures value { NameRead s.now name.now axis result }
+    ensures shorter { IfSome result (λ p. length p.1.now + length name.now ≡ length s.now) }
 {
-    if s.len() < at {
-        return false;
-    }
-    if s.len() - at < word.len() {
-        return false;
-    }
-    let mut i: usize = 0;
-    while i < word.len() {
-        if s[at + i] != word[i] {
-            return false;
-        }
-        i += 1;
-    }
-    true
+    Some((axis, s.strip_prefix(name)?))
 }
 
-// The axis whose name stands at a place, the longer name first.
-fn axis_at(s: &[u8], at: usize) -> Named
-    ensures { AxisRead s.now at (axis_at (drop at s.now)) result }
+// The axis whose name stands at the front, the longer name first, and the bytes behind it.
+fn axis_at(s: &[u8]) -> Option<(Axis, &[u8])>
+    ensures value { AxisRead (axis_at s.now) result }
+    ensures shorter { IfSome result (λ p. length p.1.now < length s.now) }
 {
-    let first = byte_at(s, at);
-    if first == b'd' {
-        if starts(s, at, b"descendant-or-self") {
-            return Named::Is(Axis(BELOW, false), at + 18);
+    match byte_at(s, 0) {
+        b'd' => {
+            let shorter = || named(s, b"descendant", Axis::Descendant);
+            named(s, b"descendant-or-self", Axis::DescendantOrSelf).or_else(shorter)
         }
-        if starts(s, at, b"descendant") {
-            return Named::Is(Axis(STRICTLY_BELOW, false), at + 10);
+        b'a' => {
+            let shorter = || named(s, b"ancestor", Axis::Ancestor);
+            named(s, b"ancestor-or-self", Axis::AncestorOrSelf).or_else(shorter)
         }
-        return Named::Unknown;
+        b'p' => {
+            let other = || named(s, b"parent", Axis::Parent);
+            named(s, b"preceding-sibling", Axis::PrecedingSibling).or_else(other)
+        }
+        b'f' => named(s, b"following-sibling", Axis::FollowingSibling),
+        b'c' => named(s, b"child", Axis::Child),
+        b's' => named(s, b"self", Axis::Itself),
+        _ => None,
     }
-    if first == b'a' {
-        if starts(s, at, b"ancestor-or-self") {
-            return Named::Is(Axis(BELOW, true), at + 16);
-        }
-        if starts(s, at, b"ancestor") {
-            return Named::Is(Axis(STRICTLY_BELOW, true), at + 8);
-        }
-        return Named::Unknown;
-    }
-    if first == b'p' {
-        if starts(s, at, b"preceding-sibling") {
-            return Named::Is(Axis(BEFORE, true), at + 17);
-        }
-        if starts(s, at, b"parent") {
-            return Named::Is(Axis(CHILD, true), at + 6);
-        }
-        return Named::Unknown;
-    }
-    if first == b'f' {
-        if starts(s, at, b"following-sibling") {
-            return Named::Is(Axis(BEFORE, false), at + 17);
-        }
-        return Named::Unknown;
-    }
-    if starts(s, at, b"child") {
-        return Named::Is(Axis(CHILD, false), at + 5);
-    }
-    if starts(s, at, b"self") {
-        return Named::Is(Axis(SAME, false), at + 4);
-    }
-    Named::Unknown
 }
 
-// An axis, :: and a test.
-pub fn move_at(s: &[u8], at: usize) -> Moved
-    ensures { MoveRead s.now at (move_at (drop at s.now)) result }
+// What a step may test for: a letter, or any label.
+fn is_test(byte: u8) -> bool
+    ensures { result ≡ is_tested byte }
 {
-    let named = axis_at(s, at);
-    match named {
-        Named::Unknown => Moved::Not,
-        Named::Is(axis, end) => {
-            if !starts(s, end, b"::") {
-                return Moved::Not;
-            }
-            let test = byte_at(s, end + 2);
-            if labels::is_letter(test) {
-                return Moved::Is(axis, test, end + 3);
-            }
-            if test == b'*' {
-                return Moved::Is(axis, test, end + 3);
-            }
-            Moved::Not
-        }
+    labels::is_letter(byte) || byte == b'*'
+}
+
+// An axis, :: and a test, and the bytes behind them.
+pub fn move_at(s: &[u8]) -> Option<(Axis, u8, &[u8])>
+    ensures value { MoveRead (move_at s.now) result }
+    ensures shorter { IfSome result (λ m. length m.2.now < length s.now) }
+{
+    let (axis, rest) = axis_at(s)?;
+    match rest {
+        [b':', b':', test, rest @ ..] if is_test(*test) => Some((axis, *test, rest)),
+        _ => None,
     }
 }

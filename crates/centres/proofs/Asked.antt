@@ -1,6 +1,6 @@
 -- The question that the code finds is that of the draw as it is meant.
 use mathlib.Core.Path.{◌≡◌, refl, sym, ap, ◌∙◌}
-use mathlib.Core.Logic.{◌≢◌, ⊎_elim}
+use mathlib.Core.Logic.{⊎_elim}
 use mathlib.Core.List.{List}
 use Prim.Native.Nat.{ℕ, ◌+◌, ◌-◌, ◌≤◌, ◌<◌, ◌^◌}
 use native.Mathlib.Omega.{arith}
@@ -8,20 +8,18 @@ use lib.ListN.{length, set, drop, drop_of_length-le}
 use lib.Dec.{leb}
 use Rattle.meaning.specs.declared.Centre.{Centre}
 use Rattle.meaning.specs.Finite.{pick}
-use Rattle.meaning.specs.Centres as meant
-use Rattle.meaning.specs.Centres.{centre_at, sum_of, claimed, Sound, with_draw, added, list_after, draw_granted, draw_refused}
+use Rattle.std.proofs.Common.{Bor, Option, None, Some, Result, Ok, Err}
+use Rattle.std.specs.Slice.{IsItemAt}
+use Rattle.std.specs.Option.{option_copied, ok_or}
+use Rattle.questions.specs.declared.Question.{Question}
+use Rattle.questions.specs.declared.Question.TheVariants.{Centres}
+use Rattle.meaning.specs.Centres.{centre_at, no_centre, sum_of, claimed, Sound, with_draw, added, list_after, Drawn, draw_granted, draw_refused}
 use Rattle.meaning.proofs.Tests.{yes_case, clash, pick_yes, pick_no, is_le, le_yes, le_no, no_le}
 use Rattle.theory.specs.Centres.{capped, drawing}
 use Rattle.theory.proofs.Centres.{made_sound, sound_capped, claimed_but, Case, by_list, by_centre, by_cap, by_rest, by_none, computed_case, drawing_keeps}
-use Rattle.centres.specs.declared.Drawn.{Drawn}
-use Rattle.centres.specs.Plain.{looked_at, question_of}
+use Rattle.centres.specs.Plain.{question_of}
 use Rattle.centres.specs.Answers.{answered, answer_of}
-use Rattle.centres.proofs.Claims.{claims, claims_capped, claims_above, Progress, looked_all, looked_none, inside}
-
--- the number of the question that says no, 0 where none does
-unfoldable pub number_of : meant.Drawn → ℕ
-number_of draw_granted = 0
-number_of (draw_refused q) = q
+use Rattle.centres.proofs.Claims.{claims, claims_capped, claims_above, Progress}
 
 abbrev pub question_from : ℕ → ℕ → Centre → ℕ → ℕ
 question_from sum total c amount = question_of sum total c.guarantee c.cap c.drawn amount
@@ -59,96 +57,89 @@ module _ {total : ℕ} {cs : List Centre} (small : total < 2 ^ 32) (few : length
   sound_claims : Sound total cs → (claims cs ≡ claimed cs) × (claims cs ≤ total)
   sound_claims s = let e = claims_capped cs (sound_capped s) in let t = s.shared in (e, omega (arith, e, t))
 
-  found : (i amount : ℕ) {r : meant.Drawn} → i < length cs → Case total cs i amount r → question_from (claims cs) total (centre_at cs i) amount ≡ number_of r
-  unfolding number_of
-  found i amount l (by_list n) = asks_18 _ _ _ _ _ _ (not_sound n)
+  found : (i amount : ℕ) {r : Drawn} → i < length cs → Case total cs i amount r
+      → answered (question_from (claims cs) total (centre_at cs i) amount) ≡ answer_of r
+  unfolding answered answer_of pick
+  found i amount l (by_list n) = ap answered (asks_18 _ _ _ _ _ _ (not_sound n))
   found i amount l (by_centre k) = absurd (omega (arith, l, k))
-  found i amount l (by_cap s _ h) = asks_19 _ _ _ _ _ _ (sound_claims s).1 h
-  found i amount l (by_rest s _ c h) = let e = (sound_claims s).0 in let b = claimed_but cs i l in asks_20 _ _ _ _ _ _ (sound_claims s).1 c (omega (arith, e, b, h))
-  found i amount l (by_none q) = let e = (sound_claims q.is_sound_lem).0 in let b = claimed_but cs i l in let r = q.in_rest in
-      asks_none _ _ _ _ _ _ (sound_claims q.is_sound_lem).1 q.in_cap (omega (arith, e, b, r))
+  found i amount l (by_cap s _ h) = ap answered (asks_19 _ _ _ _ _ _ (sound_claims s).1 h)
+  found i amount l (by_rest s _ c h) =
+      let e = (sound_claims s).0 in let b = claimed_but cs i l in
+      ap answered (asks_20 _ _ _ _ _ _ (sound_claims s).1 c (omega (arith, e, b, h)))
+  found i amount l (by_none q) =
+      let e = (sound_claims q.is_sound_lem).0 in let b = claimed_but cs i l in let r = q.in_rest in
+      ap answered (asks_none _ _ _ _ _ _ (sound_claims q.is_sound_lem).1 q.in_cap (omega (arith, e, b, r)))
 
--- ---- when the loop is left
+-- ---- the centre's own record, if the list has one
 
--- the sum is that of all records, if the centre is one that was looked at
-pub question_found : (total : ℕ) (cs : List Centre) (i amount : ℕ) {reached sum : ℕ} → Progress cs reached sum
-    → total < 2 ^ 32 → looked_at (length cs) ≤ reached → i < looked_at (length cs)
-    → question_from sum total (centre_at cs i) amount ≡ number_of (drawing total cs i amount)
-unfolding sum_of
-question_found total cs i amount {reached} {sum} p small over l =
-    ap (λ (m : ℕ). question_from m total (centre_at cs i) amount) (omega (arith, e, was)) ∙ found small few i amount (inside cs i l) computed_case
-  where
-    few : length cs ≤ 8
-    few = ⊎_elim (λ y. is_le y)
-        (λ z. let a = looked_none {n = length cs} (no_le (λ y. clash y z)) in absurd (omega (arith, l, a)))
-        (yes_case (leb (length cs) 8))
+module _ (cs : List Centre) (i : ℕ) where
+  own_at : (g : Option (Bor Centre)) → IsItemAt cs i g → (c : Centre) → ok_or (option_copied g) Centres ≡ Ok c
+      → (i < length cs) × (c ≡ centre_at cs i)
+  own_at None h c e = cc
+  own_at (Some b) h c e = (h.3.0, (let n = h.4 (omega arith) no_centre in cc))
 
-    past : length cs ≤ reached
-    past = let a = looked_all few in omega (arith, over, a)
+  own_none : (g : Option (Bor Centre)) → IsItemAt cs i g → (q : Question) → ok_or (option_copied g) Centres ≡ Err q
+      → (length cs ≤ i) × (q ≡ Centres)
+  own_none None h q e = (h.3, cc)
+  own_none (Some b) h q e = cc
 
-    e : claims (drop reached cs) ≡ 0
-    e = ap claims (drop_of_length-le cs past)
+  module _ (g : Option (Bor Centre)) {o : Option Centre} {r : Result Centre Question}
+      (h : IsItemAt cs i g) (e : o ≡ option_copied g) (v : r ≡ ok_or o Centres) where
+    pub own_found : {c : Centre} → r ≡ Ok c → (i < length cs) × (c ≡ centre_at cs i)
+    own_found k = own_at g h _ (sym (ap (λ (p : Option Centre). ok_or p Centres) e) ∙ sym v ∙ k)
 
-    was : sum + claims (drop reached cs) ≡ claims cs
-    was = p.sums
+    pub own_missing : {q : Question} → r ≡ Err q → (length cs ≤ i) × (q ≡ Centres)
+    own_missing k = own_none g h _ (sym (ap (λ (p : Option Centre). ok_or p Centres) e) ∙ sym v ∙ k)
 
--- a list that is too long, or a centre that is not there
-pub question_missed : (total : ℕ) (cs : List Centre) (i amount : ℕ) → looked_at (length cs) ≤ i → drawing total cs i amount ≡ draw_refused 18
-question_missed total cs i amount past =
-    ⊎_elim (λ y. let a = looked_all {n = length cs} (is_le y) in drawing_keeps.no_centre_lem (omega (arith, past, a)))
-    (λ z. drawing_keeps.not_sound (λ s. clash (le_yes s.few) z)) (yes_case (leb (length cs) 8))
-
--- ---- the answer and the list afterwards
-
--- one way to say it of each case
-abbrev Said : ℕ → List Centre → ℕ → ℕ → meant.Drawn → Type 0
-Said total cs i amount r =
-    (answered (number_of r) ≡ answer_of r)
-    × ((number_of r ≡ 0 → (list_after r cs i amount ≡ added cs i amount) × ((centre_at cs i).drawn + amount ≤ (centre_at cs i).cap))
-    × (number_of r ≢ 0 → list_after r cs i amount ≡ cs))
-
-said : {total : ℕ} {cs : List Centre} {i amount : ℕ} {r : meant.Drawn} → Case total cs i amount r → Said total cs i amount r
-unfolding answered answer_of number_of list_after pick
-said (by_list n) = (refl, ((λ e. absurd (omega (arith, e))), λ _. refl))
-said (by_centre l) = (refl, ((λ e. absurd (omega (arith, e))), λ _. refl))
-said (by_cap s l h) = (refl, ((λ e. absurd (omega (arith, e))), λ _. refl))
-said (by_rest s l c h) = (refl, ((λ e. absurd (omega (arith, e))), λ _. refl))
-said (by_none q) = (refl, ((λ _. (refl, q.in_cap)), λ n. absurd (n refl)))
+-- ---- how a draw ends: what is answered, and the list afterwards
 
 module _ (total : ℕ) (cs : List Centre) (i amount : ℕ) where
-  pub answer_is : answered (number_of (drawing total cs i amount)) ≡ answer_of (drawing total cs i amount)
-  answer_is = (said computed_case).0
+  abbrev is : Drawn
+  is = drawing total cs i amount
 
-  pub granted_list : number_of (drawing total cs i amount) ≡ 0 → list_after (drawing total cs i amount) cs i amount ≡ added cs i amount
-  granted_list e = ((said computed_case).1.0 e).0
+  abbrev Ends : Result (Unit {0}) ℕ → List Centre → Type 0
+  Ends r zs = (r ≡ answer_of is) × (zs ≡ list_after is cs i amount)
 
-  pub granted_cap : number_of (drawing total cs i amount) ≡ 0 → (centre_at cs i).drawn + amount ≤ (centre_at cs i).cap
-  granted_cap e = ((said computed_case).1.0 e).1
+  missed : is ≡ draw_refused 18 → Ends (Err 18) cs
+  unfolding answer_of list_after
+  missed e = rw e (refl, refl)
 
-  pub refused_list : number_of (drawing total cs i amount) ≢ 0 → list_after (drawing total cs i amount) cs i amount ≡ cs
-  refused_list n = (said computed_case).1.1 n
+  pub ends_long : 8 < length cs → Ends (Err 18) cs
+  ends_long h = missed (drawing_keeps.not_sound (λ s. let f = s.few in omega (arith, f, h)))
 
-  -- the question that is asked of the centre's own record, after the loop
-  pub asked : {reached sum q : ℕ} → Progress cs reached sum → total < 2 ^ 32 → looked_at (length cs) ≤ reached → i < looked_at (length cs)
-      → q ≡ question_from sum total (centre_at cs i) amount → q ≡ number_of (drawing total cs i amount)
-  asked p small over l e = e ∙ question_found total cs i amount p small over l
+  pub ends_missing : length cs ≤ i → Ends (Err 18) cs
+  ends_missing h = missed (drawing_keeps.no_centre_lem h)
 
-  -- the three ways to end: what is answered, and the list afterwards
-  abbrev Ends : Drawn → List Centre → Type 0
-  Ends r zs = (r ≡ answer_of (drawing total cs i amount)) × (zs ≡ list_after (drawing total cs i amount) cs i amount)
+  -- the questions are asked of the centre's own record and the claims of all
+  pub asked : {reached sum : ℕ} {own : Centre} → (i < length cs) × (own ≡ centre_at cs i) → Progress cs reached sum → total < 2 ^ 32 → length cs ≤ 8 → length cs ≤ reached
+      → answered (question_from sum total own amount) ≡ answer_of is
+  unfolding sum_of
+  asked {reached} {sum} o p small few over =
+      let e = ap claims (drop_of_length-le cs over) in let was : sum + claims (drop reached cs) ≡ claims cs = p.sums in
+      ap (λ (c : Centre). answered (question_from sum total c amount)) o.1
+      ∙ ap (λ (m : ℕ). answered (question_from m total (centre_at cs i) amount)) (omega (arith, e, was)) ∙ found small few i amount o.0 computed_case
 
-  pub granted_ends : {q : ℕ} {r : Drawn} {zs : List Centre}
-      → q ≡ number_of (drawing total cs i amount) → number_of (drawing total cs i amount) ≡ 0 → r ≡ answered q
-      → zs ≡ set cs i (record { guarantee = (centre_at cs i).guarantee; cap = (centre_at cs i).cap; drawn = (centre_at cs i).drawn + amount }) → Ends r zs
+  refused_list : (r : Drawn) {q : ℕ} → Err q ≡ answer_of r → list_after r cs i amount ≡ cs
+  unfolding answer_of list_after
+  refused_list draw_granted e = cc
+  refused_list (draw_refused q) e = refl
+
+  granted_list : {r : Drawn} → Case total cs i amount r → Ok tt ≡ answer_of r
+      → (list_after r cs i amount ≡ added cs i amount) × ((centre_at cs i).drawn + amount ≤ (centre_at cs i).cap)
+  unfolding answer_of list_after
+  granted_list (by_list n) e = cc
+  granted_list (by_centre l) e = cc
+  granted_list (by_cap s l h) e = cc
+  granted_list (by_rest s l c h) e = cc
+  granted_list (by_none q) e = (refl, q.in_cap)
+
+  pub ends_refused : {q : ℕ} → Err q ≡ answer_of is → Ends (Err q) cs
+  ends_refused e = (e, sym (refused_list is e))
+
+  pub granted_cap : {own : Centre} → (i < length cs) × (own ≡ centre_at cs i) → Ok tt ≡ answer_of is → own.drawn + amount ≤ own.cap
+  granted_cap o e = rw o.1 (granted_list computed_case e).1
+
+  pub ends_granted : {own : Centre} → (i < length cs) × (own ≡ centre_at cs i) → Ok tt ≡ answer_of is
+      → Ends (Ok tt) (set cs i (record { guarantee = (centre_at cs i).guarantee; cap = (centre_at cs i).cap; drawn = own.drawn + amount }))
   unfolding added with_draw
-  granted_ends e z a s = (a ∙ (ap answered e ∙ answer_is), s ∙ sym (granted_list z))
-
-  pub refused_ends : {q : ℕ} {r : Drawn} {zs : List Centre}
-      → q ≡ number_of (drawing total cs i amount) → number_of (drawing total cs i amount) ≢ 0 → r ≡ answered q → zs ≡ cs → Ends r zs
-  refused_ends e n a s = (a ∙ (ap answered e ∙ answer_is), s ∙ sym (refused_list n))
-
-  pub missed_ends : {q : ℕ} {r : Drawn} {zs : List Centre} → looked_at (length cs) ≤ i → q ≡ 18 → r ≡ answered q → zs ≡ cs → Ends r zs
-  unfolding number_of
-  missed_ends past e a s =
-      let d = question_missed total cs i amount past in let k = ap number_of d in
-      refused_ends (e ∙ sym k) (λ z. absurd (omega (arith, k, z))) a s
+  ends_granted o e = rw o.1 (e, sym (granted_list computed_case e).0)

@@ -13,7 +13,7 @@ use Rattle.meaning.specs.Finite.{Yes, ◌and◌}
 use Rattle.meaning.specs.Centres.{centre_at, sum_of, claimed}
 use Rattle.meaning.proofs.Tests.{yes_case, and_left, and_right, and_both, clash, pick_yes, pick_no, pick_either, is_le, le_yes, le_no}
 use Rattle.theory.specs.Centres.{capped}
-use Rattle.centres.specs.Plain.{looked_at, claim}
+use Rattle.centres.specs.Plain.{claim}
 
 abbrev pub claim_of : Centre → ℕ
 claim_of c = claim c.guarantee c.cap c.drawn
@@ -63,25 +63,6 @@ claims_above (c ∷ cs) n =
 
 -- ---- the loop
 
-pub looked_few : (n : ℕ) → looked_at n ≤ 8
-unfolding looked_at
-looked_few n = pick_either (λ (m : ℕ). m ≤ 8) (leb n 8) n 0 (λ y. is_le y) (λ _. omega arith)
-
-looked_in : (n : ℕ) → looked_at n ≤ n
-unfolding looked_at
-looked_in n = pick_either (λ (m : ℕ). m ≤ n) (leb n 8) n 0 (λ y. omega arith) (λ _. omega arith)
-
-pub looked_all : {n : ℕ} → n ≤ 8 → looked_at n ≡ n
-unfolding looked_at
-looked_all few = pick_yes _ _ (le_yes few)
-
-pub looked_none : {n : ℕ} → 8 < n → looked_at n ≡ 0
-unfolding looked_at
-looked_none many = pick_no _ _ (le_no many)
-
-pub inside : (cs : List Centre) (i : ℕ) → i < looked_at (length cs) → i < length cs
-inside cs i l = let h = looked_in (length cs) in omega (arith, l, h)
-
 pub claims_on : (cs : List Centre) (i : ℕ) → i < length cs → claims (drop i cs) ≡ claim_of (centre_at cs i) + claims (drop (suc i) cs)
 unfolding sum_of
 claims_on [] i l = absurd (not-suc-le-zero l)
@@ -90,21 +71,15 @@ claims_on (c ∷ cs) (suc i) l = claims_on cs i (le_of_suc-le-suc l)
 
 -- after some turns: how many records were looked at, and what they claim
 pub record Progress (cs : List Centre) (reached sum : ℕ) : Type 0 where
-  pub upto : reached ≤ looked_at (length cs)
+  pub upto : reached ≤ length cs
   pub sums : sum + claims (drop reached cs) ≡ claims cs
   pub small : sum ≤ reached * 2 ^ 32
 
-pub started : (cs : List Centre) → Progress cs 0 0
-started cs = record { upto = omega arith; sums = omega arith; small = omega arith }
-
-pub sum_fits : {cs : List Centre} {reached sum : ℕ} → Progress cs reached sum → sum < 2 ^ 63
-sum_fits {cs} p = let c = looked_few (length cs) in omega (arith, c)
-
 pub one_on : {cs : List Centre} {reached sum next : ℕ}
-    → Progress cs reached sum → reached < looked_at (length cs) → next ≡ sum + claim_of (centre_at cs reached) → next ≤ sum + 2 ^ 32
+    → Progress cs reached sum → reached < length cs → next ≡ sum + claim_of (centre_at cs reached) → next ≤ sum + 2 ^ 32
     → Progress cs (reached + 1) next
 one_on {cs} {reached} p l e w = record {
   upto = omega arith;
-  sums = let on = claims_on cs reached (inside cs reached l) in let step = ap (λ (k : ℕ). claims (drop k cs)) (add-one reached) in omega (arith, on, step);
+  sums = let on = claims_on cs reached l in let step = ap (λ (k : ℕ). claims (drop k cs)) (add-one reached) in omega (arith, on, step);
   small = omega arith;
 }

@@ -2,10 +2,6 @@
 use Rattle.std.specs.Prelude.{ℕ, max, ◌+◌, ◌-◌, ◌^◌, leb}
 use Rattle.meaning.specs.Finite.{pick}
 
--- how many records are looked at: all of at most 8, none of more
-unfoldable pub looked_at : ℕ → ℕ
-looked_at n = pick (leb n 8) n 0
-
 -- what a record adds to the claims: the larger of guarantee and drawn, or, where that is above the cap, more than any total
 unfoldable pub claim : ℕ → ℕ → ℕ → ℕ
 claim guarantee cap drawn = pick (leb (max guarantee drawn) cap) (max guarantee drawn) (2 ^ 32)

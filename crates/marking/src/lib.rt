@@ -6,7 +6,8 @@ ghost use Rattle.reading.specs.Filling.{Fills};
 ghost use Rattle.marking.specs.Pieces.{FillsWithAnswer};
 
 use pieces::{PIECES_READ, read_pieces};
-use reading::{CONSTRAINTS_READ, Filled, fill};
+use printing::reported;
+use reading::{CONSTRAINTS_READ, fill};
 use std::rt::Files;
 use std::{fs, io, str};
 use text::TEXT_BYTES;
@@ -19,40 +20,28 @@ fn open<R: Files>(rt: &R, path: &[u8]) -> io::Result<R::File> {
     }
 }
 
-fn read_constraints(rt: &(impl Files + Eprint), path: &[u8], buffer: &mut [u8]) -> Filled
+fn read_constraints(rt: &impl Files, path: &[u8], buffer: &mut [u8]) -> io::Result<usize>
     ensures { Fills result buffer.new }
 {
-    match open(rt, path) {
-        Ok(mut file) => fill(rt, &mut file, path, buffer),
-        Err(error) => {
-            printing::fail(rt, path, &error);
-            Filled::Failed
-        }
-    }
+    let mut file = open(rt, path)?;
+    fill(&mut file, buffer)
 }
 
-fn read_answer(rt: &(impl Files + Eprint), path: &[u8], buffer: &mut [u8]) -> Filled
+fn read_answer(rt: &impl Files, path: &[u8], buffer: &mut [u8]) -> io::Result<usize>
     ensures { FillsWithAnswer result buffer.new }
 {
-    match open(rt, path) {
-        Ok(mut file) => read_pieces(rt, &mut file, path, buffer),
-        Err(error) => {
-            printing::fail(rt, path, &error);
-            Filled::Failed
-        }
-    }
+    let mut file = open(rt, path)?;
+    read_pieces(&mut file, buffer)
 }
 
 // Marks the answer file of the second name as an answer to the constraint file of the first, and prints the verdict.
 pub fn mark_files(rt: &(impl Files + Print + Eprint), constraints: &[u8], answer: &[u8]) {
     let mut records = [0u8; CONSTRAINTS_READ];
-    let first = read_constraints(rt, constraints, &mut records);
-    let Filled::Bytes(n) = first else {
+    let Some(n) = reported(rt, constraints, read_constraints(rt, constraints, &mut records)) else {
         return;
     };
     let mut buffer = [0u8; PIECES_READ];
-    let second = read_answer(rt, answer, &mut buffer);
-    let Filled::Bytes(m) = second else {
+    let Some(m) = reported(rt, answer, read_answer(rt, answer, &mut buffer)) else {
         return;
     };
     let mut out = [0u8; TEXT_BYTES];

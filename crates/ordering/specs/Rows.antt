@@ -33,6 +33,10 @@ module _ (t u : List ℕ) where
   unfoldable pub in_layer : ℕ → ℕ → ℕ → ℕ → Bool
   in_layer n lows d x = bit lows x and eqb (deep n lows x) d
 
+  -- the row of each depth has the lowest variables that deep
+  abbrev pub AreLayers : ℕ → ℕ → List ℕ → Type 0
+  AreLayers n lows rows = (d : ℕ) → d < 17 → Gathered n (in_layer n lows d) (row rows d)
+
   -- w is among these, which are over one variable, and over none of them
   unfoldable pub near : ℕ → ℕ → Bool
   near above w = bit above w and eqb (bit_and above (without (row t w) (row u w))) 0

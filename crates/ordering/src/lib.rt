@@ -7,7 +7,7 @@ ghost use Rattle.std.specs.Int.Bits.{bit_and};
 ghost use Rattle.std.specs.Int.Count.{ones};
 ghost use Rattle.meaning.specs.Finite.{one, position};
 ghost use Rattle.tables.specs.Tables.{row};
-ghost use Rattle.ordering.specs.Rows.{Gathered, over_row, is_low, is_lowest, deep, in_layer, near};
+ghost use Rattle.ordering.specs.Rows.{Gathered, over_row, is_low, is_lowest, deep, AreLayers, near};
 ghost use Rattle.ordering.specs.Numbering.{element_of, numbered};
 ghost use Rattle.ordering.specs.Listing.{numbers, AreVariables, Strict, Earliest, in_line, listed, Placed};
 
@@ -23,6 +23,7 @@ pub struct Ancestry {
 
 impl Ancestry {
     // The variables over x.
+    #[tactic(auto, unfolding(crate::specs::Rows::over_row))]
     pub fn over(&self, x: Var) -> u16
         requires { x.0 < 16 }
         ensures { result ≡ over_row self.now.n.count (row self.now.above x.0) (row self.now.below x.0) }
@@ -33,6 +34,7 @@ impl Ancestry {
     }
 
     // Whether no smaller variable is in the group of x.
+    #[tactic(auto, unfolding(crate::specs::Rows::is_low))]
     fn is_low(&self, x: Var) -> bool
         requires { x.0 < 16 }
         ensures { result ≡ is_low self.now.below self.now.above x.0 }
@@ -54,6 +56,7 @@ impl Ancestry {
     }
 
     // How many of the lowest variables are over x.
+    #[tactic(auto, unfolding(crate::specs::Rows::deep))]
     fn depth(&self, lows: u16, x: Var) -> usize
         requires { x.0 < 16 }
         ensures value { result ≡ deep self.now.below self.now.above self.now.n.count lows x.0 }
@@ -64,18 +67,18 @@ impl Ancestry {
 
     // The groups of each depth. A depth is a count of sixteen bits, so at most 16.
     pub fn layers(&self, lows: u16) -> [u16; 17]
-        ensures { (d : ℕ) → d < 17 → Gathered self.now.n.count (in_layer self.now.below self.now.above self.now.n.count lows d) (row result d) }
+        ensures { AreLayers self.now.below self.now.above self.now.n.count lows result }
     {
         let mut layer = [0u16; 17];
         for x in 0..self.n.count {
             let depth = self.depth(lows, Var(x as u8));
-            let old = layer[depth];
-            layer[depth] = tables::gain_one(rowbits::has(lows, x), old, x);
+            layer[depth] = tables::gain_one(rowbits::has(lows, x), layer[depth], x);
         }
         layer
     }
 
     // Whether w is over, and over nothing else that is.
+    #[tactic(auto, using(tables::proofs::Helpers::and_is), unfolding(crate::specs::Rows::near))]
     fn is_near(&self, over: u16, w: Var) -> bool
         requires { w.0 < 16 }
         ensures { result ≡ near self.now.below self.now.above over w.0 }
@@ -108,7 +111,8 @@ fn earliest(after: [u16; 16], row: u16) -> usize
     }
 }
 
-// The groups in the order of their nodes, each by its lowest variable. `long` repeats the type of `group`, for proofs about a struct that holds an order.
+// The groups in the order of their nodes, each by its lowest variable.
+// `long` repeats the type of `group`, for proofs about a struct that holds an order.
 #[derive(Clone, Copy)]
 pub struct Order {
     pub group: [Var; 16],
@@ -186,7 +190,7 @@ impl Order {
     }
 }
 
-// What is in front of the nodes of the groups: the document node, node 0, and perhaps a blank element next under it, node 1.
+// What is in front of the nodes of the groups: the document node, node 0, and perhaps a blank element, node 1.
 #[derive(Clone, Copy)]
 pub struct Front {
     pub element: bool,
@@ -203,6 +207,7 @@ impl Front {
     }
 
     // The parent of a group at the top: the blank element, or else the document node.
+    #[tactic(auto, using(crate::proofs::Bits::byte_is))]
     pub fn top(self) -> Node
         ensures { result.0 ≡ one self.element }
     {
@@ -210,6 +215,7 @@ impl Front {
     }
 
     // The node of the group at a place of the order.
+    #[tactic(auto, using(crate::proofs::Bits::byte_is), unfolding(crate::specs::Numbering::numbered))]
     pub fn node_at(self, place: usize) -> Node
         requires { numbered (one self.element) place < 256 }
         ensures { result.0 ≡ numbered (one self.element) place }

@@ -3,31 +3,27 @@
 
 ghost use Rattle.pieces.specs.Pieces.{FillsInPieces};
 
-use reading::{Filled, fill};
+use reading::fill;
+use std::io;
 use std::io::Read;
 
 // As much of a file as is held at once.
 pub const PIECES_READ: usize = 4096;
 
 // Reads a file to its end. Whenever the buffer is full, what is in it is shortened, which leaves all that is judged of the whole as it is. A proved
-// loop has to end, and nothing says that a file does: the loop counts its turns down from a number that no run uses up.
-pub fn read_pieces(rt: &impl Eprint, from: &mut impl Read, path: &[u8], buffer: &mut [u8]) -> Filled
+// loop has to end, and nothing says that a file does: the loop has more turns than any run takes.
+pub fn read_pieces(from: &mut impl Read, buffer: &mut [u8]) -> io::Result<usize>
     ensures { FillsInPieces result buffer.new }
 {
     let mut kept: usize = 0;
-    let mut turns = u64::MAX;
-    while turns > 0 {
+    for _ in 0..u64::MAX {
         let room = buffer.len() - kept;
-        let filled = fill(rt, from, path, &mut buffer[kept..]);
-        let Filled::Bytes(more) = filled else {
-            return Filled::Failed;
-        };
+        let more = fill(from, &mut buffer[kept..])?;
         let end = kept + more;
         kept = answers::shorten(&mut buffer[..end]);
         if more < room {
-            return Filled::Bytes(kept);
+            return Ok(kept);
         }
-        turns -= 1;
     }
-    Filled::Failed
+    Err(io::Error::other("the file does not end"))
 }

@@ -1,6 +1,9 @@
 // What a program says: a verdict on standard output; a wrong use, and what failed, on standard error.
 #![tactic(auto)]
 
+ghost use Rattle.std.specs.Prelude.{◌≡◌};
+ghost use Rattle.std.specs.Result.{result_ok};
+
 use std::io::Write;
 use std::{fmt, io, str};
 
@@ -20,6 +23,13 @@ pub fn usage(rt: &impl Eprint, line: &[u8]) {
 // Says on standard error what failed, by its name, and why.
 pub fn fail(rt: &impl Eprint, name: &[u8], error: &io::Error) {
     let _ = eprintln!(rt; "{}: {}", Shown(name), Reason(error));
+}
+
+// What went well; of what failed, standard error says the name and why.
+pub fn reported<T>(rt: &impl Eprint, name: &[u8], outcome: io::Result<T>) -> Option<T>
+    ensures { result ≡ result_ok outcome }
+{
+    outcome.inspect_err(|error| fail(rt, name, error)).ok()
 }
 
 // Bytes as they are where they are text, or else in ASCII, the others as hex.

@@ -6,13 +6,15 @@ use native.Mathlib.Omega.{arith}
 use lib.ListN.{length, drop, length-append}
 use lib.Seq.{sets-eq, length-take-le}
 use Rattle.std.specs.Counts.{IsPrefixLen}
-use Rattle.meaning.specs.Ascii.{ascii}
-use Rattle.meaning.specs.Results.{Fill, fill_refused, fill_wrote}
-use Rattle.meaning.specs.Text.{decimal, numbered, fill_text}
-use Rattle.lent.specs.declared.Answer.{Answer}
-use Rattle.lent.specs.declared.Answer.TheVariants.{Written, Refused}
+use Rattle.meaning.specs.Results.{Fill, fill_wrote}
+use Rattle.meaning.specs.Text.{numbered, fill_text}
+use Rattle.std.specs.Prelude.{Result, Ok, Err}
+use Rattle.questions.specs.declared.Question.{Question}
+use Rattle.questions.specs.Number.{number}
 use Rattle.lent.proofs.Answered.{answer_written, answer_refused}
 use Rattle.lent.specs.Putting.{Put}
+use Rattle.putting.specs.declared.Page.{Page}
+use Rattle.putting.specs.Pages.{Puts}
 use Rattle.putting.specs.Fronts.{Fronted, Shown}
 
 pub put_front : {l m : List ℕ} {r : ℕ} {t : List ℕ} → Put l 0 t r m → Fronted t l r m
@@ -24,6 +26,10 @@ put_front {l} {m} {r} {t} p =
       wrote = p.stored ∙ sets-eq t l 0 (omega arith) ∙ ap (λ (k : ℕ). t ++ drop k l) e;
     }
 
+-- what is put on a new page stands at the front of its buffer
+pub first_put : (p q : Page) {buffer text last : List ℕ} {n : ℕ} → p.out.now ≡ buffer → p.at ≡ 0 → n ≡ q.at → last ≡ q.out.now → Puts p text q → Put buffer 0 text n last
+first_put p q whole blank written end h = rw (← whole, written, end, ← blank) h
+
 -- its bytes can be lent
 pub front_counts : {t l m : List ℕ} {r : ℕ} → Fronted t l r m → IsPrefixLen r m
 front_counts {t} {l} {m} {r} w =
@@ -34,7 +40,7 @@ front_counts {t} {l} {m} {r} w =
 
 -- ---- a buffer that was filled
 
-pub written_shown : {n : ℕ} {filled : List ℕ} {answer : Answer} → answer ≡ Written n → Shown answer filled n filled
+pub written_shown : {n : ℕ} {filled : List ℕ} {answer : Result ℕ Question} → answer ≡ Ok n → Shown answer filled n filled
 unfolding fill_text fill_wrote
 written_shown {n} {filled} {answer} e a before h w =
     let z = answer_written a answer n h e in
@@ -44,9 +50,12 @@ written_shown {n} {filled} {answer} e a before h w =
       wrote = w ∙ ap (λ (q : Fill). fill_wrote q before) z.1 ∙ ap (λ (k : ℕ). bs ++ drop k before) (sym z.2) ∙ ap (λ (q : Fill). fill_text q ++ drop n before) (sym z.1);
     }
 
-pub refused_shown : {n k : ℕ} {filled last : List ℕ} {answer : Answer} → answer ≡ Refused n → Put filled 0 (ascii "refused " ++ (decimal n ++ ascii "\n")) k last → Shown answer filled k last
-unfolding fill_text fill_wrote numbered
-refused_shown {n} {k} {filled} {last} {answer} e p a before h w =
-    let z = answer_refused a answer n h e in
-    let same : filled ≡ before = w ∙ ap (λ (q : Fill). fill_wrote q before) z in
-    subst (λ (q : Fill). Fronted (fill_text q) before k last) (sym z) (subst (λ (b : List ℕ). Fronted (fill_text (fill_refused n)) b k last) same (put_front p))
+pub refused_shown : {k : ℕ} {filled last : List ℕ} {q : Question} {answer : Result ℕ Question} → answer ≡ Err q
+    → Put filled 0 (numbered "refused " (number q)) k last → Shown answer filled k last
+unfolding fill_text fill_wrote
+refused_shown {k} {filled} {last} {q} {answer} e p a before h w =
+    let z = answer_refused a answer q h e in
+    let same : filled ≡ before = w ∙ ap (λ (f : Fill). fill_wrote f before) z in
+    let shown = put_front p in
+    subst (λ (f : Fill). Fronted (fill_text f) before k last) (sym z)
+    (subst (λ (b : List ℕ). Fronted (numbered "refused " (number q)) b k last) same shown)

@@ -1,3 +1,3 @@
-pub mod Numbers
-pub mod Lines
 pub mod Fronts
+pub mod Lines
+pub mod Numbers

@@ -7,8 +7,9 @@ use native.Mathlib.Decide.{dec_le}
 use native.Mathlib.Omega.{arith}
 use lib.ListN.{length, length-append}
 use Rattle.meaning.specs.Text.{before_last, digits_of, decimal}
-use Rattle.lent.specs.Putting.{Put}
 use Rattle.lent.proofs.Stores.{put_same, put_then}
+use Rattle.putting.specs.declared.Page.{Page}
+use Rattle.putting.specs.Pages.{Puts}
 
 no_leading : (q : ℕ) (more : Unit {0} → List ℕ) → q ≡ 0 → before_last q more ≡ []
 unfolding before_last
@@ -45,17 +46,13 @@ decimal_more n h = rw (some_leading (n / 10) (λ _. digits_of n (n / 10)) (omega
 pub decimal_longer : (n : ℕ) → 10 ≤ n → length (decimal n) ≡ length (decimal (n / 10)) + 1
 decimal_longer n h = rw (decimal_more n h, length-append (decimal (n / 10)) ((48 + n % 10) ∷ []))
 
-put_at : {d m o text : List ℕ} {j k r : ℕ} → m ≡ d → k ≡ j → Put m k text r o → Put d j text r o
-put_at {m = m} {o} {text} {j = j} {r = r} e f q = subst (λ (x : List ℕ). Put x j text r o) e (subst (λ (i : ℕ). Put m i text r o) f q)
-
 -- the last digit is put behind those of the tenth, or alone
-module _ {before out after : List ℕ} {at r : ℕ} (n last : ℕ) where
-  pub put_last : {filled : List ℕ} {end : ℕ} → 10 ≤ n → out ≡ filled → last ≡ end → Put before at (decimal (n / 10)) end filled → Put out last ((48 + n % 10) ∷ []) r after
-      → Put before at (decimal n) r after
-  put_last h e f p q = put_same (sym (decimal_more n h)) (put_then p (put_at e f q))
+module _ (p m r : Page) (n : ℕ) where
+  pub put_tenth : {q : Page} → 10 ≤ n → m ≡ q → Puts p (decimal (n / 10)) q → Puts m ((48 + n % 10) ∷ []) r → Puts p (decimal n) r
+  put_tenth h e f g = put_same (sym (decimal_more n h)) (put_then f (subst (λ (x : Page). Puts x ((48 + n % 10) ∷ []) r) e g))
 
-  pub put_lone : n < 10 → out ≡ before → last ≡ at → Put out last ((48 + n % 10) ∷ []) r after → Put before at (decimal n) r after
-  put_lone h e f q = put_same (sym (decimal_one n h)) (put_at e f q)
+  pub put_lone : n < 10 → m ≡ p → Puts m ((48 + n % 10) ∷ []) r → Puts p (decimal n) r
+  put_lone h e g = put_same (sym (decimal_one n h)) (subst (λ (x : Page). Puts x ((48 + n % 10) ∷ []) r) e g)
 
 one_more : (q : ℕ) (more : Unit {0} → List ℕ) (d k : ℕ) → (0 < q → length (more tt) ≤ k) → length (before_last q more ++ (d ∷ [])) ≤ suc k
 unfolding before_last

@@ -127,7 +127,7 @@ module _ (n : ℕ) (h : FactSet) where
 -- ---- of the tables
 
 -- what is known of tables that are ready once the lowest of their groups are in layers
-pub record InLayers (S : List Fact) (f : Facts) (n lows : ℕ) (rows : List ℕ) : Type 0 where
+pub record Prepared (S : List Fact) (f : Facts) (n lows : ℕ) (rows : List ℕ) : Type 0 where
   pub few : n ≤ 16
   pub ready : Ready n S f
   pub long : length f.after ≡ 16
@@ -135,11 +135,11 @@ pub record InLayers (S : List Fact) (f : Facts) (n lows : ℕ) (rows : List ℕ)
   pub low : Gathered n (is_lowest f.below f.above f.root) lows
   pub layered : Layered f.below f.above n lows n rows
 
-pub in_layers : {S : List Fact} {f : Facts} {n lows : ℕ} {rows : List ℕ} → n ≤ 16 → Ready n S f → length f.after ≡ 16 → ((g : ℕ) → Fits w16 (row f.after g))
-    → Gathered n (is_lowest f.below f.above f.root) lows → Layered f.below f.above n lows n rows → InLayers S f n lows rows
-in_layers a r l f g d = record { few = a; ready = r; long = l; fits = f; low = g; layered = d }
+pub prepared : {S : List Fact} {f : Facts} {n lows : ℕ} {rows : List ℕ} → n ≤ 16 → Ready n S f → length f.after ≡ 16 → ((g : ℕ) → Fits w16 (row f.after g))
+    → Gathered n (is_lowest f.below f.above f.root) lows → Layered f.below f.above n lows n rows → Prepared S f n lows rows
+prepared a r l f g d = record { few = a; ready = r; long = l; fits = f; low = g; layered = d }
 
-module _ {S : List Fact} {f : Facts} {n lows : ℕ} {rows : List ℕ} (w : InLayers S f n lows rows) where
+module _ {S : List Fact} {f : Facts} {n lows : ℕ} {rows : List ℕ} (w : Prepared S f n lows rows) where
   columns : Columns f.below f.above
   columns = w.ready.mirrored.ancestors
 
@@ -155,7 +155,7 @@ module _ {S : List Fact} {f : Facts} {n lows : ℕ} {rows : List ℕ} (w : InLay
   pub room_for : length (listed f.after rows n) ≤ 16
   room_for = let a = order_most n (has f) in let b = w.few in omega (arith, ap length listed_are)
 
-module _ {S : List Fact} {f : Facts} {n lows : ℕ} {rows : List ℕ} (w : InLayers S f n lows rows) (o : Order) (these : groups o ≡ listed f.after rows n) where
+module _ {S : List Fact} {f : Facts} {n lows : ℕ} {rows : List ℕ} (w : Prepared S f n lows rows) (o : Order) (these : groups o ≡ listed f.after rows n) where
   groups_are : groups o ≡ order n (has f)
   groups_are = these ∙ listed_are w
 

@@ -29,6 +29,10 @@ pub record FileWritten (n : ℕ) (h : FactSet) (old : List ℕ) (r : ℕ) (new :
   pub bytes : new ≡ answer_file n h ++ drop (length (answer_file n h)) old
   pub most : r ≤ 136
 
+-- the rows are those of some settled set
+abbrev pub SomeReady : (below above after label : List ℕ) (root n : ℕ) → Type 0
+SomeReady b a s l root n = (S : List Fact) × (g : Facts) × Ready n S (showing b a s l root g)
+
 -- so of any settled set whose rows these are
 abbrev pub WrittenOf : (below above after label : List ℕ) (root n : ℕ) → List ℕ → ℕ → List ℕ → Type 0
 WrittenOf b a s l root n old r new = (S : List Fact) (g : Facts) → Ready n S (showing b a s l root g) → FileWritten n (has (showing b a s l root g)) old r new

@@ -2,19 +2,17 @@
 // it; a node for each group of the other variables, by depth, then siblings in their order and otherwise by lowest variable; and the node of each variable.
 #![tactic(auto)]
 
-ghost use Rattle.std.specs.Prelude.{◌≡◌, List, [], ◌∷◌, suc, ◌+◌, ◌*◌, ◌≤◌, length};
-ghost use Rattle.meaning.specs.Constraint.{Fact};
-ghost use Rattle.meaning.specs.Finite.{one, tab};
-ghost use Rattle.tables.specs.Tables.{showing, Ready};
-ghost use Rattle.tables.specs.declared.Facts.{Facts};
+ghost use Rattle.std.specs.Prelude.{◌≡◌, [], ◌∷◌, suc, ◌+◌, ◌*◌, ◌≤◌, length};
+ghost use Rattle.meaning.specs.Finite.{one};
 ghost use Rattle.readoff.specs.Nodes.{node_numbers};
-ghost use Rattle.readoff.specs.Planned.{number_for, LedFor, node_for, parent_for, record_for};
-ghost use Rattle.readoff.specs.Written.{Recorded, Put, blank_at, place_record, WrittenOf};
+ghost use Rattle.readoff.specs.Planned.{number_for, LedFor, nodes_for, parent_for, record_for};
+ghost use Rattle.readoff.specs.Written.{Recorded, Put, blank_at, place_record, SomeReady, WrittenOf};
 
 use ids::{Node, Var, Variables};
 use ordering::{Ancestry, Front, Order};
 
-// What the nodes are read from: what is above and below each variable, the lowest of the groups as a row and in their order, and what is in front of them.
+// What the nodes are read from: what is above and below each variable, the lowest of the groups as a row and in their
+// order, and what is in front of them.
 #[derive(Clone, Copy)]
 struct Plan {
     ancestry: Ancestry,
@@ -37,7 +35,7 @@ impl Plan {
     // The node of each variable: the document node, or that of the lowest of its group.
     fn assign(&self, root: u16) -> [Node; 16]
         requires { LedFor self.now root }
-        ensures { node_numbers self.now.ancestry.n.count result ≡ tab self.now.ancestry.n.count (node_for self.now root) }
+        ensures { node_numbers self.now.ancestry.n.count result ≡ nodes_for self.now root }
     {
         let mut nodes = [Node(0); 16];
         let at = self.order.places();
@@ -119,7 +117,7 @@ pub fn read_off(
     n: Variables,
     answer: &mut [u8],
 ) -> usize
-    requires { (136 ≤ length answer.old) × ((S : List Fact) × (g : Facts) × Ready n.count S (showing below above after label root g)) }
+    requires { (136 ≤ length answer.old) × SomeReady below above after label root n.count }
     ensures { WrittenOf below above after label root n.count answer.old result answer.new }
 {
     let ancestry = Ancestry { below, above, n };

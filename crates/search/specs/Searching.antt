@@ -1,5 +1,5 @@
 -- What a line of the search starts from, and what it reports of the fixed search.
-use Rattle.std.specs.Prelude.{◌≡◌, Bool, false, ℕ, ◌+◌, ◌≤◌, ◌<◌, Option, Some, None}
+use Rattle.std.specs.Prelude.{◌≡◌, Bool, false, ℕ, ◌+◌, ◌≤◌, ◌<◌, Option, Some, None, MatchOption}
 use mathlib.Core.List.{List, ◌++◌, Memᴰ}
 use Rattle.std.proofs.Math.Option.{none, some}
 use Rattle.meaning.specs.Constraint.{Fact, below}
@@ -57,13 +57,9 @@ abbrev pub tables_of : (child parent below above differ before after label : Lis
 tables_of c p b a d e s l r f = record { child = c; parent = p; below = b; above = a; differ = d; before = e; after = s; root = r; label = l; leaf = f }
 
 -- tables that were settled for S: they decide its settled set, or S has a clash
-abbrev pub SettledAs : ℕ → List Fact → Option Facts → Type 0
-SettledAs n S None = Clash n S
-SettledAs n S (Some f) = Ready n S f
-
 pub record Line (n : ℕ) (S : List Fact) (s : Option Facts) : Type 0 where
   pub inside : Inside n S
-  pub settled : SettledAs n S s
+  pub settled : MatchOption s (Clash n S) (Ready n S)
 
 -- an end without a tree, after c alternatives in all
 abbrev pub without_tree : End → ℕ → Searched

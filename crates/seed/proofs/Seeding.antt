@@ -1,13 +1,15 @@
 -- The loop of `seed` keeps `Seeding`, or leaves with two labels.
-use mathlib.Core.Path.{◌≡◌, sym, ◌∙◌, subst}
+use mathlib.Core.Path.{◌≡◌, sym, ap, ◌∙◌, subst}
 use mathlib.Core.Bool.{Bool, true, false}
-use mathlib.Core.List.{List, Memᴰ}
-use Prim.Native.Nat.{ℕ, ◌+◌, ◌*◌, ◌/◌, ◌%◌, ◌^◌, ◌<◌}
-use native.Mathlib.Nat.{mod-eq_of_lt}
+use mathlib.Core.List.{List, [], Memᴰ}
+use Prim.Native.Nat.{ℕ, zero, suc, ◌+◌, ◌*◌, ◌/◌, ◌%◌, ◌^◌, ◌<◌}
+use native.Mathlib.Nat.{mod-eq_of_lt, add-zero}
 use native.Mathlib.Omega.{arith}
 use lib.Dec.{eqb}
 use lib.Bits.{bit_or}
-use lib.ListN.{length, get_or, set, replicate}
+use lib.Seq.{get_or-take, get_or-drop}
+use lib.ListN.{length, get_or, set, drop, replicate}
+use Rattle.std.specs.Simd.{first_chunks}
 use Rattle.meaning.specs.Tree.{folded}
 use Rattle.meaning.specs.Constraint.{Constraint, facts_of}
 use Rattle.meaning.specs.Files.{accepted, judge}
@@ -29,6 +31,14 @@ pub seeding_start : (cs : List Constraint) → Seeding cs 0 (replicate 256 0) (r
 seeding_start cs = record { by_row = gathered_none cs left right; by_column = gathered_none cs right left; labels = labels_none cs }
 
 -- ---- one record more, as the code has it
+
+-- byte j of piece i of four bytes
+byte_of : (n : ℕ) (bs : List ℕ) (i j : ℕ) → i < n → j < 4 → get_or (get_or (first_chunks 4 n bs) i []) j 0 ≡ get_or bs (i * 4 + j) 0
+byte_of zero bs i j h l = absurd (omega arith)
+byte_of (suc n) bs zero j h l = let e : j ≡ zero * 4 + j = omega arith in get_or-take 4 bs j 0 l ∙ ap (λ (k : ℕ). get_or bs k 0) e
+byte_of (suc n) bs (suc i) j h l =
+    let e : 4 + (i * 4 + j) ≡ suc i * 4 + j = omega arith in
+    byte_of n (drop 4 bs) i j (omega arith) l ∙ get_or-drop 4 bs (i * 4 + j) 0 ∙ ap (λ (k : ℕ). get_or bs k 0) e
 
 module _ (file : List ℕ) (cs : List Constraint) (e : judge file ≡ accepted cs) (small : (i : ℕ) → get_or file i 0 < 256) where
   pub few : (c : Constraint) → Memᴰ c cs → (left c < 16) × (right c < 16)
@@ -74,20 +84,28 @@ module _ (file : List ℕ) (cs : List Constraint) (e : judge file ≡ accepted c
           labels = labels_more cs i d at k x y l good x_small names s.labels free;
         }
 
-    -- the code's numbers are the record's
-    module _ (k' x' y' l' : ℕ) (ek : k' ≡ k % 16) (ex : x' ≡ x % 16) (ey : y' ≡ y % 16) (el : l' ≡ folded l)
+    -- the code's numbers are the record's, which is the i-th piece of four bytes
+    module _ (records : List (List ℕ)) (cut : records ≡ first_chunks 4 (length file / 4) file) (k' x' y' l' : ℕ)
+        (ek : k' ≡ get_or (get_or records i []) 0 0 % 16) (ex : x' ≡ get_or (get_or records i []) 1 0 % 16)
+        (ey : y' ≡ get_or (get_or records i []) 2 0 % 16) (el : l' ≡ folded (get_or (get_or records i []) 3 0))
         (new : ℕ) (en : new ≡ labelled (eqb k' 8) (row names x') l') (second : Bool) (es : second ≡ second_label (row names x') new) where
+      byte_is : (j : ℕ) → j < 4 → get_or (get_or records i []) j 0 ≡ get_or file (i * 4 + j) 0
+      byte_is j l = ap (λ (r : List (List ℕ)). get_or (get_or r i []) j 0) cut ∙ byte_of (length file / 4) file i j h l
+
       kind_is : k' ≡ k
-      kind_is = ek ∙ mod-eq_of_lt (let m = good.most in omega arith)
+      kind_is = ek ∙ rw (byte_is 0 (omega arith), add-zero) (mod-eq_of_lt (let m = good.most in omega arith))
 
       left_is : x' ≡ x
-      left_is = ex ∙ mod-eq_of_lt x_small
+      left_is = ex ∙ rw (byte_is 1 (omega arith)) (mod-eq_of_lt x_small)
 
       right_is : y' ≡ y
-      right_is = ey ∙ mod-eq_of_lt y_small
+      right_is = ey ∙ rw (byte_is 2 (omega arith)) (mod-eq_of_lt y_small)
+
+      name_is : l' ≡ folded l
+      name_is = el ∙ rw (byte_is 3 (omega arith))
 
       new_is : new ≡ labelled (eqb k 8) (row names x) (folded l)
-      new_is = en ∙ rw (kind_is, left_is, el)
+      new_is = en ∙ rw (kind_is, left_is, name_is)
 
       second_is : second ≡ second_label (row names x) (labelled (eqb k 8) (row names x) (folded l))
       second_is = es ∙ rw (new_is, left_is)

@@ -1,6 +1,6 @@
 -- What the tables of the given facts are, unless two labels clash: they hold the facts of the file's constraints, and differ as its own
 -- rules close it.
-use Rattle.std.specs.Prelude.{◌≡◌, Bool, true, false, ◌↔◌, ◌≢◌, ◌⊎◌, ℕ, ◌+◌, ◌*◌, ◌<◌, ◌≤◌, eqb, replicate}
+use Rattle.std.specs.Prelude.{◌≡◌, Bool, ◌↔◌, ◌≢◌, ◌⊎◌, ℕ, ◌+◌, ◌*◌, ◌<◌, ◌≤◌, eqb, replicate, MatchOption, Option}
 use mathlib.Core.List.{List, Memᴰ}
 use Rattle.std.specs.Int.Bits.{bit_or}
 use Rattle.meaning.specs.Tree.{Var, Label}
@@ -9,7 +9,6 @@ use Rattle.meaning.specs.Finite.{Yes, ◌and◌, neg, pick}
 use Rattle.constraints.specs.Judgement.{constraints_in}
 use Rattle.tables.specs.Tables.{row, has, Seeded}
 use Rattle.tables.specs.declared.Facts.{Facts}
-use Rattle.seed.specs.declared.Seeds.{Seeds}
 
 unfoldable pub labelled : Bool → ℕ → ℕ → ℕ
 labelled given old new = pick given new old
@@ -17,20 +16,6 @@ labelled given old new = pick given new old
 -- another label than the one that stands
 unfoldable pub second_label : ℕ → ℕ → Bool
 second_label old new = neg (eqb old 0) and neg (eqb old new)
-
-unfoldable pub no_facts : Facts
-no_facts = record {
-  child = replicate 16 0;
-  parent = replicate 16 0;
-  below = replicate 16 0;
-  above = replicate 16 0;
-  differ = replicate 16 0;
-  before = replicate 16 0;
-  after = replicate 16 0;
-  root = 0;
-  label = replicate 16 0;
-  leaf = 0;
-}
 
 -- row x of a kind
 abbrev pub kind_row : List ℕ → ℕ → ℕ → ℕ
@@ -82,10 +67,13 @@ pub record GivesTwoLabels (S : List Fact) : Type 0 where
   pub gives_other : Memᴰ (label variable other) S
   pub unlike : one ≢ other
 
-pub record SeedsOf (file : List ℕ) (r : Seeds) : Type 0 where
-  pub clashes : Yes r.clash ↔ GivesTwoLabels (facts_of (constraints_in file))
-  pub cleared : r.clash ≡ true → r.facts ≡ no_facts
-  -- else the tables hold what is sown and no other fact; that `parent` is the columns of `child`, and `after` of `before`, is in seeded
-  pub exact : r.clash ≡ false → (φ : Fact) → Yes (has r.facts φ) ↔ Sown (facts_of (constraints_in file)) φ
-  pub unmirrored : r.clash ≡ false → r.facts.above ≡ replicate 16 0
-  pub seeded : r.clash ≡ false → (n : ℕ) → vars (constraints_in file) ≤ n → Seeded n (facts_of (constraints_in file)) r.facts
+-- the tables of a file: they hold what is sown and no other fact; that `parent` is the columns of `child`, and `after` of `before`, is in seeded
+pub record SownOf (file : List ℕ) (f : Facts) : Type 0 where
+  pub one_label : ¬ GivesTwoLabels (facts_of (constraints_in file))
+  pub exact : (φ : Fact) → Yes (has f φ) ↔ Sown (facts_of (constraints_in file)) φ
+  pub unmirrored : f.above ≡ replicate 16 0
+  pub seeded : (n : ℕ) → vars (constraints_in file) ≤ n → Seeded n (facts_of (constraints_in file)) f
+
+-- None where two labels clash
+abbrev pub SeedsOf : List ℕ → Option Facts → Type 0
+SeedsOf file r = MatchOption r (GivesTwoLabels (facts_of (constraints_in file))) (SownOf file)

@@ -1,28 +1,20 @@
 // The given facts of an accepted constraint file, as tables to settle from.
 #![tactic(auto)]
 
-ghost use Rattle.std.specs.Prelude.{◌≡◌, ℕ, ◌%◌, ◌<◌};
+ghost use Rattle.std.specs.Prelude.{◌≡◌, ℕ, ◌%◌, Ok};
 ghost use Rattle.constraints.specs.Judgement.{judgement};
-ghost use Rattle.constraints.specs.declared.Judgement.TheVariants.{Accepted};
-ghost use Rattle.seed.specs.Seeds.{labelled, second_label, no_facts, kind_row, RowsOf, TogetherOf, SeedsOf};
+ghost use Rattle.constraints.specs.Record.{kind_number};
+ghost use Rattle.seed.specs.Seeds.{labelled, second_label, kind_row, RowsOf, TogetherOf, SeedsOf};
 
+use constraints::Kind;
 use tables::Facts;
 
-// The tables, or a clash: two labels on one variable, case aside, which no tables hold.
-#[derive(Clone, Copy)]
-pub struct Seeds {
-    pub clash: bool,
-    pub facts: Facts,
-}
-
 // A label, or the one that is given.
+#[tactic(auto, using(tables::proofs::Helpers::pick_on, tables::proofs::Helpers::pick_off), unfolding(crate::specs::Seeds::labelled))]
 fn label_with(given: bool, old: u8, new: u8) -> u8
     ensures { result ≡ labelled given old new }
 {
-    if given {
-        return new;
-    }
-    old
+    if given { new } else { old }
 }
 
 // Another label than the one that stands. One product and not two tests, which are compiled to branches that a mix of records mispredicts.
@@ -40,61 +32,39 @@ fn index(byte: u8) -> usize
     byte as usize % 16
 }
 
-fn blank() -> Facts
-    ensures { result ≡ no_facts }
-{
-    Facts {
-        child: [0; 16],
-        parent: [0; 16],
-        below: [0; 16],
-        above: [0; 16],
-        differ: [0; 16],
-        before: [0; 16],
-        after: [0; 16],
-        root: 0,
-        label: [0; 16],
-        leaf: 0,
-    }
-}
-
 // The rows of one kind.
-fn table(rows: [u16; 256], kind: usize) -> [u16; 16]
-    requires { kind < 16 }
-    ensures { RowsOf (kind_row rows kind) result }
+fn table(rows: &[u16; 256], kind: Kind) -> [u16; 16]
+    ensures { RowsOf (kind_row rows.now (kind_number kind)) result }
 {
+    let at = kind as usize * 16;
     let mut a = [0u16; 16];
-    for x in 0usize..16 {
-        let v = rows[kind * 16 + x];
-        a[x] = v;
-    }
+    a.copy_from_slice(&rows[at..at + 16]);
     a
 }
 
-// The tables, from the rows and columns by kind: 1 child, 2 below, 3 strictly below, 4 same, 5 differ, 9 before; 6 root and 7 leaf, which
-// have 0 for y.
-fn put_together(rows: [u16; 256], columns: [u16; 256], label: [u8; 16]) -> Facts
-    ensures { TogetherOf rows columns label result }
+// The tables, from the rows and columns by kind. Root and leaf have 0 for y, so each is one column.
+#[tactic(auto, using(crate::proofs::Parts::both_of))]
+fn put_together(rows: &[u16; 256], columns: &[u16; 256], label: [u8; 16]) -> Facts
+    ensures { TogetherOf rows.now columns.now label result }
 {
-    let root = columns[96];
-    let leaf = columns[112];
-    let child = table(rows, 1);
-    let parent = table(columns, 1);
-    let before = table(rows, 9);
-    let after = table(columns, 9);
+    let child = table(rows, Kind::Child);
+    let parent = table(columns, Kind::Child);
+    let before = table(rows, Kind::Before);
+    let after = table(columns, Kind::Before);
+    let strictly_below = table(rows, Kind::StrictlyBelow);
+    let strictly_above = table(columns, Kind::StrictlyBelow);
+    let same = tables::either(table(rows, Kind::Same), table(columns, Kind::Same));
+    let apart = tables::either(table(rows, Kind::Differ), table(columns, Kind::Differ));
     let below = tables::either(
-        table(rows, 2),
-        tables::either(
-            table(rows, 3),
-            tables::either(table(rows, 4), table(columns, 4)),
-        ),
+        table(rows, Kind::Below),
+        tables::either(strictly_below, same),
     );
     let differ = tables::either(
         tables::either(tables::either(child, parent), tables::either(before, after)),
-        tables::either(
-            tables::either(table(rows, 3), table(columns, 3)),
-            tables::either(table(rows, 5), table(columns, 5)),
-        ),
+        tables::either(tables::either(strictly_below, strictly_above), apart),
     );
+    let root = columns[Kind::Root as usize * 16];
+    let leaf = columns[Kind::Leaf as usize * 16];
     Facts {
         child,
         parent,
@@ -109,40 +79,30 @@ fn put_together(rows: [u16; 256], columns: [u16; 256], label: [u8; 16]) -> Facts
     }
 }
 
-// The tables of the given facts, ready to be settled; blank tables as soon as a variable is given a second label. The records are
-// gathered by kind here, where the arrays are, and not in a function that hands them back: that would copy a kilobyte.
-pub fn seed(file: &[u8]) -> Seeds
-    requires { (n : ℕ) × (judgement file.now ≡ Accepted n) }
+// The tables of the given facts, ready to be settled; None as soon as a variable is given a second label, case aside, which no tables hold. The
+// records are gathered by kind here, where the arrays are, and not in a function that hands them back: that would copy a kilobyte.
+pub fn seed(file: &[u8]) -> Option<Facts>
+    requires { (n : ℕ) × (judgement file.now ≡ Ok n) }
     ensures { SeedsOf file.now result }
 {
     // bit y of row 16·kind + x and bit x of column 16·kind + y: there is a record of that kind with x and y
     let mut rows = [0u16; 256];
     let mut columns = [0u16; 256];
     let mut label = [0u8; 16];
-    let mut position: usize = 0;
-    while position < file.len() / 4 {
-        let at = position * 4;
-        let kind = index(file[at]);
-        let x = index(file[at + 1]);
-        let y = index(file[at + 2]);
-        let name = labels::folded(file[at + 3]);
+    let (records, _) = file.as_chunks::<4>();
+    for &[number, left, right, letter] in records {
+        let kind = index(number);
+        let x = index(left);
+        let y = index(right);
+        let name = labels::folded(letter);
         let old = label[x];
-        let new = label_with(kind == 8, old, name);
+        let new = label_with(kind == Kind::Label as usize, old, name);
         if second_label(old, new) {
-            return Seeds {
-                clash: true,
-                facts: blank(),
-            };
+            return None;
         }
         label[x] = new;
-        let r = rows[kind * 16 + x];
-        rows[kind * 16 + x] = r | tables::one(y);
-        let c = columns[kind * 16 + y];
-        columns[kind * 16 + y] = c | tables::one(x);
-        position += 1;
+        rows[kind * 16 + x] |= tables::one(y);
+        columns[kind * 16 + y] |= tables::one(x);
     }
-    Seeds {
-        clash: false,
-        facts: put_together(rows, columns, label),
-    }
+    Some(put_together(&rows, &columns, label))
 }

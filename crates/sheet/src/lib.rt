@@ -1,87 +1,116 @@
 // The sheet on which the records of a text are gathered: numbers are given away, and records put. What is pub is so only because crates are split.
 #![tactic(auto)]
 
-ghost use Rattle.std.specs.Prelude.{◌≡◌};
-ghost use Rattle.sheet.specs.Bytes.{next_in, root_in, numbered_in, put_in, rooted_in, axis_in, move_in};
+ghost use Rattle.std.specs.Prelude.{◌≡◌, ◌<◌, ◌≤◌, take};
 
 use axes::Axis;
+use constraints::Kind;
 
-// A sheet: room for 48 records, more than a text of 16 variables needs; then the next number, the root's number (0 while there is none) and the
-// bytes of the records. It is lent and not passed by value, since each level of brackets would copy it. Numbers stop at 17 and records at 48, so
-// that no bound goes through the readers.
-pub const NEXT: usize = 192;
+// The bytes of 48 records, more than a text of 16 variables needs.
+const ROOM: usize = 192;
 
-const ROOT: usize = 193;
-
-pub const LENGTH: usize = 194;
-
-pub const SHEET_BYTES: usize = 195;
-
-// The kinds of record that are put here, but for those of axes.
-const ROOTED: u8 = 6;
-
-const LABELLED: u8 = 8;
-
-// Gives the next number away.
-pub fn number(sheet: &mut [u8; SHEET_BYTES]) -> u8
-    ensures value { result ≡ next_in sheet.old }
-    ensures wrote { sheet.new ≡ numbered_in sheet.old }
-{
-    let next = sheet[NEXT];
-    if next < 17 {
-        sheet[NEXT] = next + 1;
-    }
-    next
+// A sheet is lent and not passed by value, since each level of brackets would copy it. Numbers stop at 17 and records at 48, so that no bound
+// goes through the readers. A number is a plain byte: a struct, as Var, would be passed by a pointer to a copy.
+pub struct Sheet {
+    records: [u8; ROOM],
+    // The bytes of the records so far.
+    length: usize,
+    // The number that is given away next.
+    next: u8,
+    // The root's number, once a path has started there.
+    root: Option<u8>,
+    ghost room: { length ≤ 192 },
+    ghost some: { 0 < next },
 }
 
-// Puts a record behind the others.
-pub fn put(kind: u8, x: u8, y: u8, label: u8, sheet: &mut [u8; SHEET_BYTES])
-    ensures { sheet.new ≡ put_in kind x y label sheet.old }
-{
-    let bytes = sheet[LENGTH];
-    if 188 < bytes {
-        return;
-    }
-    let at = bytes as usize;
-    sheet[at] = kind;
-    sheet[at + 1] = x;
-    sheet[at + 2] = y;
-    sheet[at + 3] = label;
-    sheet[LENGTH] = bytes + 4;
-}
+impl Sheet {
+    ghost use Rattle.sheet.specs.Bytes.{plain, blank_in, numbered_in, put_in, root_in, rooted_in, axis_in, move_in};
 
-// The root's number: at the first start there it gets one, and its record.
-pub fn rooted(sheet: &mut [u8; SHEET_BYTES]) -> u8
-    ensures value { result ≡ root_in (rooted_in sheet.old) }
-    ensures wrote { sheet.new ≡ rooted_in sheet.old }
-{
-    if sheet[ROOT] != 0 {
-        return sheet[ROOT];
+    // Variable 0 is the node where all lines end: the first number left is 1.
+    pub fn new() -> Self
+        ensures { plain result ≡ blank_in }
+    {
+        Sheet {
+            records: [0; ROOM],
+            length: 0,
+            next: 1,
+            root: None,
+        }
     }
-    let x = number(sheet);
-    sheet[ROOT] = x;
-    put(ROOTED, x, 0, 0, sheet);
-    sheet[ROOT]
-}
 
-// The axis record of a step from x to y.
-fn put_axis(axis: Axis, x: u8, y: u8, sheet: &mut [u8; SHEET_BYTES])
-    ensures { sheet.new ≡ axis_in axis x y sheet.old }
-{
-    if axis.1 {
-        put(axis.0, y, x, 0, sheet);
-        return;
+    // How many variables there are: the next number.
+    pub fn variables(&self) -> u8
+        ensures { result ≡ self.now.next }
+    {
+        self.next
     }
-    put(axis.0, x, y, 0, sheet);
-}
 
-// The axis record of a step from x to y, then any label.
-pub fn put_move(axis: Axis, test: u8, x: u8, y: u8, sheet: &mut [u8; SHEET_BYTES])
-    ensures { sheet.new ≡ move_in axis test x y sheet.old }
-{
-    put_axis(axis, x, y, sheet);
-    if test == b'*' {
-        return;
+    // The bytes of the records.
+    pub fn bytes(&self) -> &[u8]
+        ensures { result.now ≡ take self.now.length self.now.records }
+    {
+        &self.records[..self.length]
     }
-    put(LABELLED, y, 0, test, sheet);
+
+    // Gives the next number away.
+    pub fn number(&mut self) -> u8
+        ensures value { result ≡ self.old.next }
+        ensures wrote { plain self.new ≡ numbered_in (plain self.old) }
+    {
+        let next = self.next;
+        if next < 17 {
+            self.next = next + 1;
+        }
+        next
+    }
+
+    // Puts a record behind the others.
+    pub fn put(&mut self, kind: Kind, x: u8, y: u8, label: u8)
+        ensures { plain self.new ≡ put_in kind x y label (plain self.old) }
+    {
+        if self.length + 4 <= ROOM {
+            self.length = lent::put(&mut self.records, self.length, &[kind.number(), x, y, label]);
+        }
+    }
+
+    // The root's number: at the first start there it gets one, and its record.
+    pub fn rooted(&mut self) -> u8
+        ensures value { result ≡ root_in (plain self.new) }
+        ensures wrote { plain self.new ≡ rooted_in (plain self.old) }
+    {
+        if let Some(root) = self.root {
+            return root;
+        }
+        let root = self.number();
+        self.root = Some(root);
+        self.put(Kind::Root, root, 0, 0);
+        root
+    }
+
+    // The axis record of a step from x to y.
+    fn put_axis(&mut self, axis: Axis, x: u8, y: u8)
+        ensures { plain self.new ≡ axis_in axis x y (plain self.old) }
+    {
+        match axis {
+            Axis::Itself => self.put(Kind::Same, x, y, 0),
+            Axis::Child => self.put(Kind::Child, x, y, 0),
+            Axis::Parent => self.put(Kind::Child, y, x, 0),
+            Axis::Descendant => self.put(Kind::StrictlyBelow, x, y, 0),
+            Axis::Ancestor => self.put(Kind::StrictlyBelow, y, x, 0),
+            Axis::DescendantOrSelf => self.put(Kind::Below, x, y, 0),
+            Axis::AncestorOrSelf => self.put(Kind::Below, y, x, 0),
+            Axis::FollowingSibling => self.put(Kind::Before, x, y, 0),
+            Axis::PrecedingSibling => self.put(Kind::Before, y, x, 0),
+        }
+    }
+
+    // The axis record of a step from x to y, then any label.
+    pub fn put_move(&mut self, axis: Axis, test: u8, x: u8, y: u8)
+        ensures { plain self.new ≡ move_in axis test x y (plain self.old) }
+    {
+        self.put_axis(axis, x, y);
+        if test != b'*' {
+            self.put(Kind::Label, y, 0, test);
+        }
+    }
 }

@@ -2,17 +2,12 @@
 // for each node and for each variable.
 #![tactic(auto)]
 
-use reading::{CONSTRAINTS_READ, Filled, is_given};
+use reading::{CONSTRAINTS_READ, fill, standard_input};
 use text::TEXT_BYTES;
 
 fn main(rt: HostRuntime) {
-    if is_given(&rt, 1) {
-        printing::usage(&rt, b"usage: solve < CONSTRAINTS\n");
-        return;
-    }
     let mut constraints = [0u8; CONSTRAINTS_READ];
-    let filled = reading::fill(&rt, &mut rt.stdin(), b"standard input", &mut constraints);
-    let Filled::Bytes(n) = filled else {
+    let Some(n) = standard_input(&rt, b"usage: solve < CONSTRAINTS\n", fill, &mut constraints) else {
         return;
     };
     let mut out = [0u8; TEXT_BYTES];

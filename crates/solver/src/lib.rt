@@ -8,9 +8,10 @@ ghost use Rattle.constraints.specs.Judgement.{constraints_in};
 ghost use Rattle.search.specs.Searching.{Line, Report};
 ghost use Rattle.solver.specs.Solving.{Covers, decided_as, SolverOf, AnswerOf};
 
-use constraints::Judgement;
+use ids::Variables;
+use questions::Question;
 use search::{End, Searched};
-use tables::Settled;
+use tables::Facts;
 
 #[derive(Clone, Copy)]
 pub enum Verdict {
@@ -18,33 +19,30 @@ pub enum Verdict {
     Tree { bytes: usize, count: u32 },
     None { count: u32 },
     Spent { count: u32 },
-    // The number of the first question that is answered no.
-    Refused(u8),
+    // The first question that is answered no.
+    Refused(Question),
 }
 
 // The verdict and the count alone.
 #[derive(Clone, Copy)]
-pub struct Decided {
-    pub end: End,
-    pub count: u32,
+pub enum Decided {
+    Tree { count: u32 },
+    None { count: u32 },
+    Spent { count: u32 },
 }
 
 // The line that the search starts from: the settled set of the given facts.
-fn first_line(constraints: &[u8], n: usize) -> Settled
-    requires { Covers n constraints.now }
-    ensures { Line n (facts_of (constraints_in constraints.now)) result }
+fn first_line(constraints: &[u8], n: Variables) -> Option<Facts>
+    requires { Covers n.count constraints.now }
+    ensures { Line n.count (facts_of (constraints_in constraints.now)) result }
 {
-    let seeds = seed::seed(constraints);
-    let facts = seeds.facts;
-    if seeds.clash {
-        return Settled { clash: true, facts };
-    }
+    let facts = seed::seed(constraints)?;
     settle::settle(facts, n)
 }
 
-fn search_over(constraints: &[u8], n: usize, allowance: u32) -> Searched
-    requires { Covers n constraints.now }
-    ensures { Report allowance n 0 (facts_of (constraints_in constraints.now)) result }
+fn search_over(constraints: &[u8], n: Variables, allowance: u32) -> Searched
+    requires { Covers n.count constraints.now }
+    ensures { Report allowance n.count 0 (facts_of (constraints_in constraints.now)) result }
 {
     let first = first_line(constraints, n);
     search::search(first, n, allowance, 0)
@@ -55,11 +53,11 @@ pub fn decide(constraints: &[u8], n: usize, allowance: u32) -> Decided
     requires { Covers n constraints.now }
     ensures { result ≡ decided_as (solve allowance n (constraints_in constraints.now)) }
 {
-    let found = search_over(constraints, n, allowance);
-    let end = found.end;
-    Decided {
-        end,
-        count: found.count,
+    let Searched { count, end } = search_over(constraints, Variables { count: n }, allowance);
+    match end {
+        End::Tree(_) => Decided::Tree { count },
+        End::None => Decided::None { count },
+        End::Spent => Decided::Spent { count },
     }
 }
 
@@ -68,22 +66,15 @@ pub fn solve_over(constraints: &[u8], n: usize, answer: &mut [u8], allowance: u3
     requires { Covers n constraints.now × (136 ≤ length answer.old) }
     ensures { AnswerOf (solve allowance n (constraints_in constraints.now)) result answer.old answer.new }
 {
-    let found = search_over(constraints, n, allowance);
-    let end = found.end;
+    let n = Variables { count: n };
+    let Searched { count, end } = search_over(constraints, n, allowance);
     match end {
-        End::None => Verdict::None { count: found.count },
-        End::Spent => Verdict::Spent { count: found.count },
-        End::Tree => {
-            let below = found.below;
-            let above = found.above;
-            let after = found.after;
-            let label = found.label;
-            let bytes = readoff::read_off(below, above, after, label, found.root, n, answer);
-            Verdict::Tree {
-                bytes,
-                count: found.count,
-            }
+        End::Tree(s) => {
+            let bytes = readoff::read_off(s.below, s.above, s.after, s.label, s.root, n, answer);
+            Verdict::Tree { bytes, count }
         }
+        End::None => Verdict::None { count },
+        End::Spent => Verdict::Spent { count },
     }
 }
 
@@ -91,14 +82,13 @@ pub fn solve_over(constraints: &[u8], n: usize, answer: &mut [u8], allowance: u3
 pub fn solve(constraints: &[u8], answer: &mut [u8], allowance: u32) -> Verdict
     ensures { SolverOf allowance constraints.now answer.old result answer.new }
 {
-    let judged = constraints::judge(constraints);
-    match judged {
-        Judgement::Refused(question) => Verdict::Refused(question),
-        Judgement::Accepted(n) => {
+    match constraints::judge(constraints) {
+        Ok(n) => {
             if answer.len() < 136 {
-                return Verdict::Refused(7);
+                return Verdict::Refused(Question::Buffer);
             }
             solve_over(constraints, n, answer, allowance)
         }
+        Err(question) => Verdict::Refused(question),
     }
 }

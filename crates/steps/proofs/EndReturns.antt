@@ -1,12 +1,7 @@
 -- The steps of a line, return by return.
-use mathlib.Core.Path.{◌≡◌, refl, sym, ap, ◌∙◌, subst}
-use mathlib.Core.Bool.{Bool, true, false, false≢true}
-use mathlib.Core.List.{List}
-use Prim.Native.Nat.{ℕ, zero, suc, ◌+◌, ◌*◌, ◌-◌, ◌<◌}
+use Rattle.std.proofs.Common.{◌≡◌, refl, sym, ap, ◌∙◌, subst, Bool, true, false, List, [], ◌∷◌, ℕ, zero, suc, ◌+◌, ◌*◌, ◌≤◌, ◌<◌, length, drop, Option, None, Some, Bor, eqb, arith}
+use Rattle.std.proofs.lemmas.Bool.{false≢true}
 use native.Mathlib.Nat.{not-suc-le-zero}
-use native.Mathlib.Omega.{arith}
-use lib.ListN.{length, get_or, drop}
-use lib.Dec.{eqb}
 use Rattle.meaning.specs.Finite.{pick}
 use Rattle.meaning.specs.Tree.{Var}
 use Rattle.meaning.specs.Paths.{Steps, one, more, Step}
@@ -16,84 +11,86 @@ use Rattle.meaning.proofs.PathSheets.{step_next}
 use Rattle.theory.specs.PathReader.{goes_on, move_at, steps_at, step_at, brackets_at}
 use Rattle.theory.specs.Reader.{Got, nothing, got, and_then, byte}
 use Rattle.theory.proofs.PathScan.{goes_on_brackets}
-use Rattle.axes.specs.declared.Axis as code
-use Rattle.axes.specs.declared.Moved.{Moved}
-use Rattle.axes.specs.declared.Moved.TheVariants as moved
+use Rattle.axes.specs.declared.Axis.{Axis}
 use Rattle.axes.specs.Moving.{MoveRead}
-use Rattle.sheet.specs.Bytes.{next_in, numbered_in, move_in, Follows, For}
+use Rattle.sheet.specs.Bytes.{Bytes, numbered_in, move_in, Follows, For}
 use Rattle.sheet.proofs.Follow.{numbered_follows}
 use Rattle.steps.specs.Reading.{end_number, end_numbered, ReadTo, BracketsRead, StepRead, EndRead}
-use Rattle.steps.proofs.Returns.{above, read_nothing, read_got, read_along, read_map, byte_yes, byte_no, one_on, move_none, move_some, step_is}
+use Rattle.steps.proofs.Returns.{read_nothing, read_got, read_along, read_map, byte_yes, byte_no, behind, move_none, move_some, step_is}
 
 abbrev IsGot : {A : Type 0} → Got A → Type 0
 IsGot nothing = ⊥
 IsGot (got a r) = Unit {0}
 
-module _ (s : List ℕ) (at x : ℕ) (b : List ℕ) (m : Moved) (h : MoveRead s at (move_at (drop at s)) m) where
+module _ (s : List ℕ) (x : ℕ) (b : Bytes) where
   abbrev rest : ℕ → Got Step → Got Steps
   rest k g = and_then g λ m q. pick (eqb (byte q) 47) (and_then (steps_at k (drop 1 q)) λ ss q. got (more m ss) q) (got (one m) q)
 
-  pub end_not : (c : List ℕ) → m ≡ moved.Not → EndRead s at x b 0 c
+  pub end_not : (c : Bytes) → MoveRead (move_at s) None → EndRead s x b None c
   unfolding steps_at step_at
-  end_not c e v X zero o p l = absurd (not-suc-le-zero l)
-  end_not c e v X (suc zero) o p l = absurd (omega arith)
-  end_not c e v X (suc (suc k)) o p l =
-      read_along s (λ ss. end_sheet ss X v) 0 c (ap (λ (g : Got Step). rest (suc k) (and_then g λ m t. brackets_at k m t)) (move_none s at (move_at (drop at s)) m h e)) refl
+  end_not c h v X zero o p l = absurd (not-suc-le-zero l)
+  end_not c h v X (suc zero) o p l = absurd (omega arith)
+  end_not c h v X (suc (suc k)) o p l =
+      read_along (λ ss. end_sheet ss X v) None c (ap (λ (g : Got Step). rest (suc k) (and_then g λ m t. brackets_at k m t)) (move_none (move_at s) h)) refl
 
-  module _ (a : code.Axis) (t e : ℕ) (d : m ≡ moved.Is a t e) where
+  module _ (a : Axis) (t : ℕ) (e : Bor (List ℕ)) (h : MoveRead (move_at s) (Some (a, t, e))) (i : length e.now < length s) where
     -- what comes after the step is what was seen behind its brackets
-    seen : (k : ℕ) (q : Step) (r : List ℕ) → step_at k (drop at s) ≡ got q r → goes_on 0 (drop e s) ≡ eqb (byte r) 47
+    seen : (k : ℕ) (q : Step) (r : List ℕ) → step_at k s ≡ got q r → goes_on 0 e.now ≡ eqb (byte r) 47
     unfolding step_at
     seen zero q r g = absurd (subst IsGot (sym g) tt)
     seen (suc k) q r g =
-        let z = move_some s at (move_at (drop at s)) m a t e h d in
-        goes_on_brackets k _ q (drop e s) r (sym (ap (λ (w : Got Step). and_then w λ m t. brackets_at k m t) z.4) ∙ g)
+        let z = move_some (move_at s) a t e h in
+        goes_on_brackets k _ q e.now r (sym (ap (λ (w : Got Step). and_then w λ m t. brackets_at k m t) z.4) ∙ g)
 
-    module _ (y : ℕ) (n : List ℕ) (u : List ℕ) (r : ℕ) (c : List ℕ) (f : u ≡ move_in a t x y n) (w : BracketsRead s e y u r c) where
-      taken : StepRead s at x y n r c
-      taken = step_is s at x y n m h a t e u r c d f w
+    module _ (y : ℕ) (n u : Bytes) (f : u ≡ move_in a t x y n) (r : Option (List ℕ)) (c : Bytes) (w : BracketsRead e.now y u r c) where
+      taken : StepRead s x y n r c
+      taken = step_is s x y n a t e h i u r c f w
 
       -- the step's answer, by whether the line goes on: to a number of its own, or to 0
-      module _ (v : Sheet) (X : Var) (k : ℕ) (o : Follows v b) (p : For v x X) (l : 4 * (length s - at) + 1 < k) where
-        to_next : y ≡ next_in b → n ≡ numbered_in b → ReadTo s (λ m. step_sheet m X v.next (next_taken v)) (step_at k (drop at s)) r c
+      module _ (v : Sheet) (X : Var) (k : ℕ) (o : Follows v b) (p : For v x X) (l : 4 * length s + 1 < k) where
+        to_next : y ≡ b.next → n ≡ numbered_in b → ReadTo (λ m. step_sheet m X v.next (next_taken v)) (step_at k s) r c
         unfolding next_taken
-        to_next i j = taken (next_taken v) X v.next k (subst (Follows (next_taken v)) (sym j) (numbered_follows v b o)) (λ z. p (omega arith)) (λ z. i ∙ (o.few (omega arith)).0) l
+        to_next d j =
+            taken (next_taken v) X v.next k (subst (Follows (next_taken v)) (sym j) (numbered_follows v b o)) (λ z. p (omega arith))
+            (λ z. d ∙ (o.few (omega arith)).0) l
 
-        to_end : y ≡ 0 → n ≡ b → ReadTo s (λ m. step_sheet m X 0 v) (step_at k (drop at s)) r c
-        to_end i j = taken v X 0 k (subst (Follows v) (sym j) o) p (λ z. i) l
+        to_end : y ≡ 0 → n ≡ b → ReadTo (λ m. step_sheet m X 0 v) (step_at k s) r c
+        to_end d j = taken v X 0 k (subst (Follows v) (sym j) o) p (λ z. d) l
 
-        -- the step was read, or not, whatever its number
-        no_step : (g : Bool) → y ≡ end_number g b → n ≡ end_numbered g b → r ≡ 0 → step_at k (drop at s) ≡ nothing
-        no_step true i j z = read_nothing s (λ m. step_sheet m X v.next (next_taken v)) (step_at k (drop at s)) r c (to_next i j) z
-        no_step false i j z = read_nothing s (λ m. step_sheet m X 0 v) (step_at k (drop at s)) r c (to_end i j) z
+    -- the brackets were read, or not
+    module _ (y : ℕ) (n u : Bytes) (f : u ≡ move_in a t x y n) (c : Bytes) where
+      pub end_bad : BracketsRead e.now y u None c → (g : Bool) → y ≡ end_number g b → n ≡ end_numbered g b → EndRead s x b None c
+      unfolding steps_at
+      end_bad w g d j v X zero o p l = absurd (not-suc-le-zero l)
+      end_bad w g d j v X (suc k) o p l = read_along (λ ss. end_sheet ss X v) None c (ap (rest k) (no_step g d j)) refl
+        where
+          no_step : (g : Bool) → y ≡ end_number g b → n ≡ end_numbered g b → step_at k s ≡ nothing
+          no_step true d j = read_nothing (λ m. step_sheet m X v.next (next_taken v)) (step_at k s) c (to_next y n u f None c w v X k o p (omega arith) d j)
+          no_step false d j = read_nothing (λ m. step_sheet m X 0 v) (step_at k s) c (to_end y n u f None c w v X k o p (omega arith) d j)
 
-      module _ (g : Bool) (is : goes_on 0 (drop e s) ≡ g) (i : y ≡ end_number g b) (j : n ≡ end_numbered g b) where
-        pub end_bad : r ≡ 0 → EndRead s at x b 0 c
-        unfolding steps_at
-        end_bad z v X zero o p l = absurd (not-suc-le-zero l)
-        end_bad z v X (suc k) o p l = read_along s (λ ss. end_sheet ss X v) 0 c (ap (rest k) (no_step v X k o p (omega arith) g i j z)) refl
+      module _ (q : List ℕ) (w : BracketsRead e.now y u (Some q) c) where
+        pub end_one : (g : Bool) → goes_on 0 e.now ≡ g → y ≡ end_number g b → n ≡ end_numbered g b → (byte q ≡ 47 → ⊥) → EndRead s x b (Some q) c
+        unfolding steps_at end_sheet
+        end_one g is d j m v X zero o p l = absurd (not-suc-le-zero l)
+        end_one true is d j m v X (suc k) o p l =
+            let z = read_got (λ m. step_sheet m X v.next (next_taken v)) (step_at k s) q c (to_next y n u f (Some q) c w v X k o p (omega arith) d j) in
+            absurd (byte_no q 47 m (sym (seen k z.0 q z.1) ∙ is))
+        end_one false is d j m v X (suc k) o p l =
+            let z = read_got (λ m. step_sheet m X 0 v) (step_at k s) q c (to_end y n u f (Some q) c w v X k o p (omega arith) d j) in
+            read_along (λ ss. end_sheet ss X v) (Some q) c (ap (rest k) z.1 ∙ pick_no _ _ (byte_no q 47 m)) (refl, z.2)
 
-      pub end_one : (g : Bool) → goes_on 0 (drop e s) ≡ g → y ≡ end_number g b → n ≡ end_numbered g b → (r ≡ 0 → ⊥) → (get_or s r 0 ≡ 47 → ⊥) → EndRead s at x b r c
-      unfolding steps_at end_sheet
-      end_one g is i j z w v X zero o p l = absurd (not-suc-le-zero l)
-      end_one true is i j z w v X (suc k) o p l =
-          let q = read_got s (λ m. step_sheet m X v.next (next_taken v)) (step_at k (drop at s)) r c (to_next v X k o p (omega arith) i j) z in
-          absurd (byte_no s r 47 w (sym (seen k q.0 (drop r s) q.1) ∙ is))
-      end_one false is i j z w v X (suc k) o p l =
-          let q = read_got s (λ m. step_sheet m X 0 v) (step_at k (drop at s)) r c (to_end v X k o p (omega arith) i j) z in
-          read_along s (λ ss. end_sheet ss X v) r c (ap (rest k) q.1 ∙ pick_no _ _ (byte_no s r 47 w)) (above z, refl, q.2)
-
-      pub end_more : (g : Bool) → goes_on 0 (drop e s) ≡ g → y ≡ end_number g b → n ≡ end_numbered g b → (q : ℕ) (t : List ℕ) → (r ≡ 0 → ⊥) → at < r → r < length s → get_or s r 0 ≡ 47
-          → EndRead s (r + 1) y c q t → EndRead s at x b q t
-      unfolding steps_at end_sheet next_taken
-      end_more g is i j q t z i' j' w f' v X zero o p l = absurd (not-suc-le-zero l)
-      end_more false is i j q t z i' j' w f' v X (suc k) o p l =
-          let g = read_got s (λ m. step_sheet m X 0 v) (step_at k (drop at s)) r c (to_end v X k o p (omega arith) i j) z in
-          absurd (false≢true (sym is ∙ seen k g.0 (drop r s) g.1 ∙ byte_yes s r 47 w))
-      end_more true is i j q t z i' j' w f' v X (suc k) o p l =
-          let g = read_got s (λ m. step_sheet m X v.next (next_taken v)) (step_at k (drop at s)) r c (to_next v X k o p (omega arith) i j) z in
-          read_along s (λ ss. end_sheet ss X v) q t
-          (ap (rest k) g.1 ∙ pick_yes _ _ (byte_yes s r 47 w) ∙ ap (λ (a : List ℕ). and_then (steps_at k a) λ ss q. got (more g.0 ss) q) (one_on s r))
-          (read_map s (λ ss. end_sheet ss X v) (more g.0) (steps_at k (drop (r + 1) s)) q t
-          (f' (step_sheet g.0 X v.next (next_taken v)) v.next k g.2
-          (λ a. i ∙ (o.few (let m = step_next g.0 X v.next (next_taken v) in omega arith)).0) (omega arith)))
+        pub end_more : (g : Bool) → goes_on 0 e.now ≡ g → y ≡ end_number g b → n ≡ end_numbered g b → (m : List ℕ) (r : Option (List ℕ)) (t : Bytes)
+            → q ≡ 47 ∷ m → length q ≤ length e.now → EndRead m y c r t → EndRead s x b r t
+        unfolding steps_at end_sheet next_taken
+        end_more g is d j m r t z i' f' v X zero o p l = absurd (not-suc-le-zero l)
+        end_more false is d j m r t z i' f' v X (suc k) o p l =
+            let g = read_got (λ m. step_sheet m X 0 v) (step_at k s) q c (to_end y n u f (Some q) c w v X k o p (omega arith) d j) in
+            absurd (false≢true (sym is ∙ seen k g.0 q g.1 ∙ byte_yes z))
+        end_more true is d j m r t z i' f' v X (suc k) o p l =
+            let g = read_got (λ m. step_sheet m X v.next (next_taken v)) (step_at k s) q c (to_next y n u f (Some q) c w v X k o p (omega arith) d j) in
+            let len = ap length z in
+            read_along (λ ss. end_sheet ss X v) r t
+            (ap (rest k) g.1 ∙ pick_yes _ _ (byte_yes z) ∙ ap (λ (a : List ℕ). and_then (steps_at k a) λ ss q. got (more g.0 ss) q) (behind z))
+            (read_map (λ ss. end_sheet ss X v) (more g.0) (steps_at k m) r t
+            (f' (step_sheet g.0 X v.next (next_taken v)) v.next k g.2
+            (λ a. d ∙ (o.few (let m = step_next g.0 X v.next (next_taken v) in omega arith)).0) (omega (arith, len, i, i', l))))

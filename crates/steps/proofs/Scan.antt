@@ -1,16 +1,11 @@
 -- The look ahead over brackets, byte by byte from a place.
-use mathlib.Core.Path.{◌≡◌, refl, sym, ap, ◌∙◌}
-use mathlib.Core.Bool.{false}
-use mathlib.Core.List.{List, [], ◌∷◌}
-use Prim.Native.Nat.{ℕ, zero, suc, ◌+◌, ◌-◌, ◌≤◌, ◌<◌}
-use native.Mathlib.Omega.{arith}
+use Rattle.std.proofs.Common.{◌≡◌, refl, sym, ap, ◌∙◌, false, List, [], ◌∷◌, ℕ, zero, suc, ◌+◌, ◌-◌, ◌≤◌, ◌<◌, length, get_or, drop, eqb, arith}
 use native.Mathlib.Numerals.{add-one}
-use lib.ListN.{length, get_or, drop, drop_of_length-le}
+use lib.ListN.{drop_of_length-le}
 use lib.Seq.{drop-cons}
-use lib.Dec.{eqb}
+use Rattle.meaning.proofs.Tests.{is_eq, pick_no}
 use Rattle.theory.specs.PathReader.{goes_on}
-use Rattle.theory.proofs.PathScan.{goes_on_past, bracket_opens, bracket_closes, goes_on_here}
-use Rattle.steps.proofs.Returns.{byte_at, byte_no}
+use Rattle.theory.proofs.PathScan.{goes_on_past, bracket_opens, bracket_closes}
 
 pub goes_on_end : (s : List ℕ) (i depth : ℕ) → length s ≤ i → false ≡ goes_on depth (drop i s)
 goes_on_end s i depth h = sym (ap (goes_on depth) (drop_of_length-le s h) ∙ nil depth)
@@ -39,22 +34,8 @@ module _ (s : List ℕ) (i : ℕ) (l : i < length s) where
   goes_on_inside zero z n m = absurd (z refl)
   goes_on_inside (suc depth) z n m = sym (at_place (suc depth) ∙ goes_on_past (get_or s i 0) depth _ n m)
 
--- where no bracket is open
-pub goes_on_now : (s : List ℕ) (i : ℕ) → (get_or s i 0 ≡ 91 → ⊥) → eqb (get_or s i 0) 47 ≡ goes_on 0 (drop i s)
-goes_on_now s i n = ap (λ (b : ℕ). eqb b 47) (sym (byte_at s i)) ∙ sym (goes_on_here (drop i s) (byte_no s i 91 n))
-
--- where the one that is open closes
-module _ (s : List ℕ) (i : ℕ) (l : i < length s) (depth : ℕ) (z : depth ≡ 1) (e : get_or s i 0 ≡ 93) where
-  closed : goes_on 0 (drop (i + 1) s) ≡ goes_on depth (drop i s)
-  closed = let h : 0 ≡ depth - 1 = omega (arith, z) in ap (λ (k : ℕ). goes_on k (drop (i + 1) s)) h ∙ goes_on_close s i l depth (λ y. omega (arith, z, y)) e
-
-  pub goes_on_last : (get_or s (i + 1) 0 ≡ 91 → ⊥) → eqb (get_or s (i + 1) 0) 47 ≡ goes_on depth (drop i s)
-  goes_on_last n = goes_on_now s (i + 1) n ∙ closed
-
-  pub goes_on_next : i + 1 < length s → get_or s (i + 1) 0 ≡ 91 → goes_on depth (drop (i + 1 + 1) s) ≡ goes_on depth (drop i s)
-  goes_on_next j f = ap (λ (k : ℕ). goes_on k (drop (i + 1 + 1) s)) z ∙ goes_on_open s (i + 1) j 0 f ∙ closed
-
-pub other_one : (depth : ℕ) → 0 < depth → (depth ≡ 1 → ⊥) → 0 < depth - 1
-other_one zero l f = absurd (omega (arith, l))
-other_one (suc zero) l f = absurd (f refl)
-other_one (suc (suc depth)) l f = omega arith
+  -- where no bracket is open
+  pub goes_on_now : (depth : ℕ) → depth ≡ 0 → (get_or s i 0 ≡ 91 → ⊥) → eqb (get_or s i 0) 47 ≡ goes_on depth (drop i s)
+  unfolding goes_on
+  goes_on_now zero z n = sym (at_place 0 ∙ pick_no _ _ (λ y. n (is_eq y)))
+  goes_on_now (suc depth) z n = absurd (omega (arith, z))

@@ -1,29 +1,42 @@
 -- What the reader answers, from what its parts have found: 17 for a short buffer, 16 where no element stands from the start to the end of the text, and
--- otherwise the records of the outermost element, with the document node before them. By the theory a text that is of the form is of one element only, so
--- what was found is what is meant.
+-- otherwise the records of the outermost element, with the document node before them. By the theory a text that is of the form is of one element only,
+-- so what was found is what is meant.
 use mathlib.Core.Path.{◌≡◌, refl, sym, ap, ◌∙◌, subst}
+use mathlib.Core.Bool.{true, false, false≢true}
 use mathlib.Core.List.{List, [], ◌∷◌, ◌++◌, map, append-nil}
 use Prim.Native.Nat.{ℕ, ◌+◌, ◌*◌, ◌≤◌, ◌<◌}
 use native.Mathlib.Omega.{arith}
-use lib.ListN.{length, get_or, drop, replicate, length-map, length-drop, get_or-append, get_or-map}
-use lib.Seq.{sets-eq, drop-length}
+use borrow.Author.Tests.{true-eqb}
+use lib.ListN.{length, get_or, drop, replicate, length-map, get_or-append, get_or-map}
+use lib.Seq.{sets-eq}
+use Rattle.std.specs.Bool.{◌==◌}
+use Rattle.std.proofs.Common.{Result, Ok, Err}
 use Rattle.meaning.specs.Finite.{Yes}
 use Rattle.meaning.specs.ReadOff.{NodeRecord, blank_record, node_bytes}
 use Rattle.meaning.specs.Results.{Fill, fill_refused, fill_written, fill_wrote}
 use Rattle.meaning.specs.Xml.{Forest, Element, alone, count, all_nameable, forest_text, forest_records, document_records, XmlForm}
 use Rattle.meaning.proofs.Tests.{pick_no, is_le}
 use Rattle.meaning.proofs.XmlTrees.{document_size}
-use Rattle.theory.specs.Xml.{read_xml}
+use Rattle.questions.specs.declared.Question.{Question}
+use Rattle.questions.specs.declared.Question.TheVariants.{XmlBuffer}
+use Rattle.questions.specs.declared.Question.TheVariants as asked
+use Rattle.questions.specs.Number.{number}
+use Rattle.theory.specs.Xml.{read_xml, opens}
 use Rattle.theory.proofs.XmlReader.{element_forest}
 use Rattle.theory.proofs.XmlPromise.{read_wide, read_none}
-use Rattle.lent.specs.declared.Answer.{Answer}
-use Rattle.lent.specs.declared.Answer.TheVariants.{Written, Refused}
 use Rattle.lent.specs.Filling.{AnswerOf}
 use Rattle.lent.specs.Putting.{Put}
 use Rattle.lent.proofs.Answered.{put_filled}
-use Rattle.xmlreader.specs.Reading.{Single, Readable, Found, Missed, NodesWritten}
+use Rattle.xmlreader.specs.declared.gathered.Gathered.{Gathered}
+use Rattle.xmlreader.specs.Gathering.{Fresh, NodesWritten}
+use Rattle.xmlreader.specs.Reading.{Single, Found, Missed}
 use Rattle.xmlreader.proofs.Forests.{one_split}
 use Rattle.xmlreader.proofs.Found.{single_is, put_count}
+use Rattle.xmlreader.proofs.Single.{miss_start}
+
+nothing_left : (l : List ℕ) → true ≡ (length l == 0) → l ≡ []
+nothing_left [] e = refl
+nothing_left (a ∷ l) e = absurd (let h = true-eqb (length (a ∷ l)) 0 e in omega arith)
 
 -- what was put behind the document node is a column of the records
 column : (g : NodeRecord → ℕ) (e : Element) {total : ℕ} {x : List ℕ} → g blank_record ≡ 0 → Put (replicate 64 0) 1 (map g (forest_records 0 1 (alone e))) total x
@@ -40,84 +53,94 @@ column g e z p i l =
     ∙ ap (get_or (map g (document_records e)) i) (sym z)
     ∙ get_or-map g (document_records e) i blank_record
 
-pub start_readable : (text : List ℕ) → Readable text 0 1 (replicate 64 0) (replicate 64 0)
-start_readable text = record { within = omega arith; some = omega arith; few = omega arith; long_ups = refl; long_labels = refl }
-
 module _ (text buffer : List ℕ) where
-  abbrev pub ReadAnswer : Answer → List ℕ → Type 0
+  abbrev pub ReadAnswer : Result ℕ Question → List ℕ → Type 0
   ReadAnswer r after = AnswerOf (read_xml text buffer) r × (after ≡ fill_wrote (read_xml text buffer) buffer)
 
-  answered : (a : Fill) → read_xml text buffer ≡ a → (r : Answer) (after : List ℕ) → AnswerOf a r → after ≡ fill_wrote a buffer → ReadAnswer r after
+  answered : (a : Fill) → read_xml text buffer ≡ a → (r : Result ℕ Question) (after : List ℕ)
+      → AnswerOf a r → after ≡ fill_wrote a buffer → ReadAnswer r after
   answered a e r after h w = (subst (λ (x : Fill). AnswerOf x r) (sym e) h, w ∙ ap (λ (x : Fill). fill_wrote x buffer) (sym e))
 
   -- a refusal leaves the buffer as it was
-  refusal : (q : ℕ) → read_xml text buffer ≡ fill_refused q → ReadAnswer (Refused q) buffer
+  refusal : (q : Question) → read_xml text buffer ≡ fill_refused (number q) → ReadAnswer (Err q) buffer
   unfolding fill_wrote
-  refusal q e = answered (fill_refused q) e (Refused q) buffer refl refl
+  refusal q e = answered (fill_refused (number q)) e (Err q) buffer refl refl
 
-  pub short : length buffer < 256 → ReadAnswer (Refused 17) buffer
-  short l = refusal 17 (unfold read_xml in pick_no _ _ (λ y. let h : 256 ≤ length buffer = is_le y in omega arith))
+  pub short : length buffer < 256 → ReadAnswer (Err XmlBuffer) buffer
+  short l = refusal XmlBuffer (unfold read_xml in pick_no _ _ (λ y. let h : 256 ≤ length buffer = is_le y in omega arith))
 
   module _ (wide : 256 ≤ length buffer) where
-    no_form : ((e : Element) → ¬ XmlForm text e) → ReadAnswer (Refused 16) buffer
-    no_form n = refusal 16 (read_none text buffer wide n)
+    no_form : ((e : Element) → ¬ XmlForm text e) → ReadAnswer (Err asked.XmlForm) buffer
+    no_form n = refusal asked.XmlForm (read_none text buffer wide n)
 
     form_text : (e : Element) → XmlForm text e → text ≡ forest_text (alone e) ++ []
     form_text e f = f.is ∙ sym (element_forest e) ∙ sym (append-nil _)
 
-    pub missed_all : Missed Single text 0 1 → ReadAnswer (Refused 16) buffer
-    missed_all m = no_form λ e f. let a = m (alone e) [] tt (form_text e f) f.nameable in let c = f.few in omega arith
+    missed : Missed Single text 1 → ReadAnswer (Err asked.XmlForm) buffer
+    missed m = no_form λ e f. let a = m (alone e) [] tt (form_text e f) f.nameable in let c = f.few in omega arith
 
-    module _ {end total : ℕ} {us ls : List ℕ} (f : Found Single text 0 0 1 (replicate 64 0) (replicate 64 0) end total us ls) where
-      abbrev outermost : Element
-      outermost = let s = single_is f.forest (drop end text) f.sort in record { label = s.0; children = s.1 }
+    pub none_starts : ¬ Yes (opens text) → ReadAnswer (Err asked.XmlForm) buffer
+    none_starts n = missed (miss_start text 1 n)
 
-      is_outermost : f.forest ≡ alone outermost
-      is_outermost = (single_is f.forest (drop end text) f.sort).2
+    module _ {g : Gathered} (fresh : Fresh g) where
+      pub missed_all : {q : Question} → q ≡ asked.XmlForm → Missed Single text g.count → ReadAnswer (Err q) buffer
+      missed_all e m = rw e (missed (subst (Missed Single text) fresh.count m))
 
-      text_is : text ≡ forest_text (alone outermost) ++ drop end text
-      text_is = f.is ∙ ap (λ (w : Forest). forest_text w ++ drop end text) is_outermost
+      module _ {rest : List ℕ} {h : Gathered} (f : Found Single text 0 g rest h) where
+        abbrev outermost : Element
+        outermost = let s = single_is f.forest rest f.sort in record { label = s.0; children = s.1 }
 
-      nameable : Yes (all_nameable (alone outermost))
-      nameable = subst (λ (w : Forest). Yes (all_nameable w)) is_outermost f.nameable
+        is_outermost : f.forest ≡ alone outermost
+        is_outermost = (single_is f.forest rest f.sort).2
 
-      counted : total ≡ 1 + count (alone outermost)
-      counted = put_count (λ (v : NodeRecord). v.up) 0 1 f.forest f.put_ups ∙ ap (λ (w : Forest). 1 + count w) is_outermost
+        text_is : text ≡ forest_text (alone outermost) ++ rest
+        text_is = f.is ∙ ap (λ (w : Forest). forest_text w ++ rest) is_outermost
 
-      pub bytes_left : (end ≡ length text → ⊥) → ReadAnswer (Refused 16) buffer
-      bytes_left n =
-          no_form λ e g.
-          let s = one_split outermost.label e.label outermost.children e.children (drop end text) [] nameable g.nameable (sym text_is ∙ form_text e g) in
-          let a = ap length s.1 in
-          let b = length-drop end text in
-          let i = f.within in
-          n (omega arith)
+        nameable : Yes (all_nameable (alone outermost))
+        nameable = subst (λ (w : Forest). Yes (all_nameable w)) is_outermost f.nameable
 
-      pub room : (total ≤ 64) × (total * 4 ≤ length buffer)
-      room = let c = f.few in (c, omega arith)
+        counted : h.count ≡ 1 + count (alone outermost)
+        counted =
+            put_count (λ (v : NodeRecord). v.up) 0 g.count f.forest f.put_ups
+            ∙ ap (λ (n : ℕ). n + count f.forest) fresh.count ∙ ap (λ (w : Forest). 1 + count w) is_outermost
 
-      module _ (all : end ≡ length text) where
-        is_form : XmlForm text outermost
-        is_form =
-            let c = counted in
-            let b = f.few in
-            record {
-              is = text_is ∙ ap (λ (k : ℕ). forest_text (alone outermost) ++ drop k text) all ∙ ap (λ (x : List ℕ). forest_text (alone outermost) ++ x) (drop-length text)
-                  ∙ append-nil _ ∙ element_forest outermost;
-              nameable = nameable;
-              few = omega arith;
-            }
+        pub bytes_left : false ≡ (length rest == 0) → ReadAnswer (Err asked.XmlForm) buffer
+        bytes_left z =
+            no_form λ e x.
+            let s = one_split outermost.label e.label outermost.children e.children rest [] nameable x.nameable (sym text_is ∙ form_text e x) in
+            absurd (false≢true (rw s.1 at z))
 
-        put_column : (g : NodeRecord → ℕ) {x : List ℕ} → Put (replicate 64 0) 1 (map g (forest_records 0 1 f.forest)) total x
-            → Put (replicate 64 0) 1 (map g (forest_records 0 1 (alone outermost))) total x
-        put_column g {x} p = subst (λ (w : Forest). Put (replicate 64 0) 1 (map g (forest_records 0 1 w)) total x) is_outermost p
+        pub room : h.count * 4 ≤ length buffer
+        room = let c = h.few in omega arith
 
-        pub written : {after : List ℕ} → NodesWritten us ls total buffer after → ReadAnswer (Written (total * 4)) after
-        written {after} k =
-            let bytes = node_bytes 0 (document_records outermost) in
-            let size : length (document_records outermost) ≡ total = (let a = document_size outermost in let c = counted in omega arith) in
-            let w = put_filled (k (document_records outermost) size λ i l. (
-              column (λ (v : NodeRecord). v.up) outermost refl (put_column (λ (v : NodeRecord). v.up) f.put_ups) i l,
-              column (λ (v : NodeRecord). v.label) outermost refl (put_column (λ (v : NodeRecord). v.label) f.put_labels) i l,
-            )) in
-            answered (fill_written bytes) (read_wide text buffer outermost wide is_form) (Written (total * 4)) after w.0 w.1
+        module _ (none_left : true ≡ (length rest == 0)) where
+          all : rest ≡ []
+          all = nothing_left rest none_left
+
+          is_form : XmlForm text outermost
+          is_form =
+              let c = counted in
+              let b = h.few in
+              record {
+                is = text_is ∙ ap (λ (x : List ℕ). forest_text (alone outermost) ++ x) all ∙ append-nil _ ∙ element_forest outermost;
+                nameable = nameable;
+                few = omega arith;
+              }
+
+          put_column : (p : NodeRecord → ℕ) {l x : List ℕ} → l ≡ replicate 64 0
+              → Put l g.count (map p (forest_records 0 g.count f.forest)) h.count x
+              → Put (replicate 64 0) 1 (map p (forest_records 0 1 (alone outermost))) h.count x
+          put_column p {x = x} e b =
+              subst (λ (w : Forest). Put (replicate 64 0) 1 (map p (forest_records 0 1 w)) h.count x) is_outermost
+              (subst (λ (n : ℕ). Put (replicate 64 0) n (map p (forest_records 0 n f.forest)) h.count x) fresh.count
+              (subst (λ (m : List ℕ). Put m g.count (map p (forest_records 0 g.count f.forest)) h.count x) e b))
+
+          pub written : {after : List ℕ} → NodesWritten h buffer after → ReadAnswer (Ok (h.count * 4)) after
+          written {after} k =
+              let bytes = node_bytes 0 (document_records outermost) in
+              let size : length (document_records outermost) ≡ h.count = (let a = document_size outermost in let c = counted in omega arith) in
+              let w = put_filled (k (document_records outermost) size λ i l. (
+                column (λ (v : NodeRecord). v.up) outermost refl (put_column (λ (v : NodeRecord). v.up) fresh.ups f.put_ups) i l,
+                column (λ (v : NodeRecord). v.label) outermost refl (put_column (λ (v : NodeRecord). v.label) fresh.labels f.put_labels) i l,
+              )) in
+              answered (fill_written bytes) (read_wide text buffer outermost wide is_form) (Ok (h.count * 4)) after w.0 w.1

@@ -1,7 +1,7 @@
-pub mod Bytes
+pub mod Opens
 pub mod Forests
 pub mod Found
-pub mod Single
 pub mod Following
+pub mod Single
 pub mod Records
 pub mod Answers

@@ -1,24 +1,26 @@
--- What the reader has found at a place of the text: elements under a node, with their parents and labels behind those that were there, or that none of
--- the sort asked for stand there, unless they are too many.
-use Rattle.std.specs.Prelude.{◌≡◌, Bool, true, false, List, ◌++◌, map, ℕ, ◌+◌, ◌*◌, ◌≤◌, ◌<◌, eqb, length, get_or, drop}
-use Rattle.meaning.specs.Finite.{Yes, ◌and◌}
-use Rattle.meaning.specs.ReadOff.{NodeRecord, blank_record, node_bytes}
+-- What the reader has found in the bytes left: elements under a node, with their parents and labels behind those that were gathered, or that none
+-- of the sort asked for stand there, unless they are too many.
+use Rattle.std.specs.Prelude.{◌≡◌, List, ◌∷◌, ◌++◌, map, ℕ, ◌+◌, ◌<◌, Option, None, Some, Result, Ok, Err}
+use Rattle.std.proofs.Common.{Bor}
+use Rattle.meaning.specs.Finite.{Yes}
 use Rattle.meaning.specs.Xml.{Forest, no_element, element, count, all_nameable, forest_text, forest_records}
 use Rattle.lent.specs.Putting.{Put}
+use Rattle.questions.specs.declared.Question.{Question}
+use Rattle.questions.specs.declared.Question.TheVariants.{XmlForm}
 use Rattle.theory.specs.Xml.{is_name, opens}
-use Rattle.xmlreader.specs.declared.Step.{Step}
-use Rattle.xmlreader.specs.declared.Step.TheVariants.{To, Absent, Not}
+use Rattle.xmlreader.specs.declared.gathered.Gathered.{Gathered}
 
--- ---- bytes at a place; past the end there is 0, which is none of these
+-- ---- what is left
 
-unfoldable pub opens_at : List ℕ → ℕ → Bool
-opens_at text k = eqb (get_or text k 0) 60 and is_name (get_or text (k + 1) 0)
+-- behind < and a name
+abbrev pub Opened : List ℕ → Option (ℕ × Bor (List ℕ)) → Type 0
+Opened text (Some (name, left)) = (text ≡ 60 ∷ name ∷ left.now) × Yes (is_name name)
+Opened text None = (name : ℕ) (q : List ℕ) → Yes (is_name name) → ¬ (text ≡ 60 ∷ name ∷ q)
 
-unfoldable pub empty_at : List ℕ → ℕ → Bool
-empty_at text k = eqb (get_or text k 0) 47 and eqb (get_or text (k + 1) 0) 62
-
-unfoldable pub closes_at : List ℕ → ℕ → ℕ → Bool
-closes_at text k n = eqb (get_or text k 0) 60 and eqb (get_or text (k + 1) 0) 47 and eqb (get_or text (k + 2) 0) n and eqb (get_or text (k + 3) 0) 62
+-- behind a word
+abbrev pub After : List ℕ → List ℕ → Option (Bor (List ℕ)) → Type 0
+After word text (Some left) = text ≡ word ++ left.now
+After word text None = (q : List ℕ) → ¬ (text ≡ word ++ q)
 
 -- ---- the sorts of forests that are asked for, by what follows them
 
@@ -32,45 +34,25 @@ Single (element l c (element m d s)) q = ⊥
 abbrev pub Ended : Forest → List ℕ → Type 0
 Ended w q = ¬ Yes (opens q)
 
--- where reading may start
-pub record Readable (text : List ℕ) (at nodes : ℕ) (ups labels : List ℕ) : Type 0 where
-  pub within : at ≤ length text
-  pub some : 1 ≤ nodes
-  pub few : nodes ≤ 64
-  pub long_ups : length ups ≡ 64
-  pub long_labels : length labels ≡ 64
-
-pub record Found (P : Forest → List ℕ → Type 0) (text : List ℕ) (at up nodes : ℕ) (ups labels : List ℕ) (end total : ℕ) (ups' labels' : List ℕ) : Type 0 where
+-- such a forest stands there, and the rest is left behind it
+pub record Found (P : Forest → List ℕ → Type 0) (text : List ℕ) (up : ℕ) (g : Gathered) (rest : List ℕ) (h : Gathered) : Type 0 where
   pub forest : Forest
-  pub sort : P forest (drop end text)
-  pub is : drop at text ≡ forest_text forest ++ drop end text
+  pub sort : P forest rest
+  pub is : text ≡ forest_text forest ++ rest
   pub nameable : Yes (all_nameable forest)
-  pub forward : at ≤ end
-  pub within : end ≤ length text
-  pub few : total ≤ 64
-  pub put_ups : Put ups nodes (map (λ v. v.up) (forest_records up nodes forest)) total ups'
-  pub put_labels : Put labels nodes (map (λ v. v.label) (forest_records up nodes forest)) total labels'
+  pub put_ups : Put g.ups g.count (map (λ v. v.up) (forest_records up g.count forest)) h.count h.ups
+  pub put_labels : Put g.labels g.count (map (λ v. v.label) (forest_records up g.count forest)) h.count h.labels
 
 -- whatever of this sort stands there has too many nodes
-abbrev pub Missed : (Forest → List ℕ → Type 0) → List ℕ → ℕ → ℕ → Type 0
-Missed P text at nodes = (w : Forest) (q : List ℕ) → P w q → drop at text ≡ forest_text w ++ q → Yes (all_nameable w) → 64 < nodes + count w
+abbrev pub Missed : (Forest → List ℕ → Type 0) → List ℕ → ℕ → Type 0
+Missed P text nodes = (w : Forest) (q : List ℕ) → P w q → text ≡ forest_text w ++ q → Yes (all_nameable w) → 64 < nodes + count w
 
-abbrev pub ForestRead : (Forest → List ℕ → Type 0) → List ℕ → ℕ → ℕ → ℕ → List ℕ → List ℕ → Step → List ℕ → List ℕ → Type 0
-ForestRead P text at up nodes ups labels (To end total) ups' labels' = Found P text at up nodes ups labels end total ups' labels'
-ForestRead P text at up nodes ups labels Absent ups' labels' = Missed P text at nodes
-ForestRead P text at up nodes ups labels Not ups' labels' = Missed P text at nodes
+-- where no element starts nothing was gathered
+abbrev pub ElementRead : List ℕ → ℕ → Gathered → Result (Option (Bor (List ℕ))) Question → Gathered → Type 0
+ElementRead text up g (Ok (Some rest)) h = Yes (opens text) × Found Single text up g rest.now h
+ElementRead text up g (Ok None) h = (¬ Yes (opens text)) × (h ≡ g)
+ElementRead text up g (Err q) h = (q ≡ XmlForm) × Yes (opens text) × Missed Single text g.count
 
--- whether an element starts there; where none does nothing was put
-abbrev pub Began : List ℕ → ℕ → List ℕ → List ℕ → Step → List ℕ → List ℕ → Type 0
-Began text at ups labels (To end total) ups' labels' = opens_at text at ≡ true
-Began text at ups labels Absent ups' labels' = (opens_at text at ≡ false) × (ups' ≡ ups) × (labels' ≡ labels)
-Began text at ups labels Not ups' labels' = opens_at text at ≡ true
-
--- ---- the records that are written
-
--- these are the parents and labels of the records
-abbrev pub Columns : List ℕ → List ℕ → List NodeRecord → Type 0
-Columns ups labels vs = (i : ℕ) → i < length vs → (get_or ups i 0 ≡ (get_or vs i blank_record).up) × (get_or labels i 0 ≡ (get_or vs i blank_record).label)
-
-abbrev pub NodesWritten : List ℕ → List ℕ → ℕ → List ℕ → List ℕ → Type 0
-NodesWritten ups labels n before after = (vs : List NodeRecord) → length vs ≡ n → Columns ups labels vs → Put before 0 (node_bytes 0 vs) (n * 4) after
+abbrev pub ElementsRead : List ℕ → ℕ → Gathered → Result (Bor (List ℕ)) Question → Gathered → Type 0
+ElementsRead text up g (Ok rest) h = Found Ended text up g rest.now h
+ElementsRead text up g (Err q) h = (q ≡ XmlForm) × Missed Ended text g.count

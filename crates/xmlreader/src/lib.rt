@@ -1,25 +1,17 @@
-// Reads a tree that was written as XML: the outermost element to the end of the text, the elements inside it, and theirs. Parents and labels are
-// gathered in document order; all of the text is read before a byte is written.
+// Reads a tree that was written as XML: the outermost element to the end of the text, the elements inside it, and theirs. Parents and labels
+// are gathered in document order; all of the text is read before a byte is written.
 #![tactic(auto)]
 
-ghost use Rattle.std.specs.Prelude.{◌≡◌, ◌*◌, ◌≤◌, length};
+ghost use Rattle.std.specs.Prelude.{◌≡◌, [], ◌∷◌};
 ghost use Rattle.meaning.specs.Results.{fill_wrote};
 ghost use Rattle.lent.specs.Filling.{AnswerOf};
 ghost use Rattle.theory.specs.Xml.{is_name, label_named, read_xml};
-ghost use Rattle.xmlreader.specs.Reading.{opens_at, empty_at, closes_at, Single, Ended, Readable, ForestRead, Began, NodesWritten};
+ghost use Rattle.xmlreader.specs.Reading.{Opened, After, ElementRead, ElementsRead};
 
-use lent::{Answer, byte_at};
+mod gathered;
 
-// How far reading came.
-#[derive(Clone, Copy)]
-enum Step {
-    // The place after what was read, and how many nodes there are by then.
-    To(usize, usize),
-    // No element starts there.
-    Absent,
-    // What stands there is not of the form, or has too many nodes.
-    Not,
-}
+use gathered::Gathered;
+use questions::Question;
 
 // _ or a letter.
 fn is_name(byte: u8) -> bool
@@ -38,157 +30,95 @@ fn label_named(name: u8) -> u8
     if name == b'_' { 0 } else { name }
 }
 
-// Whether < and a name stand at a place.
-fn opens(text: &[u8], at: usize) -> bool
-    ensures { result ≡ opens_at text.now at }
+// The name behind <, and what is left behind that.
+fn opened(text: &[u8]) -> Option<(u8, &[u8])>
+    ensures { Opened text.now result }
 {
-    if byte_at(text, at) != b'<' {
-        return false;
+    match text {
+        [b'<', name, left @ ..] if is_name(*name) => Some((*name, left)),
+        _ => None,
     }
-    is_name(byte_at(text, at + 1))
 }
 
-// Whether /> stands at a place.
-fn is_empty(text: &[u8], at: usize) -> bool
-    ensures { result ≡ empty_at text.now at }
+// What is left behind />.
+fn after_empty(text: &[u8]) -> Option<&[u8]>
+    ensures { After (47 ∷ 62 ∷ []) text.now result }
 {
-    if byte_at(text, at) != b'/' {
-        return false;
+    match text {
+        [b'/', b'>', left @ ..] => Some(left),
+        _ => None,
     }
-    byte_at(text, at + 1) == b'>'
 }
 
-// Whether </, the name and > stand at a place.
-fn closes(text: &[u8], at: usize, name: u8) -> bool
-    ensures { result ≡ closes_at text.now at name }
+// What is left behind >.
+fn after_bracket(text: &[u8]) -> Option<&[u8]>
+    ensures { After (62 ∷ []) text.now result }
 {
-    if byte_at(text, at) != b'<' {
-        return false;
+    match text {
+        [b'>', left @ ..] => Some(left),
+        _ => None,
     }
-    if byte_at(text, at + 1) != b'/' {
-        return false;
-    }
-    if byte_at(text, at + 2) != name {
-        return false;
-    }
-    byte_at(text, at + 3) == b'>'
 }
 
-// One element under the node `up`, and all that is inside it. That none starts there is an answer of its own, so that nobody asks before.
+// What is left behind </, the name and >.
+fn after_end(text: &[u8], name: u8) -> Option<&[u8]>
+    ensures { After (60 ∷ 47 ∷ name ∷ 62 ∷ []) text.now result }
+{
+    match text {
+        [b'<', b'/', end, b'>', left @ ..] if *end == name => Some(left),
+        _ => None,
+    }
+}
+
+// One element under the node `up`, and all that is inside it: what is left behind it. That none starts there is an answer of its own, so
+// that nobody asks before.
 #[cycle(element_elements)]
-#[tactic(auto, using(crate::proofs::Single::miss_many))]
-fn element(
-    text: &[u8],
-    at: usize,
-    up: u8,
-    nodes: usize,
-    ups: &mut [u8; 64],
-    labels: &mut [u8; 64],
-) -> Step
-    requires { Readable text.now at nodes ups.old labels.old }
-    ensures forest_read { ForestRead Single text.now at up nodes ups.old labels.old result ups.new labels.new }
-    ensures began { Began text.now at ups.old labels.old result ups.new labels.new }
+fn element<'a>(text: &'a [u8], up: u8, nodes: &mut Gathered) -> Result<Option<&'a [u8]>, Question>
+    ensures { ElementRead text.now up nodes.old result nodes.new }
 {
-    if !opens(text, at) {
-        return Step::Absent;
-    }
-    if 64 <= nodes {
-        return Step::Not;
-    }
-    let name = byte_at(text, at + 1);
+    let Some((name, left)) = opened(text) else {
+        return Ok(None);
+    };
     let label = label_named(name);
-    ups[nodes] = up;
-    labels[nodes] = label;
-    if is_empty(text, at + 2) {
-        return Step::To(at + 4, nodes + 1);
+    let node = nodes.add(up, label)?;
+    if let Some(after) = after_empty(left) {
+        return Ok(Some(after));
     }
-    if byte_at(text, at + 2) != b'>' {
-        return Step::Not;
+    let inside = after_bracket(left).ok_or(Question::XmlForm)?;
+    let end = elements(inside, node, nodes)?;
+    if nodes.count == node as usize + 1 {
+        return Err(Question::XmlForm);
     }
-    let inside = elements(text, at + 3, nodes as u8, nodes + 1, ups, labels);
-    match inside {
-        Step::Not => Step::Not,
-        // Never answered by `elements`; if it were, it would be a miss.
-        Step::Absent => Step::Not,
-        Step::To(end, count) => {
-            if count == nodes + 1 {
-                return Step::Not;
-            }
-            if !closes(text, end, name) {
-                return Step::Not;
-            }
-            Step::To(end + 4, count)
-        }
-    }
+    let after = after_end(end, name).ok_or(Question::XmlForm)?;
+    Ok(Some(after))
 }
 
-// As many elements as follow, under the node `up`. A loop, since a call for each of them would hand its answer back through all before it.
+// As many elements as follow, under the node `up`: what is left behind them. A loop, since a call for each of them would hand its answer back
+// through all before it.
 #[cycle(element_elements)]
-fn elements(
-    text: &[u8],
-    at: usize,
-    up: u8,
-    nodes: usize,
-    ups: &mut [u8; 64],
-    labels: &mut [u8; 64],
-) -> Step
-    requires { Readable text.now at nodes ups.old labels.old }
-    ensures { ForestRead Ended text.now at up nodes ups.old labels.old result ups.new labels.new }
+fn elements<'a>(text: &'a [u8], up: u8, nodes: &mut Gathered) -> Result<&'a [u8], Question>
+    ensures { ElementsRead text.now up nodes.old result nodes.new }
 {
-    let mut place = at;
-    let mut count = nodes;
-    loop {
-        let next = element(text, place, up, count, ups, labels);
-        match next {
-            Step::Not => {
-                return Step::Not;
-            }
-            Step::Absent => {
-                return Step::To(place, count);
-            }
-            Step::To(end, total) => {
-                place = end;
-                count = total;
-            }
-        }
+    let mut left = text;
+    while let Some(after) = element(left, up, nodes)? {
+        left = after;
     }
-}
-
-// The node records of so many nodes, to the front of the buffer.
-fn put_nodes(ups: &[u8; 64], labels: &[u8; 64], count: usize, nodes: &mut [u8])
-    requires { (count ≤ 64) × (count * 4 ≤ length nodes.old) }
-    ensures { NodesWritten ups.now labels.now count nodes.old nodes.new }
-{
-    let mut i: usize = 0;
-    while i < count {
-        nodes[i * 4] = 1;
-        nodes[i * 4 + 1] = i as u8;
-        nodes[i * 4 + 2] = ups[i];
-        nodes[i * 4 + 3] = labels[i];
-        i += 1;
-    }
+    Ok(left)
 }
 
 // Reads a text and writes the node records of its tree, numbered in document order, to the front of the buffer.
-pub fn read(text: &[u8], nodes: &mut [u8]) -> Answer
+pub fn read(text: &[u8], nodes: &mut [u8]) -> Result<usize, Question>
     ensures answer_of { AnswerOf (read_xml text.now nodes.old) result }
     ensures wrote { nodes.new ≡ fill_wrote (read_xml text.now nodes.old) nodes.old }
 {
     if nodes.len() < 256 {
-        return Answer::Refused(17);
+        return Err(Question::XmlBuffer);
     }
-    let mut ups = [0u8; 64];
-    let mut labels = [0u8; 64];
-    let outermost = element(text, 0, 0, 1, &mut ups, &mut labels);
-    match outermost {
-        Step::Not => Answer::Refused(16),
-        Step::Absent => Answer::Refused(16),
-        Step::To(end, count) => {
-            if end != text.len() {
-                return Answer::Refused(16);
-            }
-            put_nodes(&ups, &labels, count, nodes);
-            Answer::Written(count * 4)
-        }
+    let mut gathered = Gathered::new();
+    let left = element(text, 0, &mut gathered)?.ok_or(Question::XmlForm)?;
+    if !left.is_empty() {
+        return Err(Question::XmlForm);
     }
+    gathered.put(nodes);
+    Ok(gathered.count * 4)
 }

@@ -1,118 +1,50 @@
-use mathlib.Core.Path.{sym, refl, ◌∙◌}
+use Rattle.std.proofs.Common.{◌≡◌, sym, ◌∙◌, rules}
 use Rattle.meaning.specs.Ascii.{ascii}
 use Rattle.meaning.specs.Paths.{to_self, to_child, to_parent, to_descendant, to_ancestor, to_descendant_or_self, to_ancestor_or_self, to_following_sibling, to_preceding_sibling, axis_text}
-use Rattle.theory.specs.PathReader.{axis_at}
-use Rattle.axes.proofs.Moves.{name_hit, name_miss, d_second, d_none, a_first, a_second, a_none, p_first, p_second, p_none, f_first, f_none, past_four}
+use Rattle.axes.proofs.Moves.{with_d, with_a, with_p, with_f, with_c, with_s, with_none, read_one, read_two, read_none}
 use Rattle.axes.proofs.axis_at.Goals as goal
 
-pub returns-then-starts : goal.returns-then-starts
+pub returns-in-100-clause-value : goal.returns-in-100-clause-value
 unfolding axis_text ascii
-returns-then-starts c =
-    let a = c.args in
-    let s = a.s.now in
-    unfold axis_at in (name_hit s a.at to_descendant_or_self _ (sym c.starts.ensures.value ∙ c.if-starts.true) (c.starts.ensures.within c.if-starts.true))
+returns-in-100-clause-value c =
+    let s = c.args.s.now in
+    let e = with_d s (sym c.byte_at.ensures ∙ c.in-100.is) in
+    read_two s to_descendant_or_self _ to_descendant _ e c.named.ensures.value (search rules)
 
-pub returns-then-starts-2 : goal.returns-then-starts-2
+pub returns-in-97-clause-value : goal.returns-in-97-clause-value
 unfolding axis_text ascii
-returns-then-starts-2 c =
-    let a = c.args in
-    let s = a.s.now in
-    d_second s a.at _ (sym c.byte_at-first.ensures ∙ c.if-first-eq100.true) (sym c.starts.ensures.value ∙ c.if-starts.false)
-    (name_hit s a.at to_descendant _ (sym c.starts-then-first-eq100.ensures.value ∙ c.if-starts-2.true) (c.starts-then-first-eq100.ensures.within c.if-starts-2.true))
+returns-in-97-clause-value c =
+    let s = c.args.s.now in
+    let e = with_a s (sym c.byte_at.ensures ∙ c.in-97.is) in
+    read_two s to_ancestor_or_self _ to_ancestor _ e c.named-in-97.ensures.value (search rules)
 
-pub returns-then-first-eq100 : goal.returns-then-first-eq100
+pub returns-in-112-clause-value : goal.returns-in-112-clause-value
 unfolding axis_text ascii
-returns-then-first-eq100 c =
-    let a = c.args in
-    let s = a.s.now in
-    d_none s a.at _ (sym c.byte_at-first.ensures ∙ c.if-first-eq100.true) (sym c.starts.ensures.value ∙ c.if-starts.false) (sym c.starts-then-first-eq100.ensures.value ∙ c.if-starts-2.false) refl
+returns-in-112-clause-value c =
+    let s = c.args.s.now in
+    let e = with_p s (sym c.byte_at.ensures ∙ c.in-112.is) in
+    read_two s to_preceding_sibling _ to_parent _ e c.named-in-112.ensures.value (search rules)
 
-pub returns-then-starts-3 : goal.returns-then-starts-3
+pub returns-in-102-clause-value : goal.returns-in-102-clause-value
 unfolding axis_text ascii
-returns-then-starts-3 c =
-    let a = c.args in
-    let s = a.s.now in
-    a_first s a.at _ (sym c.byte_at-first.ensures ∙ c.if-first-eq97.true)
-    (name_hit s a.at to_ancestor_or_self _ (sym c.starts-then-first-eq97.ensures.value ∙ c.if-starts-3.true) (c.starts-then-first-eq97.ensures.within c.if-starts-3.true))
+returns-in-102-clause-value c =
+    let s = c.args.s.now in
+    read_one s to_following_sibling _ (with_f s (sym c.byte_at.ensures ∙ c.in-102.is)) c.named-in-102.ensures.value
 
-pub returns-then-starts-4 : goal.returns-then-starts-4
+pub returns-in-99-clause-value : goal.returns-in-99-clause-value
 unfolding axis_text ascii
-returns-then-starts-4 c =
-    let a = c.args in
-    let s = a.s.now in
-    a_second s a.at _ (sym c.byte_at-first.ensures ∙ c.if-first-eq97.true) (sym c.starts-then-first-eq97.ensures.value ∙ c.if-starts-3.false)
-    (name_hit s a.at to_ancestor _ (sym c.starts-then-first-eq97-2.ensures.value ∙ c.if-starts-4.true) (c.starts-then-first-eq97-2.ensures.within c.if-starts-4.true))
+returns-in-99-clause-value c =
+    let s = c.args.s.now in
+    read_one s to_child _ (with_c s (sym c.byte_at.ensures ∙ c.in-99.is)) c.named-in-99.ensures.value
 
-pub returns-then-first-eq97 : goal.returns-then-first-eq97
+pub returns-in-115-clause-value : goal.returns-in-115-clause-value
 unfolding axis_text ascii
-returns-then-first-eq97 c =
-    let a = c.args in
-    let s = a.s.now in
-    a_none s a.at _ (sym c.byte_at-first.ensures ∙ c.if-first-eq97.true) (sym c.starts-then-first-eq97.ensures.value ∙ c.if-starts-3.false) (sym c.starts-then-first-eq97-2.ensures.value ∙ c.if-starts-4.false) refl
+returns-in-115-clause-value c =
+    let s = c.args.s.now in
+    read_one s to_self _ (with_s s (sym c.byte_at.ensures ∙ c.in-115.is)) c.named-in-115.ensures.value
 
-pub returns-then-starts-5 : goal.returns-then-starts-5
-unfolding axis_text ascii
-returns-then-starts-5 c =
-    let a = c.args in
-    let s = a.s.now in
-    p_first s a.at _ (sym c.byte_at-first.ensures ∙ c.if-first-eq112.true)
-    (name_hit s a.at to_preceding_sibling _ (sym c.starts-then-first-eq112.ensures.value ∙ c.if-starts-5.true) (c.starts-then-first-eq112.ensures.within c.if-starts-5.true))
-
-pub returns-then-starts-6 : goal.returns-then-starts-6
-unfolding axis_text ascii
-returns-then-starts-6 c =
-    let a = c.args in
-    let s = a.s.now in
-    p_second s a.at _ (sym c.byte_at-first.ensures ∙ c.if-first-eq112.true) (sym c.starts-then-first-eq112.ensures.value ∙ c.if-starts-5.false)
-    (name_hit s a.at to_parent _ (sym c.starts-then-first-eq112-2.ensures.value ∙ c.if-starts-6.true) (c.starts-then-first-eq112-2.ensures.within c.if-starts-6.true))
-
-pub returns-then-first-eq112 : goal.returns-then-first-eq112
-unfolding axis_text ascii
-returns-then-first-eq112 c =
-    let a = c.args in
-    let s = a.s.now in
-    p_none s a.at _ (sym c.byte_at-first.ensures ∙ c.if-first-eq112.true) (sym c.starts-then-first-eq112.ensures.value ∙ c.if-starts-5.false) (sym c.starts-then-first-eq112-2.ensures.value ∙ c.if-starts-6.false) refl
-
-pub returns-then-starts-7 : goal.returns-then-starts-7
-unfolding axis_text ascii
-returns-then-starts-7 c =
-    let a = c.args in
-    let s = a.s.now in
-    f_first s a.at _ (sym c.byte_at-first.ensures ∙ c.if-first-eq102.true)
-    (name_hit s a.at to_following_sibling _ (sym c.starts-then-first-eq102.ensures.value ∙ c.if-starts-7.true) (c.starts-then-first-eq102.ensures.within c.if-starts-7.true))
-
-pub returns-then-first-eq102 : goal.returns-then-first-eq102
-unfolding axis_text ascii
-returns-then-first-eq102 c =
-    let a = c.args in
-    let s = a.s.now in
-    f_none s a.at _ (sym c.byte_at-first.ensures ∙ c.if-first-eq102.true) (sym c.starts-then-first-eq102.ensures.value ∙ c.if-starts-7.false) refl
-
-pub returns-then-starts-8 : goal.returns-then-starts-8
-unfolding axis_text ascii
-returns-then-starts-8 c =
-    let a = c.args in
-    let s = a.s.now in
-    past_four s a.at _ (λ q. c.if-first-eq100.false (c.byte_at-first.ensures ∙ q)) (λ q. c.if-first-eq97.false (c.byte_at-first.ensures ∙ q))
-    (λ q. c.if-first-eq112.false (c.byte_at-first.ensures ∙ q)) (λ q. c.if-first-eq102.false (c.byte_at-first.ensures ∙ q))
-    (name_hit s a.at to_child _ (sym c.starts-2.ensures.value ∙ c.if-starts-8.true) (c.starts-2.ensures.within c.if-starts-8.true))
-
-pub returns-then-starts-9 : goal.returns-then-starts-9
-unfolding axis_text ascii
-returns-then-starts-9 c =
-    let a = c.args in
-    let s = a.s.now in
-    past_four s a.at _ (λ q. c.if-first-eq100.false (c.byte_at-first.ensures ∙ q)) (λ q. c.if-first-eq97.false (c.byte_at-first.ensures ∙ q))
-    (λ q. c.if-first-eq112.false (c.byte_at-first.ensures ∙ q)) (λ q. c.if-first-eq102.false (c.byte_at-first.ensures ∙ q))
-    (name_miss s a.at to_child _ _ (sym c.starts-2.ensures.value ∙ c.if-starts-8.false)
-    (name_hit s a.at to_self _ (sym c.starts-3.ensures.value ∙ c.if-starts-9.true) (c.starts-3.ensures.within c.if-starts-9.true)))
-
-pub returns : goal.returns
-unfolding axis_text ascii
-returns c =
-    let a = c.args in
-    let s = a.s.now in
-    past_four s a.at _ (λ q. c.if-first-eq100.false (c.byte_at-first.ensures ∙ q)) (λ q. c.if-first-eq97.false (c.byte_at-first.ensures ∙ q))
-    (λ q. c.if-first-eq112.false (c.byte_at-first.ensures ∙ q)) (λ q. c.if-first-eq102.false (c.byte_at-first.ensures ∙ q))
-    (name_miss s a.at to_child _ _ (sym c.starts-2.ensures.value ∙ c.if-starts-8.false)
-    (name_miss s a.at to_self _ _ (sym c.starts-3.ensures.value ∙ c.if-starts-9.false) refl))
+pub returns-in_default-clause-value : goal.returns-in_default-clause-value
+returns-in_default-clause-value c =
+    let s = c.args.s.now in
+    let b = c.byte_at.ensures in
+    read_none s (with_none s (λ e. search rules) (λ e. search rules) (λ e. search rules) (λ e. search rules) (λ e. search rules) (λ e. search rules))

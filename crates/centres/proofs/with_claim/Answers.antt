@@ -14,7 +14,7 @@ adds_most : (s g k d : ℕ) {m : ℕ} → m ≡ max g d → k < m → s + 429496
 adds_most s g k d e h = let c = claim_above g k d (omega (arith, e, h)) in omega (arith, c)
 
 pub returns-then-most-cap-clause-sum : goal.returns-then-most-cap-clause-sum
-returns-then-most-cap-clause-sum c = adds_larger _ _ _ _ c.larger-most.ensures c.if-most-cap.true
+returns-then-most-cap-clause-sum c = adds_larger _ _ _ _ c.max-most.ensures c.if-most-cap.true
 
 pub returns-else-most-cap-clause-sum : goal.returns-else-most-cap-clause-sum
-returns-else-most-cap-clause-sum c = adds_most _ _ _ _ c.larger-most.ensures c.if-most-cap.false
+returns-else-most-cap-clause-sum c = adds_most _ _ _ _ c.max-most.ensures c.if-most-cap.false

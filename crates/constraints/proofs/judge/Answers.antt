@@ -1,11 +1,11 @@
-use mathlib.Core.Path.{refl, sym, ◌∙◌}
+use mathlib.Core.Path.{sym, ◌∙◌}
 use native.Mathlib.Omega.{arith}
-use borrow.Author.Tests.{lt-leb, le-leb, ne_eqb}
-use borrow.Author.Rules.{rules}
+use lib.ListN.{length}
+use borrow.Author.Tests.{lt-leb, le-leb, ne_eqb, eqb-true, eqb-false}
 use Rattle.meaning.specs.Files.{judge}
 use Rattle.meaning.specs.Finite.{pick}
 use Rattle.meaning.specs.OnePass.{kept_of}
-use Rattle.constraints.proofs.OnePass.{none_read, no_records, refused_here, one_read, all_read}
+use Rattle.constraints.proofs.OnePass.{none_read, no_records, file_empty, file_read, some_records, refused_record, record_read, all_read}
 use Rattle.constraints.specs.Judgement.{judgement_of, judgement}
 use Rattle.constraints.proofs.judge.Goals as goal
 
@@ -13,48 +13,37 @@ pub returns-then-file-gt1024 : goal.returns-then-file-gt1024
 unfolding judgement judgement_of kept_of judge pick
 returns-then-file-gt1024 c = rw (lt-leb _ _ c.if-file-gt1024.true)
 
-pub returns-then-file-ne0 : goal.returns-then-file-ne0
+pub returns-then-not-is_empty : goal.returns-then-not-is_empty
 unfolding judgement judgement_of kept_of judge pick
-returns-then-file-ne0 c = rw (le-leb _ _ c.if-file-gt1024.false, ne_eqb _ _ c.if-file-ne0.true)
+returns-then-not-is_empty c = rw (le-leb _ _ c.if-file-gt1024.false, ne_eqb _ _ (λ e. eqb-false _ _ (sym c.is_empty.ensures ∙ c.if-not-is_empty.true) (c.as_chunks.ensures.back_len ∙ e)))
 
-pub returns-then-file-eq0 : goal.returns-then-file-eq0
-returns-then-file-eq0 c = sym (no_records _ c.if-file-eq0.true)
+pub returns-then-is_empty : goal.returns-then-is_empty
+returns-then-is_empty c = 
+    let q = c.as_chunks.ensures in
+    let e = eqb-true _ _ (sym c.is_empty-2.ensures ∙ c.if-is_empty.true) in
+    let w = eqb-true _ _ (sym c.is_empty.ensures ∙ c.if-not-is_empty.false) in
+    sym (no_records _ (file_empty _ q.front_len q.back_len e w))
 
-pub loop-at-init : goal.loop-at-init
-loop-at-init c = (search rules, refl, none_read _)
-
-pub bounds-file-at-in-loop-at : goal.bounds-file-at-in-loop-at
-bounds-file-at-in-loop-at c = omega arith
-
-pub bounds-file-at-in-loop-at-2 : goal.bounds-file-at-in-loop-at-2
-bounds-file-at-in-loop-at-2 c = omega arith
-
-pub bounds-file-at-in-loop-at-3 : goal.bounds-file-at-in-loop-at-3
-bounds-file-at-in-loop-at-3 c = omega arith
-
-pub question-requires : goal.question-requires
-question-requires c = sym c.passes.ensures ∙ c.if-not-passes.true
+pub loop-kind-init : goal.loop-kind-init
+loop-kind-init c = none_read _
 
 pub returns-then-not-passes : goal.returns-then-not-passes
-returns-then-not-passes c = let file = c.args.file.now in
-    let l = c.loop-at in
-    let short = c.if-file-gt1024.false in
-    let whole = c.if-file-ne0.false in
-    sym (refused_here file short whole l.at l.highest _ (omega arith) l.invariant.1 l.invariant.2 c.question.ensures)
+returns-then-not-passes c =
+    let q = c.as_chunks.ensures in
+    let w = sym q.back_len ∙ eqb-true _ _ (sym c.is_empty.ensures ∙ c.if-not-is_empty.false) in
+    sym (refused_record _ _ c.if-file-gt1024.false w q.front q.front_len _ c.loop-kind-test.true c.loop-kind.invariant c.question.ensures)
 
-pub loop-at-preserved : goal.loop-at-preserved
-loop-at-preserved c = let file = c.args.file.now in
-    let l = c.loop-at in
-    let short = c.if-file-gt1024.false in
-    let whole = c.if-file-ne0.false in (
-      omega arith,
-      omega arith,
-      rw c.higher-highest.ensures
-          (one_read file short whole l.at l.highest (omega arith) l.invariant.1 l.invariant.2 (sym c.passes.ensures ∙ c.if-not-passes.false)),
-    )
-
-pub overflow_add-result : goal.overflow_add-result
-overflow_add-result c = let h = c.loop-at.invariant.2.low in search rules
+pub loop-kind-preserved : goal.loop-kind-preserved
+loop-kind-preserved c =
+    let q = c.as_chunks.ensures in
+    let w = sym q.back_len ∙ eqb-true _ _ (sym c.is_empty.ensures ∙ c.if-not-is_empty.false) in
+    rw (c.max-highest.ensures, c.max.ensures)
+    (record_read _ _ c.if-file-gt1024.false w q.front q.front_len _ c.loop-kind-test.true c.loop-kind.invariant (sym c.passes.ensures ∙ c.if-not-passes.false))
 
 pub returns : goal.returns
-returns c = let l = c.loop-at in sym (all_read _ l.at l.highest c.loop-at-test.false c.if-file-eq0.false l.invariant.2)
+returns c =
+    let q = c.as_chunks.ensures in
+    let l = c.loop-kind in
+    let w = eqb-true _ _ (sym c.is_empty.ensures ∙ c.if-not-is_empty.false) in
+    let some = some_records _ q.front_len (eqb-false _ _ (sym c.is_empty-2.ensures ∙ c.if-is_empty.false)) in
+    sym (all_read _ _ _ (file_read _ l.kind-index q.front_len q.back_len c.loop-kind-test.false w) some l.invariant)

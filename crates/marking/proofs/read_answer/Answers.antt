@@ -2,5 +2,5 @@
 use Rattle.marking.proofs.Answers.{with_answer}
 use Rattle.marking.proofs.read_answer.Goals as goal
 
-pub returns-in-Ok : goal.returns-in-Ok
-returns-in-Ok g c = with_answer _ _ c.read_pieces.ensures
+pub returns : goal.returns
+returns g c = with_answer _ _ c.read_pieces.ensures

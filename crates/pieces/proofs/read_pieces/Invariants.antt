@@ -3,8 +3,5 @@ use Rattle.answers.specs.Pieces.{KeptPieces}
 use Rattle.pieces.proofs.read_pieces.Given as goal
 
 -- What is kept is within the buffer, and stands for the pieces read so far.
-abbrev pub invariant-loop-turns : goal.invariant-loop-turns
-invariant-loop-turns g l = record { within : l.kept ≤ length l.buffer; stands : KeptPieces (take l.kept l.buffer) }
-
-abbrev pub decreases-loop-turns : goal.decreases-loop-turns
-decreases-loop-turns g l = l.turns
+abbrev pub invariant-loop : goal.invariant-loop
+invariant-loop g l = record { within : l.kept ≤ length l.buffer; stands : KeptPieces (take l.kept l.buffer) }

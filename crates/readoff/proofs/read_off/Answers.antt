@@ -2,12 +2,12 @@
 use native.Mathlib.Omega.{arith}
 use borrow.Author.Rules.{rules}
 use Rattle.readoff.proofs.Numbering.{one_most, numbered_most, numbered_fits}
-use Rattle.readoff.proofs.Answer.{in_layers, strict_after, room_for, groups_led, file_written}
+use Rattle.readoff.proofs.Answer.{prepared, strict_after, room_for, groups_led, file_written}
 use Rattle.readoff.proofs.read_off.Goals as goal
 
 pub in_order-order-requires : goal.in_order-order-requires
 in_order-order-requires c =
-    let w = in_layers c.args.n.few c.requires.1.2 (search rules) (λ g. search rules) c.lows-lows.ensures c.layers-layer.ensures in
+    let w = prepared c.args.n.few c.requires.1.2 (search rules) (λ g. search rules) c.lows-lows.ensures c.layers-layer.ensures in
     (room_for w, strict_after w)
 
 pub put_front-requires : goal.put_front-requires
@@ -23,7 +23,7 @@ node_at-first-requires c = numbered_fits _ _ c.in_order-order.result.few
 
 pub assign-nodes-requires : goal.assign-nodes-requires
 assign-nodes-requires c =
-    let w = in_layers c.args.n.few c.requires.1.2 (search rules) (λ g. search rules) c.lows-lows.ensures c.layers-layer.ensures in
+    let w = prepared c.args.n.few c.requires.1.2 (search rules) (λ g. search rules) c.lows-lows.ensures c.layers-layer.ensures in
     groups_led w _ c.in_order-order.ensures
 
 pub put_places-requires : goal.put_places-requires
@@ -34,6 +34,6 @@ put_places-requires c =
 
 pub returns : goal.returns
 returns c S g r =
-    file_written (in_layers c.args.n.few r (search rules) (λ x. search rules) c.lows-lows.ensures c.layers-layer.ensures) _ c.in_order-order.ensures
+    file_written (prepared c.args.n.few r (search rules) (λ x. search rules) c.lows-lows.ensures c.layers-layer.ensures) _ c.in_order-order.ensures
     _ c.of-front.ensures _ _ _ _ _ _ c.node_at-first.ensures c.requires.0 (λ x. search rules)
     c.put_front.ensures c.put_nodes.ensures c.put_places.ensures c.assign-nodes.ensures

@@ -2,16 +2,14 @@
 use Rattle.solver.proofs.Answers.{seeds_clash, seeds_seeded, seeds_settled}
 use Rattle.solver.proofs.first_line.Goals as goal
 
-pub seed-seeds-requires : goal.seed-seeds-requires
-seed-seeds-requires c = (c.requires.own, c.requires.accepted)
+pub seed-requires : goal.seed-requires
+seed-requires c = (c.requires.own, c.requires.accepted)
 
-pub returns-then-seeds : goal.returns-then-seeds
-returns-then-seeds c = seeds_clash _ _ c.requires _ c.seed-seeds.ensures c.if-seeds.true _
+pub returns-in_err-facts : goal.returns-in_err-facts
+returns-in_err-facts c = seeds_clash _ _ c.requires c.in_err-facts.ensures _ c.from_residual.ensures
 
 pub settle-requires : goal.settle-requires
-settle-requires c =
-    record { n_bound = c.requires.few; seeded = (_, seeds_seeded _ _ c.requires _ c.seed-seeds.ensures c.if-seeds.false) }
+settle-requires c = (_, seeds_seeded _ _ c.requires _ c.in_ok-facts.ensures)
 
 pub returns : goal.returns
-returns c =
-    seeds_settled _ _ c.requires _ c.seed-seeds.ensures c.if-seeds.false _ c.settle.ensures
+returns c = seeds_settled _ _ c.requires _ c.in_ok-facts.ensures _ c.settle.ensures

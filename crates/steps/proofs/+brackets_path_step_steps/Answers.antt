@@ -1,213 +1,112 @@
-use mathlib.Core.Path.{sym, ap, ◌∙◌}
-use native.Mathlib.Nat.{le_refl}
-use native.Mathlib.Omega.{arith}
-use lib.Dec.{lit<}
-use lib.ListN.{drop}
+use Rattle.std.proofs.Common.{rules, sym, ap, ◌∙◌, List, ℕ, length, arith, lit<}
 use Rattle.meaning.specs.Paths.{is_small}
-use Rattle.theory.specs.PathReader.{move_at}
-use Rattle.axes.proofs.Moves.{byte_inside}
-use Rattle.steps.proofs.Returns.{above, path_here, path_alone, path_root, steps_bad, steps_one, steps_more, move_some, step_not, step_is, brackets_none, brackets_bad, brackets_open, brackets_more}
+use Rattle.sheet.specs.Bytes.{plain}
+use Rattle.steps.proofs.Returns.{begins, past, path_here, path_alone, path_root, steps_bad, steps_one, steps_more, step_not, step_is, brackets_none, brackets_bad, brackets_open, brackets_more}
 use Rattle.steps.proofs.+brackets_path_step_steps.Goals as goal
 
-pub brackets-loop-sheet-init : goal.brackets-loop-sheet-init
-brackets-loop-sheet-init t c = (c.requires.0, le_refl _, c.requires.1, λ r c h. h)
+pub brackets-returns-in_err-rest-clause-brackets_read : goal.brackets-returns-in_err-rest-clause-brackets_read
+brackets-returns-in_err-rest-clause-brackets_read t c =
+    let l = c.loop-left in
+    let s = l.left.now in
+    let e = begins s 91 c.in-91.len_at_least (search rules) in
+    let n = plain c.path.new.sheet in
+    rw c.from_residual.ensures (l.invariant.1 _ n (brackets_bad s c.args.y (plain l.sheet) _ e n c.in_err-rest.ensures.path_read))
 
-pub brackets-path-end-requires : goal.brackets-path-end-requires
-brackets-path-end-requires t c =
-    let a = c.args in
-    let s = a.s.now in
-    let l = c.loop-sheet in
-    let b = c.byte_at.ensures in
-    let u = sym b ∙ c.loop-sheet-test.true in
-    let i = byte_inside s l.i 91 (sym u) (lit< tt) in
-    (omega (arith, c.decreases, i, l.invariant.1), omega (arith, i))
+pub brackets-returns-in_default-rest-clause-brackets_read : goal.brackets-returns-in_default-rest-clause-brackets_read
+brackets-returns-in_default-rest-clause-brackets_read t c =
+    let l = c.loop-left in
+    let s = l.left.now in
+    let e = begins s 91 c.in-91.len_at_least (search rules) in
+    let n = plain c.path.new.sheet in
+    let r = c.in_ok-rest in
+    l.invariant.1 _ n
+    (brackets_open s c.args.y (plain l.sheet) _ e r.rest.now n r.ensures.path_read (past r.rest.now 93 (lit< tt) (λ h d. search rules)))
 
-pub brackets-returns-then-end-eq0-clause-brackets_read : goal.brackets-returns-then-end-eq0-clause-brackets_read
-brackets-returns-then-end-eq0-clause-brackets_read t c =
-    let a = c.args in
-    let s = a.s.now in
-    let l = c.loop-sheet in
-    let b = c.byte_at.ensures in
-    let u = sym b ∙ c.loop-sheet-test.true in
-    let i = byte_inside s l.i 91 (sym u) (lit< tt) in
-    let p = c.path-end in
-    l.invariant.3 0 p.new.sheet (brackets_bad s l.i a.y l.sheet u i p.result p.new.sheet p.ensures.path_read c.if-end-eq0.true)
-
-pub brackets-returns-then-byte_at-ne93-clause-brackets_read : goal.brackets-returns-then-byte_at-ne93-clause-brackets_read
-brackets-returns-then-byte_at-ne93-clause-brackets_read t c =
-    let a = c.args in
-    let s = a.s.now in
-    let l = c.loop-sheet in
-    let b = c.byte_at.ensures in
-    let u = sym b ∙ c.loop-sheet-test.true in
-    let i = byte_inside s l.i 91 (sym u) (lit< tt) in
-    let p = c.path-end in
-    let g = c.if-end-eq0.false in
-    let d = c.byte_at-in-loop-sheet.ensures in
-    l.invariant.3 0 p.new.sheet (brackets_open s l.i a.y l.sheet u i p.result p.new.sheet p.ensures.path_read g (λ h. c.if-byte_at-ne93.true (d ∙ h)))
-
-pub brackets-loop-sheet-smaller : goal.brackets-loop-sheet-smaller
-brackets-loop-sheet-smaller t c =
-    let a = c.args in
-    let s = a.s.now in
-    let l = c.loop-sheet in
-    let b = c.byte_at.ensures in
-    let u = sym b ∙ c.loop-sheet-test.true in
-    let i = byte_inside s l.i 91 (sym u) (lit< tt) in
-    let p = c.path-end in
-    let g = c.if-end-eq0.false in
-    let d = c.byte_at-in-loop-sheet.ensures in
-    let q = sym d ∙ c.if-byte_at-ne93.false in
-    let j = byte_inside s p.result 93 (sym q) (lit< tt) in
-    let f = p.ensures.ahead (above g) in
-    omega (arith, i, j, f.0)
-
-pub brackets-loop-sheet-preserved : goal.brackets-loop-sheet-preserved
-brackets-loop-sheet-preserved t c =
-    let a = c.args in
-    let s = a.s.now in
-    let l = c.loop-sheet in
-    let b = c.byte_at.ensures in
-    let u = sym b ∙ c.loop-sheet-test.true in
-    let i = byte_inside s l.i 91 (sym u) (lit< tt) in
-    let p = c.path-end in
-    let g = c.if-end-eq0.false in
-    let d = c.byte_at-in-loop-sheet.ensures in
-    let q = sym d ∙ c.if-byte_at-ne93.false in
-    let j = byte_inside s p.result 93 (sym q) (lit< tt) in
-    let f = p.ensures.ahead (above g) in
-    (omega arith, omega (arith, l.invariant.1, f.0), omega (arith, j), λ r t h. l.invariant.3 r t (brackets_more s l.i a.y l.sheet u i p.result p.new.sheet p.ensures.path_read g r t f.0 j q h))
+pub brackets-loop-left-preserved : goal.brackets-loop-left-preserved
+brackets-loop-left-preserved t c =
+    let l = c.loop-left in
+    let s = l.left.now in
+    let e = begins s 91 c.in-91.len_at_least (search rules) in
+    let n = plain c.path.new.sheet in
+    let r = c.in_ok-rest in
+    let d = begins r.rest.now 93 c.in-93.len_at_least (search rules) in
+    let z = ap length e in
+    let w = ap length d in
+    (omega (arith, z, w, r.ensures.shorter, l.invariant.0),
+        λ q m h. l.invariant.1 q m
+        (brackets_more s c.args.y (plain l.sheet) _ e r.rest.now n r.ensures.path_read _ q m d r.ensures.shorter h))
 
 pub brackets-returns-clause-brackets_read : goal.brackets-returns-clause-brackets_read
 brackets-returns-clause-brackets_read t c =
+    let l = c.loop-left in
+    let s = l.left.now in
+    l.invariant.1 _ _ (brackets_none s c.args.y (plain l.sheet) (past s 91 (lit< tt) (λ h d. search rules)))
+
+pub path-returns-in_default-clause-path_read : goal.path-returns-in_default-clause-path_read
+path-returns-in_default-clause-path_read t c =
     let a = c.args in
-    let s = a.s.now in
-    let l = c.loop-sheet in
-    let b = c.byte_at.ensures in
-    l.invariant.3 l.i l.sheet (brackets_none s l.i a.y l.sheet l.invariant.0 (λ h. c.loop-sheet-test.false (b ∙ h)))
-
-pub brackets-returns-clause-level : goal.brackets-returns-clause-level
-brackets-returns-clause-level t c =
-    let l = c.loop-sheet in
-    λ _. (l.invariant.1, l.invariant.2)
-
-pub path-steps-requires : goal.path-steps-requires
-path-steps-requires t c =
-    (omega (arith, c.decreases), c.requires)
-
-pub path-returns-then-byte_at-ne47-clause-path_read : goal.path-returns-then-byte_at-ne47-clause-path_read
-path-returns-then-byte_at-ne47-clause-path_read t c =
-    let a = c.args in
-    let s = a.s.now in
-    let b = c.byte_at.ensures in
-    let t = c.steps in
-    path_here s a.at a.x a.sheet.now t.result t.new.sheet (λ h. c.if-byte_at-ne47.true (b ∙ h)) t.ensures.steps_read
-
-pub path-steps-requires-then-is_small : goal.path-steps-requires-then-is_small
-path-steps-requires-then-is_small t c =
-    let a = c.args in
-    let s = a.s.now in
-    let b = c.byte_at.ensures in
-    let u = sym b ∙ c.if-byte_at-ne47.false in
-    let i = byte_inside s a.at 47 (sym u) (lit< tt) in
-    (omega (arith, c.decreases, i), omega (arith, i))
+    path_here a.s.now a.x (plain a.sheet.now) _ (plain c.steps.new.sheet) (past a.s.now 47 (lit< tt) (λ h d. search rules)) c.steps.ensures.steps_read
 
 pub path-returns-then-is_small-clause-path_read : goal.path-returns-then-is_small-clause-path_read
 path-returns-then-is_small-clause-path_read t c =
     let a = c.args in
-    let s = a.s.now in
-    let b = c.byte_at.ensures in
-    let u = sym b ∙ c.if-byte_at-ne47.false in
-    let i = byte_inside s a.at 47 (sym u) (lit< tt) in
+    let e = begins a.s.now 47 c.in-47.len_at_least (search rules) in
     let w = c.rooted-root in
-    let n = sym (ap is_small c.byte_at-2.ensures) ∙ sym c.is_small.ensures ∙ c.if-is_small.true in
-    let t = c.steps-then-is_small in
-    path_root s a.at a.x a.sheet.now w.new.sheet w.ensures.wrote u t.result w.result t.new.sheet w.ensures.value i n t.ensures.steps_read
+    let n = sym (ap is_small c.byte_at.ensures) ∙ sym c.if-is_small.ensures in
+    let q = c.steps-then-is_small in
+    path_root a.s.now a.x (plain a.sheet.now) _ e a.sheet.now.some (plain w.new.self) w.ensures.wrote _ w.result (plain q.new.sheet) w.ensures.value n
+    q.ensures.steps_read
 
 pub path-returns-clause-path_read : goal.path-returns-clause-path_read
 path-returns-clause-path_read t c =
     let a = c.args in
-    let s = a.s.now in
-    let b = c.byte_at.ensures in
-    let u = sym b ∙ c.if-byte_at-ne47.false in
+    let e = begins a.s.now 47 c.in-47.len_at_least (search rules) in
     let w = c.rooted-root in
-    let n = sym (ap is_small c.byte_at-2.ensures) ∙ sym c.is_small.ensures ∙ c.if-is_small.false in
-    path_alone s a.at a.x a.sheet.now w.new.sheet w.ensures.wrote u n
+    let n = sym (ap is_small c.byte_at.ensures) ∙ sym c.if-is_small.ensures in
+    path_alone a.s.now a.x (plain a.sheet.now) _ e a.sheet.now.some (plain w.new.self) w.ensures.wrote n
 
-pub step-brackets-requires : goal.step-brackets-requires
-step-brackets-requires t c =
+pub step-returns-in_err-axis-clause-step_read : goal.step-returns-in_err-axis-clause-step_read
+step-returns-in_err-axis-clause-step_read t c =
     let a = c.args in
-    let s = a.s.now in
-    let m = move_some s a.at (move_at (drop a.at s)) c.move_at-found.result c.in-Is.axis c.in-Is.test c.in-Is.end c.move_at-found.ensures c.in-Is.is in
-    (omega (arith, c.decreases, m.5, m.6), (omega (arith, m.5), m.6))
+    let b = plain a.sheet.now in
+    rw c.from_residual.ensures (step_not a.s.now a.x a.y b b c.in_err-axis.ensures.value)
 
-pub step-returns-in-Not-clause-step_read : goal.step-returns-in-Not-clause-step_read
-step-returns-in-Not-clause-step_read t c =
+pub step-returns-clause-step_read : goal.step-returns-clause-step_read
+step-returns-clause-step_read t c =
     let a = c.args in
-    let s = a.s.now in
-    step_not s a.at a.x a.y a.sheet.now c.move_at-found.result c.move_at-found.ensures a.sheet.now c.in-Not.is
-
-pub step-returns-in-Is-clause-step_read : goal.step-returns-in-Is-clause-step_read
-step-returns-in-Is-clause-step_read t c =
-    let a = c.args in
-    let s = a.s.now in
+    let m = c.in_ok-axis in
     let p = c.put_move in
-    let t = c.brackets in
-    step_is s a.at a.x a.y a.sheet.now c.move_at-found.result c.move_at-found.ensures c.in-Is.axis c.in-Is.test c.in-Is.end p.new.sheet t.result t.new.sheet c.in-Is.is p.ensures t.ensures.brackets_read
+    let q = c.brackets in
+    step_is a.s.now a.x a.y (plain a.sheet.now) m.axis m.test m.rest m.ensures.value m.ensures.shorter (plain p.new.self) _ (plain q.new.sheet)
+    p.ensures q.ensures.brackets_read
 
-pub steps-loop-at-init : goal.steps-loop-at-init
-steps-loop-at-init t c = (le_refl _, c.requires, λ r c h. h)
-
-pub steps-step-end-requires : goal.steps-step-end-requires
-steps-step-end-requires t c =
-    let l = c.loop-at in
-    (omega (arith, c.decreases, l.invariant.0), l.invariant.1)
-
-pub steps-returns-then-end-eq0-clause-steps_read : goal.steps-returns-then-end-eq0-clause-steps_read
-steps-returns-then-end-eq0-clause-steps_read t c =
-    let a = c.args in
-    let s = a.s.now in
-    let l = c.loop-at in
+pub steps-returns-in_err-rest-clause-steps_read : goal.steps-returns-in_err-rest-clause-steps_read
+steps-returns-in_err-rest-clause-steps_read t c =
+    let l = c.loop-rest in
     let n = c.number-y in
-    let t = c.step-end in
-    l.invariant.2 0 t.new.sheet (steps_bad s l.i l.from l.sheet n.new.sheet n.ensures.wrote n.result n.ensures.value t.result t.new.sheet t.ensures.step_read c.if-end-eq0.true)
+    let q = plain c.step.new.sheet in
+    rw c.from_residual.ensures (l.invariant.1 _ q
+    (steps_bad l.left.now l.from (plain l.sheet) (plain n.new.self) n.ensures.wrote n.result n.ensures.value q c.in_err-rest.ensures.step_read))
 
-pub steps-returns-then-byte_at-ne47-clause-steps_read : goal.steps-returns-then-byte_at-ne47-clause-steps_read
-steps-returns-then-byte_at-ne47-clause-steps_read t c =
-    let a = c.args in
-    let s = a.s.now in
-    let l = c.loop-at in
+pub steps-returns-in_default-clause-steps_read : goal.steps-returns-in_default-clause-steps_read
+steps-returns-in_default-clause-steps_read t c =
+    let l = c.loop-rest in
     let n = c.number-y in
-    let t = c.step-end in
-    let g = c.if-end-eq0.false in
-    l.invariant.2 t.result t.new.sheet (steps_one s l.i l.from l.sheet n.new.sheet n.ensures.wrote n.result n.ensures.value t.result t.new.sheet t.ensures.step_read g (λ h. c.if-byte_at-ne47.true (c.byte_at.ensures ∙ h)))
+    let q = plain c.step.new.sheet in
+    let r = c.in_ok-rest in
+    l.invariant.1 _ q
+    (steps_one l.left.now l.from (plain l.sheet) (plain n.new.self) n.ensures.wrote n.result n.ensures.value r.rest.now q r.ensures.step_read
+    (past r.rest.now 47 (lit< tt) (λ h d. search rules)))
 
-pub steps-returns-then-byte_at-ne47-clause-ahead : goal.steps-returns-then-byte_at-ne47-clause-ahead
-steps-returns-then-byte_at-ne47-clause-ahead t c =
-    let l = c.loop-at in
-    let t = c.step-end in
-    λ h. let k = t.ensures.ahead h in (omega (arith, k.0, l.invariant.0), k.1)
-
-pub steps-loop-at-smaller : goal.steps-loop-at-smaller
-steps-loop-at-smaller t c =
-    let a = c.args in
-    let s = a.s.now in
-    let t = c.step-end in
-    let g = c.if-end-eq0.false in
-    let u = sym c.byte_at.ensures ∙ c.if-byte_at-ne47.false in
-    let i = byte_inside s t.result 47 (sym u) (lit< tt) in
-    let f = t.ensures.ahead (above g) in
-    omega (arith, i, f.0)
-
-pub steps-loop-at-preserved : goal.steps-loop-at-preserved
-steps-loop-at-preserved t c =
-    let a = c.args in
-    let s = a.s.now in
-    let l = c.loop-at in
+pub steps-loop-rest-preserved : goal.steps-loop-rest-preserved
+steps-loop-rest-preserved t c =
+    let l = c.loop-rest in
     let n = c.number-y in
-    let t = c.step-end in
-    let g = c.if-end-eq0.false in
-    let u = sym c.byte_at.ensures ∙ c.if-byte_at-ne47.false in
-    let i = byte_inside s t.result 47 (sym u) (lit< tt) in
-    let f = t.ensures.ahead (above g) in
-    (omega (arith, l.invariant.0, f.0), omega (arith, i), λ r q h. l.invariant.2 r q (steps_more s l.i l.from l.sheet n.new.sheet n.ensures.wrote n.result n.ensures.value t.result t.new.sheet t.ensures.step_read r q g f.0 i u h))
+    let q = plain c.step.new.sheet in
+    let r = c.in_ok-rest in
+    let d = begins r.rest.now 47 c.in-47.len_at_least (search rules) in
+    let w = ap length d in
+    (omega (arith, w, r.ensures.shorter, l.invariant.0),
+        λ a m h. l.invariant.1 a m
+        (steps_more l.left.now l.from (plain l.sheet) (plain n.new.self) n.ensures.wrote n.result n.ensures.value r.rest.now q r.ensures.step_read
+        _ a m d r.ensures.shorter h))

@@ -1,98 +1,51 @@
-use mathlib.Core.Path.{refl, sym, ◌∙◌}
-use native.Mathlib.Nat.{le_refl}
-use native.Mathlib.Omega.{arith}
-use lib.Dec.{lit<}
-use lib.ListN.{drop}
-use Rattle.theory.specs.PathReader.{move_at, goes_on}
-use Rattle.axes.proofs.Moves.{byte_inside}
-use Rattle.steps.proofs.Returns.{above, move_some}
+use Rattle.std.proofs.Common.{rules, refl, ap, length, arith, lit<}
+use Rattle.sheet.specs.Bytes.{plain}
+use Rattle.theory.specs.PathReader.{goes_on}
+use Rattle.steps.proofs.Returns.{begins, past}
 use Rattle.steps.proofs.EndReturns.{end_not, end_bad, end_one, end_more}
 use Rattle.steps.proofs.end_steps.Goals as goal
 
-pub loop-axis-init : goal.loop-axis-init
-loop-axis-init c =
-    (le_refl _, c.requires, λ r c h. h)
-
-pub returns-in-Not-clause-end_read : goal.returns-in-Not-clause-end_read
-returns-in-Not-clause-end_read c =
-    let a = c.args in
-    let s = a.s.now in
+pub returns-in_err-axis-clause-end_read : goal.returns-in_err-axis-clause-end_read
+returns-in_err-axis-clause-end_read c =
     let l = c.loop-axis in
-    let o = c.move_at-found in
-    l.invariant.2 0 l.sheet (end_not s l.i l.from l.sheet o.result o.ensures l.sheet c.in-Not.is)
+    let b = plain l.sheet in
+    rw c.from_residual.ensures (l.invariant.1 _ b (end_not l.left.now l.from b b c.in_err-axis.ensures.value))
 
-pub end_number-y-requires : goal.end_number-y-requires
-end_number-y-requires c =
-    let a = c.args in
-    let s = a.s.now in
+pub returns-in_err-rest-clause-end_read : goal.returns-in_err-rest-clause-end_read
+returns-in_err-rest-clause-end_read c =
     let l = c.loop-axis in
-    let o = c.move_at-found in
-    let m = move_some s l.i (move_at (drop l.i s)) o.result c.in-Is.axis c.in-Is.test c.in-Is.tested o.ensures c.in-Is.is in
-    m.6
-
-pub brackets-end-requires : goal.brackets-end-requires
-brackets-end-requires c =
-    let a = c.args in
-    let s = a.s.now in
-    let l = c.loop-axis in
-    let o = c.move_at-found in
-    let m = move_some s l.i (move_at (drop l.i s)) o.result c.in-Is.axis c.in-Is.test c.in-Is.tested o.ensures c.in-Is.is in
-    (omega (arith, m.5), m.6)
-
-pub returns-then-end-eq0-clause-end_read : goal.returns-then-end-eq0-clause-end_read
-returns-then-end-eq0-clause-end_read c =
-    let a = c.args in
-    let s = a.s.now in
-    let l = c.loop-axis in
-    let o = c.move_at-found in
+    let m = c.in_ok-axis in
     let n = c.end_number-y in
     let p = c.put_move in
-    let t = c.brackets-end in
-    l.invariant.2 0 t.new.sheet (end_bad s l.i l.from l.sheet o.result o.ensures c.in-Is.axis c.in-Is.test c.in-Is.tested c.in-Is.is n.result n.new.sheet p.new.sheet t.result t.new.sheet p.ensures t.ensures.brackets_read (goes_on 0 (drop c.in-Is.tested s)) refl n.ensures.value n.ensures.wrote c.if-end-eq0.true)
+    let q = plain c.brackets.new.sheet in
+    rw c.from_residual-in_err-rest.ensures (l.invariant.1 _ q
+    (end_bad l.left.now l.from (plain l.sheet) m.axis m.test m.tested m.ensures.value m.ensures.shorter n.result (plain n.new.sheet) (plain p.new.self)
+    p.ensures q c.in_err-rest.ensures.brackets_read (goes_on 0 m.tested.now) n.ensures.value n.ensures.wrote))
 
-pub returns-then-byte_at-ne47 : goal.returns-then-byte_at-ne47
-returns-then-byte_at-ne47 c =
-    let a = c.args in
-    let s = a.s.now in
+pub returns-in_default-clause-end_read : goal.returns-in_default-clause-end_read
+returns-in_default-clause-end_read c =
     let l = c.loop-axis in
-    let o = c.move_at-found in
-    let m = move_some s l.i (move_at (drop l.i s)) o.result c.in-Is.axis c.in-Is.test c.in-Is.tested o.ensures c.in-Is.is in
+    let m = c.in_ok-axis in
     let n = c.end_number-y in
     let p = c.put_move in
-    let t = c.brackets-end in
-    let e = c.if-end-eq0.false in
-    record { end_read = l.invariant.2 t.result t.new.sheet (end_one s l.i l.from l.sheet o.result o.ensures c.in-Is.axis c.in-Is.test c.in-Is.tested c.in-Is.is n.result n.new.sheet p.new.sheet t.result t.new.sheet p.ensures t.ensures.brackets_read (goes_on 0 (drop c.in-Is.tested s)) refl n.ensures.value n.ensures.wrote e (λ h. c.if-byte_at-ne47.true (c.byte_at.ensures ∙ h))); ahead = λ h. let k = t.ensures.level h in (omega (arith, k.0, m.5, l.invariant.0), k.1) }
-
-pub loop-axis-smaller : goal.loop-axis-smaller
-loop-axis-smaller c =
-    let a = c.args in
-    let s = a.s.now in
-    let l = c.loop-axis in
-    let o = c.move_at-found in
-    let m = move_some s l.i (move_at (drop l.i s)) o.result c.in-Is.axis c.in-Is.test c.in-Is.tested o.ensures c.in-Is.is in
-    let t = c.brackets-end in
-    let e = c.if-end-eq0.false in
-    let u = sym c.byte_at.ensures ∙ c.if-byte_at-ne47.false in
-    let i = byte_inside s t.result 47 (sym u) (lit< tt) in
-    let f = t.ensures.level (above e) in
-    omega (arith, i, f.0, m.5)
+    let q = plain c.brackets.new.sheet in
+    let r = c.in_ok-rest in
+    l.invariant.1 _ q
+    (end_one l.left.now l.from (plain l.sheet) m.axis m.test m.tested m.ensures.value m.ensures.shorter n.result (plain n.new.sheet) (plain p.new.self)
+    p.ensures q r.rest.now r.ensures.brackets_read (goes_on 0 m.tested.now) refl n.ensures.value n.ensures.wrote
+    (past r.rest.now 47 (lit< tt) (λ h d. search rules)))
 
 pub loop-axis-preserved : goal.loop-axis-preserved
 loop-axis-preserved c =
-    let a = c.args in
-    let s = a.s.now in
     let l = c.loop-axis in
-    let o = c.move_at-found in
-    let m = move_some s l.i (move_at (drop l.i s)) o.result c.in-Is.axis c.in-Is.test c.in-Is.tested o.ensures c.in-Is.is in
+    let m = c.in_ok-axis in
     let n = c.end_number-y in
     let p = c.put_move in
-    let t = c.brackets-end in
-    let e = c.if-end-eq0.false in
-    let u = sym c.byte_at.ensures ∙ c.if-byte_at-ne47.false in
-    let i = byte_inside s t.result 47 (sym u) (lit< tt) in
-    let f = t.ensures.level (above e) in (
-      omega (arith, l.invariant.0, f.0, m.5),
-      omega (arith, i),
-      λ r q h. l.invariant.2 r q (end_more s l.i l.from l.sheet o.result o.ensures c.in-Is.axis c.in-Is.test c.in-Is.tested c.in-Is.is n.result n.new.sheet p.new.sheet t.result
-          t.new.sheet p.ensures t.ensures.brackets_read (goes_on 0 (drop c.in-Is.tested s)) refl n.ensures.value n.ensures.wrote r q e (omega (arith, f.0, m.5)) i u h),
-    )
+    let q = plain c.brackets.new.sheet in
+    let r = c.in_ok-rest in
+    let d = begins r.rest.now 47 c.in-47.len_at_least (search rules) in
+    let w = ap length d in
+    (omega (arith, w, r.ensures.no_longer, m.ensures.shorter, l.invariant.0),
+        λ a t h. l.invariant.1 a t
+        (end_more l.left.now l.from (plain l.sheet) m.axis m.test m.tested m.ensures.value m.ensures.shorter n.result (plain n.new.sheet) (plain p.new.self)
+        p.ensures q r.rest.now r.ensures.brackets_read (goes_on 0 m.tested.now) refl n.ensures.value n.ensures.wrote _ a t d r.ensures.no_longer h))

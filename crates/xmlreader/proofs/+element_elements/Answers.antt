@@ -1,77 +1,91 @@
 -- `element` and `elements` find what stands at a place, or miss it.
-use Rattle.std.proofs.Common.{sym, ◌∙◌, arith}
-use Rattle.xmlreader.specs.declared.Step.TheVariants.{To, Not}
-use Rattle.xmlreader.proofs.Bytes.{started}
-use Rattle.xmlreader.proofs.Single.{miss_start, miss_neither, miss_inside, miss_empty, miss_close, found_leaf, found_around}
-use Rattle.xmlreader.proofs.Following.{found_none, miss_first, forward, readable_after, then_more}
+use mathlib.Core.Path.{refl, sym, subst, ◌∙◌}
+use mathlib.Core.List.{[], ◌∷◌}
+use native.Mathlib.Omega.{arith}
+use Rattle.std.proofs.Common.{Ok, Err}
+use Rattle.std.proofs.lemmas.Result.{err_from_is_err_and}
+use Rattle.xmlreader.specs.declared.gathered.Gathered.{Gathered}
+use Rattle.xmlreader.specs.Reading.{Found, Ended}
+use Rattle.xmlreader.proofs.Opens.{started, starts, starts_not, is_after, not_after, not_asked}
+use Rattle.xmlreader.proofs.Single.{miss_many, miss_neither, miss_inside, miss_empty, miss_close, found_leaf, found_around}
+use Rattle.xmlreader.proofs.Following.{found_none, miss_first, shorter, then_more}
 use Rattle.xmlreader.proofs.+element_elements.Goals as goal
 
-pub element-returns-then-not-opens-clause-forest_read : goal.element-returns-then-not-opens-clause-forest_read
-element-returns-then-not-opens-clause-forest_read t c =
-    miss_start c.args.text.now c.args.at c.args.nodes (sym c.if-not-opens.ensures)
+pub element-returns-in_default : goal.element-returns-in_default
+element-returns-in_default t c = (starts_not _ c.in_default.ensures, refl)
 
-pub element-returns-then-is_empty-clause-forest_read : goal.element-returns-then-is_empty-clause-forest_read
-element-returns-then-is_empty-clause-forest_read t c =
-    let b = started c.args.text.now c.args.at _ _ (sym c.if-not-opens.ensures) c.byte_at-name.ensures c.label_named-label.ensures in
-    found_leaf b c.args.up c.requires (omega arith) (sym c.if-is_empty.ensures)
+pub element-returns-in_err-node : goal.element-returns-in_err-node
+element-returns-in_err-node t c =
+    let b = started c.in-Some.ensures c.label_named-label.ensures in
+    let p = err_from_is_err_and c.from_residual.result c.from_residual.ensures.1 in
+    rw p.1 (p.2 ∙ c.in_err-node.ensures.0, starts b, miss_many _ _ c.in_err-node.ensures.1)
 
-pub element-returns-then-byte_at-ne62-clause-forest_read : goal.element-returns-then-byte_at-ne62-clause-forest_read
-element-returns-then-byte_at-ne62-clause-forest_read t c =
-    let b = started c.args.text.now c.args.at _ _ (sym c.if-not-opens.ensures) c.byte_at-name.ensures c.label_named-label.ensures in
-    miss_neither b c.args.nodes (sym c.if-is_empty.ensures) (λ h. c.if-byte_at-ne62.true (c.byte_at.ensures ∙ h))
+pub element-returns-in-Some-after_empty : goal.element-returns-in-Some-after_empty
+element-returns-in-Some-after_empty t c =
+    let b = started c.in-Some.ensures c.label_named-label.ensures in
+    (starts b, found_leaf b c.in_ok-node.ensures c.in-Some-after_empty.ensures)
 
-pub element-returns-then-count-nodes-clause-forest_read : goal.element-returns-then-count-nodes-clause-forest_read
-element-returns-then-count-nodes-clause-forest_read t c =
-    let b = started c.args.text.now c.args.at _ _ (sym c.if-not-opens.ensures) c.byte_at-name.ensures c.label_named-label.ensures in
-    let k = sym c.byte_at.ensures ∙ c.if-byte_at-ne62.false in
-    miss_empty b c.args.nodes k c.in-To.ensures c.if-count-nodes.true
+pub element-returns-in_err-inside : goal.element-returns-in_err-inside
+element-returns-in_err-inside t c =
+    let b = started c.in-Some.ensures c.label_named-label.ensures in
+    let p = err_from_is_err_and c.from_residual-in_err-inside.result c.from_residual-in_err-inside.ensures.1 in
+    let n = not_after (62 ∷ []) c.in_err-inside.ensures.ok_part c.after_bracket.ensures in
+    let q = not_asked c.in_err-inside.ensures.ok_part c.in_err-inside.ensures.value in
+    rw p.1 (p.2 ∙ q, starts b, miss_neither b _ c.in_default-after_empty.ensures n)
 
-pub element-returns-then-not-closes-clause-forest_read : goal.element-returns-then-not-closes-clause-forest_read
-element-returns-then-not-closes-clause-forest_read t c =
-    let b = started c.args.text.now c.args.at _ _ (sym c.if-not-opens.ensures) c.byte_at-name.ensures c.label_named-label.ensures in
-    let k = sym c.byte_at.ensures ∙ c.if-byte_at-ne62.false in
-    miss_close b c.args.nodes k c.in-To.ensures (sym c.if-not-closes.ensures)
+pub element-returns-in_err-end : goal.element-returns-in_err-end
+element-returns-in_err-end t c =
+    let b = started c.in-Some.ensures c.label_named-label.ensures in
+    let p = err_from_is_err_and c.from_residual-in_err-end.result c.from_residual-in_err-end.ensures.1 in
+    let a = is_after (62 ∷ []) c.in_ok-inside.ensures.ok_part c.after_bracket.ensures in
+    rw p.1 (p.2 ∙ c.in_err-end.ensures.0, starts b, miss_inside b _ a c.in_ok-node.ensures.put_up.end c.in_err-end.ensures.1)
 
-pub element-returns-in-Not-clause-forest_read : goal.element-returns-in-Not-clause-forest_read
-element-returns-in-Not-clause-forest_read t c =
-    let b = started c.args.text.now c.args.at _ _ (sym c.if-not-opens.ensures) c.byte_at-name.ensures c.label_named-label.ensures in
-    let k = sym c.byte_at.ensures ∙ c.if-byte_at-ne62.false in
-    miss_inside b c.args.nodes k c.in-Not.ensures
+pub element-returns-then-nodes-node : goal.element-returns-then-nodes-node
+element-returns-then-nodes-node t c =
+    let b = started c.in-Some.ensures c.label_named-label.ensures in
+    let a = is_after (62 ∷ []) c.in_ok-inside.ensures.ok_part c.after_bracket.ensures in
+    let i = c.in_ok-node.ensures.numbered in
+    let j = c.in_ok-node.ensures.put_up.end in
+    (refl, starts b, miss_empty b _ a c.in_ok-end.ensures (omega arith))
 
-pub element-returns-in-Absent-clause-forest_read : goal.element-returns-in-Absent-clause-forest_read
-element-returns-in-Absent-clause-forest_read t c =
-    let b = started c.args.text.now c.args.at _ _ (sym c.if-not-opens.ensures) c.byte_at-name.ensures c.label_named-label.ensures in
-    let k = sym c.byte_at.ensures ∙ c.if-byte_at-ne62.false in
-    miss_inside b c.args.nodes k c.in-Absent.ensures
+pub element-returns-in_err-after : goal.element-returns-in_err-after
+element-returns-in_err-after t c =
+    let b = started c.in-Some.ensures c.label_named-label.ensures in
+    let p = err_from_is_err_and c.from_residual-in_err-after.result c.from_residual-in_err-after.ensures.1 in
+    let a = is_after (62 ∷ []) c.in_ok-inside.ensures.ok_part c.after_bracket.ensures in
+    let n = not_after (60 ∷ 47 ∷ c.in-Some.name ∷ 62 ∷ []) c.in_err-after.ensures.ok_part c.after_end.ensures in
+    let q = not_asked c.in_err-after.ensures.ok_part c.in_err-after.ensures.value in
+    rw p.1 (p.2 ∙ q, starts b, miss_close b _ a c.in_ok-end.ensures n)
 
-pub element-returns-else-not-closes-clause-forest_read : goal.element-returns-else-not-closes-clause-forest_read
-element-returns-else-not-closes-clause-forest_read t c =
-    let b = started c.args.text.now c.args.at _ _ (sym c.if-not-opens.ensures) c.byte_at-name.ensures c.label_named-label.ensures in
-    let k = sym c.byte_at.ensures ∙ c.if-byte_at-ne62.false in
-    found_around b c.args.up c.requires (omega arith) k c.in-To.ensures c.if-count-nodes.false (sym c.if-not-closes.ensures)
+pub element-returns : goal.element-returns
+element-returns t c =
+    let b = started c.in-Some.ensures c.label_named-label.ensures in
+    let a = is_after (62 ∷ []) c.in_ok-inside.ensures.ok_part c.after_bracket.ensures in
+    let e = is_after (60 ∷ 47 ∷ c.in-Some.name ∷ 62 ∷ []) c.in_ok-after.ensures.ok_part c.after_end.ensures in
+    (starts b, found_around b c.in_ok-node.ensures a c.in_ok-end.ensures c.if-nodes-node.false e)
 
-pub elements-returns-in-Not : goal.elements-returns-in-Not
-elements-returns-in-Not t c =
-    c.loop-end.invariant.2 Not c.element-next.new.ups c.element-next.new.labels
-    (miss_first c.args.text.now c.loop-end.place c.loop-end.count c.in-Not.ensures.began c.in-Not.ensures.forest_read)
+pub elements-returns-in_err-after : goal.elements-returns-in_err-after
+elements-returns-in_err-after t c =
+    let p = err_from_is_err_and c.from_residual.result c.from_residual.ensures.1 in
+    let e = c.in_err-after.ensures in
+    rw p.1 (rw p.2 (c.loop-after.invariant.1 (Err c.in_err-after.field-0.0) c.element.new.nodes (e.0, miss_first _ _ e.1 e.2)))
 
-pub elements-returns-in-Absent : goal.elements-returns-in-Absent
-elements-returns-in-Absent t c =
-    let i = c.loop-end.invariant in
-    i.2 (To c.loop-end.place c.loop-end.count) c.element-next.new.ups c.element-next.new.labels
-    (found_none c.args.up i.1 c.in-Absent.ensures.began)
-
-pub elements-loop-end-smaller : goal.elements-loop-end-smaller
-elements-loop-end-smaller t c =
-    let f = c.in-To.ensures.forest_read in
-    let w = forward c.loop-end.invariant.1 f in
-    let l = f.within in
+pub elements-loop-after-smaller : goal.elements-loop-after-smaller
+elements-loop-after-smaller t c =
+    let f = rw c.in-Some.is at c.in_ok-after.ensures in
+    let l = shorter f.1 in
     omega arith
 
-pub elements-loop-end-preserved : goal.elements-loop-end-preserved
-elements-loop-end-preserved t c =
-    let i = c.loop-end.invariant in
-    let f = c.in-To.ensures.forest_read in
-    let a = i.0 in
-    let b = f.forward in
-    (omega arith, readable_after i.1 f, λ r us ls h. i.2 r us ls (then_more i.1 f c.in-To.ensures.began r us ls h))
+pub elements-loop-after-preserved : goal.elements-loop-after-preserved
+elements-loop-after-preserved t c =
+    let f = rw c.in-Some.is at c.in_ok-after.ensures in
+    let i = c.loop-after.invariant in
+    let l = shorter f.1 in
+    (omega arith, λ r k h. i.1 r k (then_more f.1 f.0 r k h))
+
+pub elements-returns : goal.elements-returns
+elements-returns t c =
+    let f = rw c.in_default.is at c.in_ok-after.ensures in
+    c.loop-after.invariant.1 (Ok c.loop-after.left) c.element.new.nodes
+    (subst (λ (h : Gathered). Found Ended c.loop-after.left.now c.args.up c.loop-after.nodes c.loop-after.left.now h) (sym f.1)
+    (found_none c.args.up c.loop-after.nodes f.0))
