@@ -5,7 +5,6 @@ use mathlib.Core.List.{List}
 use Prim.Native.Nat.{ℕ, ◌+◌, ◌-◌, ◌≤◌, ◌<◌, ◌^◌}
 use native.Mathlib.Omega.{arith}
 use lib.ListN.{length, set, drop, drop_of_length-le}
-use lib.Dec.{leb}
 use Rattle.meaning.specs.declared.Centre.{Centre}
 use Rattle.meaning.specs.Finite.{pick}
 use Rattle.std.proofs.Common.{Bor, Option, None, Some, Result, Ok, Err}
@@ -14,7 +13,7 @@ use Rattle.std.specs.Option.{option_copied, ok_or}
 use Rattle.questions.specs.declared.Question.{Question}
 use Rattle.questions.specs.declared.Question.TheVariants.{Centres}
 use Rattle.meaning.specs.Centres.{centre_at, no_centre, sum_of, claimed, Sound, with_draw, added, list_after, Drawn, draw_granted, draw_refused}
-use Rattle.meaning.proofs.Tests.{yes_case, clash, pick_yes, pick_no, is_le, le_yes, le_no, no_le}
+use Rattle.meaning.proofs.Tests.{yes_case, clash, pick_yes, pick_no, le_yes, le_no}
 use Rattle.theory.specs.Centres.{capped, drawing}
 use Rattle.theory.proofs.Centres.{made_sound, sound_capped, claimed_but, Case, by_list, by_centre, by_cap, by_rest, by_none, computed_case, drawing_keeps}
 use Rattle.centres.specs.Plain.{question_of}

@@ -29,7 +29,14 @@ fn with_claim(claims: u64, guarantee: u32, cap: u32, drawn: u32) -> u64
 }
 
 // Whether a question refuses a draw, from the claims of all records and the record of the centre.
-fn question(claims: u64, total: u32, guarantee: u32, cap: u32, drawn: u32, amount: u32) -> Result<(), Question>
+fn question(
+    claims: u64,
+    total: u32,
+    guarantee: u32,
+    cap: u32,
+    drawn: u32,
+    amount: u32,
+) -> Result<(), Question>
     ensures { numbered result ≡ answered (question_of claims total guarantee cap drawn amount) }
 {
     if (total as u64) < claims {

@@ -1,7 +1,7 @@
 -- Laws of rows beyond those of `tables`: the numbers of a row as a list, and a row that gathers what passes a test.
 use mathlib.Core.Path.{◌≡◌, refl, sym, ap, ◌∙◌, subst}
 use mathlib.Core.Logic.{◌≢◌}
-use mathlib.Core.Bool.{Bool, true, false, ◌||◌}
+use mathlib.Core.Bool.{Bool, true, false, not, ◌||◌}
 use mathlib.Core.List.{List, [], ◌∷◌, ◌++◌, append_assoc}
 use Prim.Native.Nat.{ℕ, zero, suc, ◌+◌, ◌^◌, ◌<◌, ◌≤◌, suc-le-suc}
 use native.Mathlib.Nat.{le_refl, le_trans, le_step, not-suc-le-zero, div-eq_of_lt}
@@ -40,6 +40,12 @@ and_turn false false = refl
 or_false : (a : Bool) → (a || false) ≡ a
 or_false true = refl
 or_false false = refl
+
+-- the opposite of a test
+pub not_is : (b : Bool) → not b ≡ neg b
+unfolding neg
+not_is true = refl
+not_is false = refl
 
 -- a test as a byte
 pub byte_is : (b : Bool) → bool_byte b ≡ one b

@@ -76,7 +76,8 @@ module _ (after : List ℕ) (r : ℕ) where
               (w.0, subst (Memᴰ w.0) apart.1 w.1, w.2)
 
   -- so some are left where each that was passed has one
-  pub some_left : (left : ℕ) → r < 65536 → r ≢ 0 → Strict after → Passed (λ i. bit_and r (row after i) ≢ 0) r left → left ≢ 0
+  pub some_left : (left : ℕ) → r < 65536 → r ≢ 0 → Strict after → Passed (λ i. bit_and r (row after i) ≢ 0) r left
+      → left ≢ 0
   some_left left small some strict w z = some_earliest small some strict (passed_all _ _ _ w z)
 
   -- the lowest of those left is free, and those passed are not

@@ -24,8 +24,8 @@ module _ (t u : List ℕ) (n lows : ℕ) where
   pub layered_none : Layered 0 (replicate 17 0)
   layered_none d h = subst (Gathered 0 _) (sym (get_or-replicate 17 d 0 0 h)) (gather_none _)
 
-  pub layered_more : (x depth v : ℕ) (s : Bool) (rows : List ℕ) → length rows ≡ 17 → depth ≡ deep t u n lows x → s ≡ bit lows x
-      → v ≡ gained_one s (row rows depth) x → Layered x rows → Layered (x + 1) (set rows depth v)
+  pub layered_more : (x depth v : ℕ) (s : Bool) (rows : List ℕ) → length rows ≡ 17 → depth ≡ deep t u n lows x
+      → s ≡ bit lows x → v ≡ gained_one s (row rows depth) x → Layered x rows → Layered (x + 1) (set rows depth v)
   unfolding in_layer gained_one
   layered_more x depth v s rows long e l w g d h = go (ℕ_discrete d depth)
     where

@@ -38,10 +38,12 @@ pub first_next : (p : ℕ → Bool) (x : ℕ) (xs : List ℕ) → p x ≡ false 
 unfolding position
 first_next p x xs e = pick_no _ _ (not_yes e) ∙ sym (add-one _)
 
-position_here : (p : ℕ → Bool) (xs : List ℕ) (i : ℕ) → i < length xs → p (get_or xs i 0) ≡ true → position p (drop i xs) ≡ 0
+position_here : (p : ℕ → Bool) (xs : List ℕ) (i : ℕ) → i < length xs → p (get_or xs i 0) ≡ true
+    → position p (drop i xs) ≡ 0
 position_here p xs i l e = rw (drop-cons xs i 0) (first_here p _ _ e)
 
-position_next : (p : ℕ → Bool) (xs : List ℕ) (i : ℕ) → i < length xs → p (get_or xs i 0) ≡ false → position p (drop i xs) ≡ position p (drop (i + 1) xs) + 1
+position_next : (p : ℕ → Bool) (xs : List ℕ) (i : ℕ) → i < length xs → p (get_or xs i 0) ≡ false
+    → position p (drop i xs) ≡ position p (drop (i + 1) xs) + 1
 position_next p xs i l e = rw (add-one i, drop-cons xs i 0) (first_next p _ _ e)
 
 -- ---- the groups of an order
@@ -50,7 +52,8 @@ pub length_numbers : (vs : List Var) (len : ℕ) → len ≤ length vs → lengt
 unfolding numbers
 length_numbers vs len h = length-map (take len vs) (λ (v : Var). v.0) ∙ length-take-le len vs h
 
-pub number_at : (vs : List Var) (len i : ℕ) (d : Var) → len ≤ length vs → i < len → get_or (numbers vs len) i 0 ≡ (get_or vs i d).0
+pub number_at : (vs : List Var) (len i : ℕ) (d : Var) → len ≤ length vs → i < len
+    → get_or (numbers vs len) i 0 ≡ (get_or vs i d).0
 unfolding numbers
 number_at vs len i d h l =
     at (take len vs) i (subst (λ (k : ℕ). i < k) (sym (length-take-le len vs h)) l)
@@ -65,10 +68,12 @@ pub numbers_none : (vs : List Var) → numbers vs 0 ≡ []
 unfolding numbers
 numbers_none vs = refl
 
-pub numbers_more : (vs : List Var) (len x : ℕ) → len < length vs → numbers (set vs len record { 0 = x }) (len + 1) ≡ numbers vs len ++ x ∷ []
+pub numbers_more : (vs : List Var) (len x : ℕ) → len < length vs
+    → numbers (set vs len record { 0 = x }) (len + 1) ≡ numbers vs len ++ x ∷ []
 unfolding numbers
 numbers_more vs len x l =
-    ap (map (λ (v : Var). v.0)) (ap (λ (k : ℕ). take k (set vs len record { 0 = x })) (add-one len) ∙ take-suc-set vs len record { 0 = x } l)
+    let v : Var = record { 0 = x } in
+    ap (map (λ (v : Var). v.0)) (ap (λ (k : ℕ). take k (set vs len v)) (add-one len) ∙ take-suc-set vs len v l)
     ∙ map-append (λ (v : Var). v.0) (take len vs) (record { 0 = x } ∷ [])
 
 pub variables_none : (vs : List Var) → AreVariables (numbers vs 0)
@@ -77,7 +82,8 @@ variables_none vs g m = absurd (Memᴰ.not-nil m)
 
 -- one variable more
 pub variables_more : (gs hs : List ℕ) (x : ℕ) → hs ≡ gs ++ x ∷ [] → x < 16 → AreVariables gs → AreVariables hs
-variables_more gs hs x e h w g m = ⊎_elim (w g) (λ k. last (Memᴰ.cases_cons k)) (Memᴰ.append_cases gs (subst (Memᴰ g) e m))
+variables_more gs hs x e h w g m =
+    ⊎_elim (w g) (λ k. last (Memᴰ.cases_cons k)) (Memᴰ.append_cases gs (subst (Memᴰ g) e m))
   where
     last : (g ≡ x) ⊎ Memᴰ g [] → g < 16
     last k = ⊎_elim (λ (q : g ≡ x). rw q h) (λ n. absurd (Memᴰ.not-nil n)) k
@@ -111,7 +117,8 @@ module _ (o : Order) where
   pub taken_inside : (k : ℕ) (x : Var) → k < length taken → x ≡ get_or taken k x → x.0 < 16
   taken_inside k x l e =
       let q : k < o.len = omega (arith, l, taken_count) in
-      subst (λ (i : ℕ). i < 16) (number_at o.group o.len k x (room o) q ∙ ap (λ (v : Var). v.0) (sym (e ∙ get_or-take o.len o.group k x q)))
+      let same : get_or o.group k x ≡ x = sym (e ∙ get_or-take o.len o.group k x q) in
+      subst (λ (i : ℕ). i < 16) (number_at o.group o.len k x (room o) q ∙ ap (λ (v : Var). v.0) same)
       (o.inside _ (get_d_mem (numbers o.group o.len) k (rw (length_numbers o.group o.len (room o)) q)))
 
   pub groups_taken : groups o ≡ map (λ (v : Var). v.0) taken
@@ -190,7 +197,8 @@ listed_more after t d (suc n) l = go (ℕ_discrete d (suc n)) (λ q. listed_more
     go (no e) r = let a = r (omega arith) in let b = length-append (listed after t n) (in_line after (row t n)) in omega arith
 
 module _ (after t : List ℕ) (n d : ℕ) where
-  pub listed_room : length (listed after t n) ≤ 16 → d < n → length (listed after t d) + length (in_line after (row t d)) ≤ 16
+  pub listed_room : length (listed after t n) ≤ 16 → d < n
+      → length (listed after t d) + length (in_line after (row t d)) ≤ 16
   unfolding listed
   listed_room room l =
       let a = listed_more after t (suc d) n l in

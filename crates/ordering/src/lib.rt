@@ -2,7 +2,7 @@
 // one, and the node of a place. Functions are `pub` here only because crates are split: each keeps its `requires`, which every caller shows.
 #![tactic(auto)]
 
-ghost use Rattle.std.specs.Prelude.{◌≡◌, ◌≢◌, ◌++◌, [], ◌∷◌, ℕ, ◌+◌, ◌^◌, ◌<◌, ◌≤◌, length};
+ghost use Rattle.std.specs.Prelude.{◌≡◌, ◌≢◌, ◌++◌, [], ◌∷◌, ◌+◌, ◌<◌, ◌≤◌, length};
 ghost use Rattle.std.specs.Int.Bits.{bit_and};
 ghost use Rattle.std.specs.Int.Count.{ones};
 ghost use Rattle.meaning.specs.Finite.{one, position};
@@ -45,6 +45,7 @@ impl Ancestry {
     }
 
     // The lowest variables of the groups. Those that are root are on the document node, and no group.
+    #[tactic(auto, using(crate::proofs::Bits::gather_none))]
     pub fn lows(&self, root: u16) -> u16
         ensures { Gathered self.now.n.count (is_lowest self.now.below self.now.above root) result }
     {
@@ -66,6 +67,7 @@ impl Ancestry {
     }
 
     // The groups of each depth. A depth is a count of sixteen bits, so at most 16.
+    #[tactic(auto, using(crate::proofs::Layered::layered_none))]
     pub fn layers(&self, lows: u16) -> [u16; 17]
         ensures { AreLayers self.now.below self.now.above self.now.n.count lows result }
     {
@@ -96,6 +98,7 @@ fn count(row: u16) -> usize
 }
 
 // The lowest member of a row that none of them goes before. There is one, so the loop is left within.
+#[tactic(auto, using(tables::proofs::Members::passed_none))]
 fn earliest(after: [u16; 16], row: u16) -> usize
     requires { (row ≢ 0) × Strict after }
     ensures { Earliest after row result }
@@ -125,6 +128,7 @@ pub struct Order {
 impl Order {
     ghost use Rattle.ordering.specs.Groups.{groups};
 
+    #[tactic(auto, using(crate::proofs::Listing::numbers_none, crate::proofs::Listing::variables_none), unfolding(crate::specs::Groups::groups))]
     fn new() -> Self
         ensures { groups result ≡ [] }
     {
@@ -135,7 +139,7 @@ impl Order {
     }
 
     fn push(&mut self, x: Var)
-        requires { (x.0 < 16) × (length (groups self.old) < 16) }
+        requires { (x.0 < 16) × (self.old.len < 16) }
         ensures { groups self.new ≡ groups self.old ++ x.0 ∷ [] }
     {
         self.group[self.len] = x;
@@ -143,6 +147,7 @@ impl Order {
     }
 
     // Puts the members of a row behind the groups, each after those that go before it.
+    #[tactic(auto, using(crate::proofs::Listing::next_in_lem, crate::proofs::Listing::appending_more, crate::proofs::Listing::appending_all, crate::proofs::Listing::rest_less))]
     fn append(&mut self, row: u16, after: [u16; 16])
         requires { (length (groups self.old) + length (in_line after row) ≤ 16) × Strict after }
         ensures { groups self.new ≡ groups self.old ++ in_line after row }
@@ -156,6 +161,7 @@ impl Order {
     }
 
     // The groups layer by layer.
+    #[tactic(auto, using(crate::proofs::Listing::listed_none, crate::proofs::Listing::listed_room, crate::proofs::Listing::listed_next))]
     pub fn in_order(layer: [u16; 17], after: [u16; 16], n: Variables) -> Self
         requires { (length (listed after layer n.count) ≤ 16) × Strict after }
         ensures { groups result ≡ listed after layer n.count }
@@ -168,6 +174,7 @@ impl Order {
     }
 
     // The place of each group, by its lowest variable: the first place of each, as the last are stored first.
+    #[tactic(auto, using(crate::proofs::Listing::count_is, crate::proofs::Listing::inside_at, crate::proofs::Listing::placing_none, crate::proofs::Listing::placing_all))]
     pub fn places(&self) -> [u8; 16]
         ensures { Placed (groups self.now) result }
     {
@@ -198,6 +205,7 @@ pub struct Front {
 
 impl Front {
     // In front of these groups at the top there is an element unless there is exactly one group.
+    #[tactic(auto, using(crate::proofs::Bits::not_is), unfolding(crate::specs::Numbering::element_of))]
     pub fn of(top: u16) -> Self
         ensures { one result.element ≡ element_of (ones top) }
     {

@@ -1,15 +1,10 @@
 -- A pass that looks at the document node: a leaf or a label on it is a clash.
-use mathlib.Core.Path.{◌≡◌, refl, sym, ◌∙◌}
-use mathlib.Core.Bool.{Bool, true, false, false≢true, ◌||◌}
-use mathlib.Core.List.{List}
+use mathlib.Core.Path.{◌≡◌, sym, ◌∙◌}
+use mathlib.Core.Bool.{Bool, true, false, false≢true}
 use Prim.Native.Nat.{ℕ, ◌<◌}
-use Rattle.meaning.specs.Constraint.{Fact}
-use Rattle.meaning.specs.Settled.{Clash}
-use Rattle.tables.specs.Tables.{Seeded}
 use Rattle.tables.specs.declared.Facts.{Facts}
 use Rattle.tables.specs.Rows.{LabelOf, on_document}
 use Rattle.tables.proofs.Clashes.{document_clash, document_bare}
-use Rattle.tables.proofs.Tested.{or_no}
 use Rattle.passes.specs.Steps.{StepOf, Clashes, PassRules, BareRules}
 use Rattle.passes.specs.declared.Stepped.{Stepped}
 

@@ -3,7 +3,7 @@
 -- grow they are closed under the rules of sharing and those of one parent and one element.
 use mathlib.Core.Path.{◌≡◌, refl, sym, ap, ◌∙◌, subst}
 use mathlib.Core.Logic.{◌≢◌, inl, inr, ⊎_elim}
-use mathlib.Core.Bool.{Bool, true, false, false≢true}
+use mathlib.Core.Bool.{Bool, true, false}
 use mathlib.Core.List.{List}
 use Prim.Native.Nat.{ℕ, ◌+◌, ◌^◌, ◌<◌, ◌≤◌}
 use native.Mathlib.Nat.{le_trans}
@@ -29,7 +29,7 @@ use Rattle.tables.proofs.Labels.{label_has, label_is}
 use Rattle.tables.proofs.Groups as groups
 use Rattle.tables.proofs.Groups.{Twin, One, Two, Order, flip, alone, own, each, turn, embed_in, shared_sharing, shared_least, sharing_same}
 use Rattle.passes.specs.Rows.{In, GroupsOf, WholeGroups, Joins, by_leaf, by_child, by_root, JoinedOf}
-use Rattle.sharing.specs.Shares.{share_at, Source, ShareOf, GroupClash, two_labels, apart, Shared}
+use Rattle.sharing.specs.Shares.{share_at, Source, GroupClash, two_labels, apart, Shared}
 use Rattle.passes.proofs.Weights.{bits_le}
 use Rattle.passes.specs.Steps.{weight, StepOf, PassRules}
 use Rattle.passes.specs.declared.Groups.{Groups}

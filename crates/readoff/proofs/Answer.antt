@@ -20,7 +20,7 @@ use Rattle.theory.proofs.AnswerFile.{length_node_bytes, length_place_bytes}
 use Rattle.tables.specs.declared.Facts.{Facts}
 use Rattle.tables.specs.Tables.{row, has, Columns, Ready}
 use Rattle.ordering.specs.declared.Order.{Order}
-use Rattle.ordering.specs.Rows.{Gathered, is_lowest}
+use Rattle.ordering.specs.Rows.{Gathered, is_lowest, AreLayers}
 use Rattle.ordering.specs.Numbering.{element_of, numbered}
 use Rattle.ordering.specs.Listing.{Strict, listed}
 use Rattle.ordering.specs.Groups.{groups}
@@ -30,7 +30,6 @@ use Rattle.ordering.proofs.Listing.{count_is}
 use Rattle.readoff.proofs.Numbering.{element_is, numbered_is}
 use Rattle.readoff.proofs.Meaning.{record_is, places_are}
 use Rattle.readoff.proofs.Preceding.{SayBefore, says_before, strict}
-use Rattle.ordering.proofs.Layered.{Layered}
 use Rattle.readoff.proofs.Layers.{order_is, tops_are}
 use Rattle.readoff.proofs.Leading.{led}
 use Rattle.readoff.proofs.Written.{node_record, node_bytes_at, place_bytes_at, recorded_as}
@@ -133,10 +132,11 @@ pub record Prepared (S : List Fact) (f : Facts) (n lows : ℕ) (rows : List ℕ)
   pub long : length f.after ≡ 16
   pub fits : (g : ℕ) → Fits w16 (row f.after g)
   pub low : Gathered n (is_lowest f.below f.above f.root) lows
-  pub layered : Layered f.below f.above n lows n rows
+  pub layered : AreLayers f.below f.above n lows rows
 
-pub prepared : {S : List Fact} {f : Facts} {n lows : ℕ} {rows : List ℕ} → n ≤ 16 → Ready n S f → length f.after ≡ 16 → ((g : ℕ) → Fits w16 (row f.after g))
-    → Gathered n (is_lowest f.below f.above f.root) lows → Layered f.below f.above n lows n rows → Prepared S f n lows rows
+pub prepared : {S : List Fact} {f : Facts} {n lows : ℕ} {rows : List ℕ} → n ≤ 16 → Ready n S f
+    → length f.after ≡ 16 → ((g : ℕ) → Fits w16 (row f.after g)) → Gathered n (is_lowest f.below f.above f.root) lows
+    → AreLayers f.below f.above n lows rows → Prepared S f n lows rows
 prepared a r l f g d = record { few = a; ready = r; long = l; fits = f; low = g; layered = d }
 
 module _ {S : List Fact} {f : Facts} {n lows : ℕ} {rows : List ℕ} (w : Prepared S f n lows rows) where
@@ -155,7 +155,8 @@ module _ {S : List Fact} {f : Facts} {n lows : ℕ} {rows : List ℕ} (w : Prepa
   pub room_for : length (listed f.after rows n) ≤ 16
   room_for = let a = order_most n (has f) in let b = w.few in omega (arith, ap length listed_are)
 
-module _ {S : List Fact} {f : Facts} {n lows : ℕ} {rows : List ℕ} (w : Prepared S f n lows rows) (o : Order) (these : groups o ≡ listed f.after rows n) where
+module _ {S : List Fact} {f : Facts} {n lows : ℕ} {rows : List ℕ} (w : Prepared S f n lows rows) (o : Order)
+    (these : groups o ≡ listed f.after rows n) where
   groups_are : groups o ≡ order n (has f)
   groups_are = these ∙ listed_are w
 
@@ -167,7 +168,8 @@ module _ {S : List Fact} {f : Facts} {n lows : ℕ} {rows : List ℕ} (w : Prepa
 
   module _ (e : ℕ) (q : e ≡ element_of (ones (row rows 0))) where
     element_exact : e ≡ element n (has f)
-    element_exact = q ∙ ap element_of (tops_are f n w.few (columns w) lows w.low rows w.layered (says w)) ∙ element_is n (has f)
+    element_exact =
+        q ∙ ap element_of (tops_are f n w.few (columns w) lows w.low rows w.layered (says w)) ∙ element_is n (has f)
 
     numbers_are : numbered e ≡ node_at n (has f)
     numbers_are = ap numbered element_exact ∙ numbered_is n (has f)
@@ -175,12 +177,14 @@ module _ {S : List Fact} {f : Facts} {n lows : ℕ} {rows : List ℕ} (w : Prepa
     first_is : numbered e o.len ≡ size n (has f)
     first_is = ap (λ (number : ℕ → ℕ). number o.len) numbers_are ∙ ap (node_at n (has f)) len_is ∙ sym (size_exact n (has f))
 
-    pub file_written : (first : ℕ) (old mid late new : List ℕ) (vs : List ℕ) → first ≡ numbered e o.len → 136 ≤ length old → ((g : ℕ) → Fits w8 (row f.label g))
+    pub file_written : (first : ℕ) (old mid late new : List ℕ) (vs : List ℕ) → first ≡ numbered e o.len → 136 ≤ length old
+        → ((g : ℕ) → Fits w8 (row f.label g))
         → Recorded (λ v. v) blank_at (suc e) old mid → Recorded (numbered e) (group_record f.below f.above f.label n lows e (groups o)) o.len mid late
         → Recorded (λ x. first + x) (place_record vs) n late new → vs ≡ tab n (place_in f.below f.above f.root e (groups o))
         → FileWritten n (has f) old ((first + n) * 4) new
     file_written first old mid late new vs z room bytes a g p d =
         rw (z, first_is)
         (answered n (has f) old mid late new w.few room (rw element_exact at a)
-        (recorded_as _ _ _ _ _ _ (record_is f n w.few (columns w) lows w.low (λ g. (bytes g).fits)) (rw (element_exact, numbered_is, groups_are, len_is) at g))
+        (recorded_as _ _ _ _ _ _ (record_is f n w.few (columns w) lows w.low (λ g. (bytes g).fits))
+        (rw (element_exact, numbered_is, groups_are, len_is) at g))
         (rw (z, first_is, d, groups_are, element_exact, places_are f n w.few (columns w)) at p))

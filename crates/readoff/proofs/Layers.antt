@@ -16,17 +16,16 @@ use Rattle.meaning.proofs.Nodes.{length_picked}
 use Rattle.rowbits.specs.Bit.{bit}
 use Rattle.tables.specs.declared.Facts.{Facts}
 use Rattle.tables.specs.Tables.{row, has, Columns}
-use Rattle.ordering.specs.Rows.{Gathered, is_lowest, in_layer}
+use Rattle.ordering.specs.Rows.{Gathered, is_lowest, in_layer, AreLayers}
 use Rattle.ordering.specs.Listing.{in_line, listed}
 use Rattle.ordering.proofs.Bits.{picked_eq}
 use Rattle.readoff.proofs.Counting.{counted, gathered_picked}
 use Rattle.ordering.proofs.InLine.{length_in_line}
-use Rattle.ordering.proofs.Layered.{Layered}
 use Rattle.readoff.proofs.Preceding.{SayBefore}
 use Rattle.readoff.proofs.Meaning.{lows_is, depth_is}
 
 module _ (f : Facts) (n : ℕ) (few : n ≤ 16) (m : Columns f.below f.above) (lows : ℕ) (g : Gathered n (is_lowest f.below f.above f.root) lows)
-    (rows : List ℕ) (ls : Layered f.below f.above n lows n rows) (says : SayBefore f) where
+    (rows : List ℕ) (ls : AreLayers f.below f.above n lows rows) (says : SayBefore f) where
   members_are : (d : ℕ) → d < 17 → picked 16 (bit (row rows d)) ≡ picked n (λ x. lowest n (has f) x and eqb (depth n (has f) x) d)
   unfolding in_layer
   members_are d h =

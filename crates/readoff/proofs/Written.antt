@@ -35,7 +35,8 @@ module _ (v : ℕ) (bs old : List ℕ) (four : length bs ≡ 4) (room : v * 4 + 
 
   here : (j : ℕ) → j < 4 → get_or new (v * 4 + j) 0 ≡ get_or bs j 0
   here j m =
-      ap (λ (k : ℕ). get_or new (k + j) 0) (sym front) ∙ get_or-append-add (take (v * 4) old) _ j 0 ∙ get_or-append bs _ 0 j (rw four m)
+      ap (λ (k : ℕ). get_or new (k + j) 0) (sym front) ∙ get_or-append-add (take (v * 4) old) _ j 0
+      ∙ get_or-append bs _ 0 j (rw four m)
 
   ahead : (i : ℕ) → i < v * 4 → get_or new i 0 ≡ get_or old i 0
   ahead i l = get_or-append (take (v * 4) old) _ 0 i (rw front l) ∙ get_or-take (v * 4) old i 0 l
@@ -47,7 +48,11 @@ module _ (v : ℕ) (bs old : List ℕ) (four : length bs ≡ 4) (room : v * 4 + 
       ∙ get_or-drop 4 (drop (v * 4) old) k 0 ∙ get_or-drop (v * 4) old (4 + k) 0
 
   pub put_four : Put v bs old new
-  put_four = record { long = long; these = λ i j l m. here j m; others = λ u j f m. other u j (f 0 (omega arith)) m (dec_lt u v) }
+  put_four = record {
+    long = long;
+    these = λ i j l m. here j m;
+    others = λ u j f m. other u j (f 0 (omega arith)) m (dec_lt u v);
+  }
     where
       other : (u j : ℕ) → u ≢ v → j < 4 → Dec (u < v) → get_or new (u * 4 + j) 0 ≡ get_or old (u * 4 + j) 0
       other u j f m (yes l) = ahead (u * 4 + j) (omega arith)
@@ -110,7 +115,8 @@ unfolding place_bytes
 place_bytes_at vs x j l m = quads_at place_bytes 0 (λ i a xs. refl) (λ i a. refl) vs 0 x j l m ∙ ap (λ (k : ℕ). get_or (place_bytes k (get_or vs x 0 ∷ [])) j 0) (zero-add x)
 
 -- the record that is computed is that of the group
-pub group_record_lem : (t u labels : List ℕ) (n lows element : ℕ) (o : Order) (i : ℕ) → i < o.len → (own above up : ℕ) → own ≡ numbered element i
+pub group_record_lem : (t u labels : List ℕ) (n lows element : ℕ) (o : Order) (i : ℕ) → i < o.len
+    → (own above up : ℕ) → own ≡ numbered element i
     → above ≡ over_row n (row u (get_or o.group i record { 0 = 0 }).0) (row t (get_or o.group i record { 0 = 0 }).0) → up ≡ parent_in t u lows element (groups o) above
     → (1 ∷ own ∷ up ∷ row labels (get_or o.group i record { 0 = 0 }).0 ∷ []) ≡ group_record t u labels n lows element (groups o) i
 unfolding node_in node_bytes

@@ -7,12 +7,14 @@ ghost use Rattle.sharing.specs.Shares.{Clashing, WithRows, WithGroup, share_at, 
 
 use ids::Variables;
 
+#[tactic(auto, using(crate::proofs::Taking::labels_clash))]
 fn clashes(l: u8, m: u8) -> bool
     ensures { Clashing l m result }
 {
     (l != 0) & (m != 0) & (l != m)
 }
 
+#[tactic(auto, unfolding(meaning::specs::Finite::pick))]
 fn either_label(l: u8, m: u8) -> u8
     ensures { result ≡ pick (eqb l 0) m l }
 {
@@ -94,6 +96,7 @@ impl Shares {
 
 // The loops of a pass: x takes what each y of its group has: its label, and its child, parent and differ with the group of z, for each z
 // that y has. None where they clash.
+#[tactic(auto, using(crate::proofs::Passing::shared_rows))]
 pub fn share_rows(t: Shares, same: [u16; 16], several: u16, n: Variables) -> Option<Shares>
     ensures { SharedOf n.count t same several result }
 {

@@ -58,7 +58,6 @@ module _ (b : Bytes) where
         p ∙ ap (λ (q : Bytes). put_in kind.Root x 0 0 (with_root x q)) j ∙ ap (λ (k : ℕ). put_in kind.Root k 0 0 (with_root k (numbered_in b))) i
         ∙ sym (ap (λ (q : Option ℕ). root_given q b) e)
 
-
   module _ (a : Axis) (t x y : ℕ) {c : Bytes} (e : c ≡ axis_in a x y b) where
     pub move_any : t ≡ 42 → c ≡ move_in a t x y b
     unfolding move_in

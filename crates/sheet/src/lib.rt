@@ -11,6 +11,7 @@ const ROOM: usize = 192;
 
 // A sheet is lent and not passed by value, since each level of brackets would copy it. Numbers stop at 17 and records at 48, so that no bound
 // goes through the readers. A number is a plain byte: a struct, as Var, would be passed by a pointer to a copy.
+#[derive(Drop)]
 pub struct Sheet {
     records: [u8; ROOM],
     // The bytes of the records so far.
@@ -69,7 +70,11 @@ impl Sheet {
         ensures { plain self.new ≡ put_in kind x y label (plain self.old) }
     {
         if self.length + 4 <= ROOM {
-            self.length = lent::put(&mut self.records, self.length, &[kind.number(), x, y, label]);
+            self.length = lent::put(
+                &mut self.records,
+                self.length,
+                &[kind.number(), x, y, label],
+            );
         }
     }
 

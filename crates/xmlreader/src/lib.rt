@@ -17,10 +17,7 @@ use questions::Question;
 fn is_name(byte: u8) -> bool
     ensures { result ≡ is_name byte }
 {
-    if byte == b'_' {
-        return true;
-    }
-    labels::is_letter(byte)
+    byte == b'_' || labels::is_letter(byte)
 }
 
 // _ names a blank.

@@ -1,24 +1,36 @@
--- What question 15 says of the record at a position and of those after it: the steps of the loop.
-use mathlib.Core.Path.{◌≡◌}
-use mathlib.Core.Bool.{true, false}
-use mathlib.Core.List.{List, map}
-use Prim.Native.Nat.{ℕ, ◌+◌, ◌*◌, ◌/◌, ◌≤◌, ◌<◌}
-use lib.ListN.{length, get_or, drop}
+-- What question 15 says of the last bytes of whole records is what it says of the records.
+use mathlib.Core.Path.{◌≡◌, refl, sym, ap, ◌∙◌}
+use mathlib.Core.Bool.{Bool, true, false, ◌&&◌}
+use mathlib.Core.List.{List, [], ◌∷◌, map}
+use Prim.Native.Nat.{ℕ, zero, suc, ◌/◌}
+use native.Mathlib.Omega.{arith}
+use lib.ListN.{length, get_or}
+use Rattle.std.specs.List.{list_all}
+use Rattle.std.specs.Simd.{first_chunks}
 use Rattle.meaning.specs.Finite.{◌and◌}
 use Rattle.meaning.specs.Files.{quads, node_of}
 use Rattle.meaning.specs.Xml.{is_nameable, records_nameable}
-use Rattle.answers.proofs.Quads.{quad_at_lem, no_quad}
 
-module _ (bs : List ℕ) (i : ℕ) where
-  pub labels_none : length bs / 4 ≤ i → records_nameable (map node_of (drop i (quads bs))) ≡ true
-  unfolding records_nameable
-  labels_none h = rw (no_quad bs i h)
+both : (a b : Bool) → (a && b) ≡ (a and b)
+unfolding ◌and◌
+both true b = refl
+both false b = refl
 
-  module _ (h : i < length bs / 4) where
-    pub labels_one : is_nameable (get_or bs (i * 4 + 3) 0) ≡ true → records_nameable (map node_of (drop i (quads bs))) ≡ records_nameable (map node_of (drop (i + 1) (quads bs)))
-    unfolding records_nameable node_of ◌and◌
-    labels_one e = rw (quad_at_lem bs i h, e)
+labels_cut : (n : ℕ) (bs : List ℕ) → n ≡ length bs / 4
+    → list_all (λ r. is_nameable (get_or r 3 0)) (first_chunks 4 n bs) ≡ records_nameable (map node_of (quads bs))
+unfolding records_nameable quads node_of
+labels_cut zero [] e = refl
+labels_cut zero (a ∷ []) e = refl
+labels_cut zero (a ∷ b ∷ []) e = refl
+labels_cut zero (a ∷ b ∷ c ∷ []) e = refl
+labels_cut zero (a ∷ b ∷ c ∷ d ∷ bs) e = absurd (omega arith)
+labels_cut (suc n) [] e = absurd (omega arith)
+labels_cut (suc n) (a ∷ []) e = absurd (omega arith)
+labels_cut (suc n) (a ∷ b ∷ []) e = absurd (omega arith)
+labels_cut (suc n) (a ∷ b ∷ c ∷ []) e = absurd (omega arith)
+labels_cut (suc n) (a ∷ b ∷ c ∷ d ∷ bs) e =
+    both (is_nameable d) _ ∙ ap (λ (x : Bool). is_nameable d and x) (labels_cut n bs (omega arith))
 
-    pub labels_stop : is_nameable (get_or bs (i * 4 + 3) 0) ≡ false → records_nameable (map node_of (drop i (quads bs))) ≡ false
-    unfolding records_nameable node_of ◌and◌
-    labels_stop e = rw (quad_at_lem bs i h, e)
+pub labels_all : (bs : List ℕ) {rs : List (List ℕ)} {b : Bool} → rs ≡ first_chunks 4 (length bs / 4) bs
+    → b ≡ list_all (λ r. is_nameable (get_or r 3 0)) rs → records_nameable (map node_of (quads bs)) ≡ b
+labels_all bs cut e = sym (e ∙ ap (list_all (λ r. is_nameable (get_or r 3 0))) cut ∙ labels_cut _ bs refl)

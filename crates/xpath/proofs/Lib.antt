@@ -1,3 +1,2 @@
-pub mod Copying
-pub mod LineReturns
-pub mod Answering
+mod LineReturns
+mod Answering

@@ -1,18 +1,19 @@
 -- `draw`: after the loop the question is that of the claims of all, and each way to end is one of three.
-use mathlib.Core.Path.{sym, ◌∙◌}
-use Rattle.std.proofs.Common.{◌<◌, ◌≤◌, ◌*◌, ℕ, length, Fits, w32, w64, arith, rules}
+use mathlib.Core.Path.{◌∙◌}
+use Rattle.std.proofs.Common.{◌<◌, ◌≤◌, ℕ, length, Fits, w32, arith, rules}
 use Rattle.centres.proofs.Claims.{one_on}
 use Rattle.centres.proofs.Asked.{ends_long, ends_missing, own_found, own_missing, asked, ends_refused, granted_cap, ends_granted}
 use Rattle.centres.proofs.draw.Goals as goal
-use Rattle.std.proofs.Common.{◌≡◌}
 use Rattle.std.proofs.lemmas.Result.{err_from_is_err_and}
-use Rattle.meaning.specs.Centres.{centre_at}
-use Rattle.questions.specs.Number.{numbered}
-use Rattle.theory.specs.Centres.{drawing}
-use Rattle.centres.specs.Answers.{answer_of}
 
 fits_32 : (m k : ℕ) → Fits w32 k → m ≤ k → Fits w32 m
 fits_32 m k f l = omega (arith, f, l)
+
+pub returns : goal.returns
+returns c =
+    let o = own_found _ _ _ c.get.ensures.lookup c.copied.ensures c.ok_or.ensures.value c.in_ok-own.was in
+    let a = asked _ _ _ _ o c.loop-c.invariant c.ranges.total.fits c.if-centres-gt-MOST.false c.loop-c-test.false in
+    ends_granted _ _ _ _ o (c.in_ok-question.ensures ∙ a)
 
 pub returns-then-centres-gt-MOST : goal.returns-then-centres-gt-MOST
 returns-then-centres-gt-MOST c = let h : 8 < length c.args.centres.now = omega arith in ends_long _ _ _ _ h
@@ -40,9 +41,3 @@ overflow_add-centres c =
     let o = own_found _ _ _ c.get.ensures.lookup c.copied.ensures c.ok_or.ensures.value c.in_ok-own.was in
     let a = asked _ _ _ _ o c.loop-c.invariant c.ranges.total.fits c.if-centres-gt-MOST.false c.loop-c-test.false in
     fits_32 _ _ (search rules) (granted_cap _ _ _ _ o (c.in_ok-question.ensures ∙ a))
-
-pub returns : goal.returns
-returns c =
-    let o = own_found _ _ _ c.get.ensures.lookup c.copied.ensures c.ok_or.ensures.value c.in_ok-own.was in
-    let a = asked _ _ _ _ o c.loop-c.invariant c.ranges.total.fits c.if-centres-gt-MOST.false c.loop-c-test.false in
-    ends_granted _ _ _ _ o (c.in_ok-question.ensures ∙ a)

@@ -6,7 +6,10 @@ use Rattle.tables.proofs.Members.{Passed}
 use Rattle.ordering.proofs.earliest.Given as goal
 
 abbrev pub invariant-loop-after : goal.invariant-loop-after
-invariant-loop-after l = record { some : l.left ≢ 0; passed : Passed (λ i. bit_and l.row (row l.after i) ≢ 0) l.row l.left }
+invariant-loop-after l = record {
+  some : l.left ≢ 0;
+  passed : Passed (λ i. bit_and l.row (row l.after i) ≢ 0) l.row l.left;
+}
 
 abbrev pub decreases-loop-after : goal.decreases-loop-after
 decreases-loop-after l = l.left

@@ -1,5 +1,5 @@
 use borrow.Author.Rules.{rules}
-use Rattle.passes.proofs.Joining.{joining_none, joining_more, joining_all}
+use Rattle.passes.proofs.Joining.{joining_more}
 use Rattle.passes.proofs.join_rows.Goals as goal
 
 pub loop-x-preserved : goal.loop-x-preserved

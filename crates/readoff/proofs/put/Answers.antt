@@ -8,5 +8,6 @@ use Rattle.readoff.proofs.put.Goals as goal
 
 pub returns : goal.returns
 returns c =
-    let width : c.args.number * 4 + 4 - c.args.number * 4 ≡ 4 = omega arith in
-    rw (c.copy_from_slice.ensures.after, width) (put_four c.args.number c.args.bytes c.args.answer.now (search rules) c.requires)
+    let v = c.args.number in
+    let width : v * 4 + 4 - v * 4 ≡ 4 = omega arith in
+    rw (c.copy_from_slice.ensures.after, width) (put_four v c.args.bytes c.args.answer.now (search rules) c.requires)

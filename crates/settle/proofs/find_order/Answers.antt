@@ -1,5 +1,5 @@
 -- `settle::find_order` meets its contract.
-use Rattle.std.proofs.Common.{subst, true, false}
+use Rattle.std.proofs.Common.{subst}
 use Rattle.tables.specs.Rows.{Crossed}
 use Rattle.settle.proofs.find_order.Goals as goal
 

@@ -31,7 +31,7 @@ returns-then-not-unlike c =
 pub loop-p-smaller : goal.loop-p-smaller
 loop-p-smaller c =
     let b = weight_most (passing (ordering c.in_ok-p.p.facts c.in_ok-before.field-0.before c.in_ok-before.field-0.after c.differ_rows-apart.result)
-        c.child_rows-passed.result c.transpose-parent.result c.differ_rows-differ.result) (λ i. search (rules, c.in_ok-p)) (λ i. search rules) (λ i. search rules) in
+    c.child_rows-passed.result c.transpose-parent.result c.differ_rows-differ.result) (λ i. search (rules, c.in_ok-p)) (λ i. search rules) (λ i. search rules) in
     let o = rowed c.args.n.few c.loop-p.invariant c.in_ok-p.ensures c.if-p.false c.requires c.in_ok-before.ensures.order in
     let l = no_less c.in_ok-p.ensures in
     let a = both_grew o c.differ_rows-apart.ensures c.child_rows-passed.ensures c.transpose-parent.result c.differ_rows-differ.result c.unlike.ensures

@@ -1,11 +1,11 @@
-use Rattle.std.proofs.Common.{rules, arith, sym, ap, ◌∙◌, subst, ℕ, ◌<◌, bit_or, bit_and, slice_index_or, Fits, w16}
+use Rattle.std.proofs.Common.{rules, arith, sym, ap, ◌∙◌, bit_or, slice_index_or, Fits, w16}
 use lib.Bits.{and_le_l}
 use Rattle.tables.specs.Tables.{row}
 use Rattle.tables.proofs.Bits.{in_both}
 use Rattle.tables.proofs.Members.{passed_none, passed_less, next_in_lem, next_named}
-use Rattle.sharing.specs.Shares.{Clashing, share_at, apart}
+use Rattle.sharing.specs.Shares.{apart}
 use Rattle.sharing.proofs.Taking.{grown_none, taking_none, added, z_step, y_step}
-use Rattle.sharing.proofs.Passing.{passing_none, passing_more, share_of, shared_rows, two_clash}
+use Rattle.sharing.proofs.Passing.{passing_none, passing_more, share_of, two_clash}
 use Rattle.sharing.proofs.share_rows.Goals as goal
 
 pub loop-x-init : goal.loop-x-init
@@ -45,7 +45,7 @@ loop-zs-preserved c =
     let own = next_named _ _ _ _ c.loop-ys.invariant.1 c.loop-ys-test.true c.lowest-y.ensures in
     rw (c.rest-zs.ensures _ c.lowest-z.ensures)
     (z_step _ _ _ _ _ _ _ _ _ _ _ _ _ c.loop-zs.invariant own c.loop-zs-test.true c.lowest-z.ensures (sym c.has.ensures ∙ c.if-has.false)
-        (rw e at c.has-in-loop-zs.ensures) (rw e at c.has-in-loop-zs-2.ensures) c.with_group-s.ensures)
+    (rw e at c.has-in-loop-zs.ensures) (rw e at c.has-in-loop-zs-2.ensures) c.with_group-s.ensures)
 
 pub loop-ys-smaller : goal.loop-ys-smaller
 loop-ys-smaller c =
@@ -56,12 +56,12 @@ loop-ys-preserved c =
     let e = c.row-of.ensures in
     rw (c.rest-ys.ensures _ c.lowest-y.ensures)
     (y_step _ _ _ _ _ _ _ _ _ _ _ c.loop-ys.invariant c.loop-ys-test.true c.lowest-y.ensures (rw (e, c.if-clashes.false) at c.clashes.ensures)
-        (rw e at c.with_rows-s.ensures) c.loop-zs-test.false c.loop-zs.invariant)
+    (rw e at c.with_rows-s.ensures) c.loop-zs-test.false c.loop-zs.invariant)
 
 pub loop-x-preserved : goal.loop-x-preserved
 loop-x-preserved c =
     rw c.set.ensures (passing_more _ _ _ _ _ _ (omega arith) c.loop-x.invariant
-        (share_of _ _ _ _ _ _ _ c.loop-ys-test.false c.loop-ys.invariant.0 (ap (bit_or c.args.several) c.one.ensures) c.loop-ys.invariant.1))
+    (share_of _ _ _ _ _ _ _ c.loop-ys-test.false c.loop-ys.invariant.0 (ap (bit_or c.args.several) c.one.ensures) c.loop-ys.invariant.1))
 
 pub returns-then-clashes : goal.returns-then-clashes
 returns-then-clashes c =
@@ -74,6 +74,3 @@ returns-then-has c =
     let own = next_named _ _ _ _ c.loop-ys.invariant.1 c.loop-ys-test.true c.lowest-y.ensures in
     let far = (in_both _ _ _ (next_named _ _ _ _ c.loop-zs.invariant.1 c.loop-zs-test.true c.lowest-z.ensures)).0 in
     apart _ _ _ c.loop-x-test.true own far (sym c.has.ensures ∙ c.if-has.true)
-
-pub returns-after-loop-x : goal.returns-after-loop-x
-returns-after-loop-x c = shared_rows _ _ _ _ _ _ c.loop-x.auto.x-end c.loop-x-test.false c.loop-x.invariant

@@ -31,10 +31,11 @@ brackets-loop-left-preserved t c =
     let r = c.in_ok-rest in
     let d = begins r.rest.now 93 c.in-93.len_at_least (search rules) in
     let z = ap length e in
-    let w = ap length d in
-    (omega (arith, z, w, r.ensures.shorter, l.invariant.0),
-        λ q m h. l.invariant.1 q m
-        (brackets_more s c.args.y (plain l.sheet) _ e r.rest.now n r.ensures.path_read _ q m d r.ensures.shorter h))
+    let w = ap length d in (
+      omega (arith, z, w, r.ensures.shorter, l.invariant.0),
+      λ q m h. l.invariant.1 q m
+          (brackets_more s c.args.y (plain l.sheet) _ e r.rest.now n r.ensures.path_read _ q m d r.ensures.shorter h),
+    )
 
 pub brackets-returns-clause-brackets_read : goal.brackets-returns-clause-brackets_read
 brackets-returns-clause-brackets_read t c =
@@ -105,8 +106,9 @@ steps-loop-rest-preserved t c =
     let q = plain c.step.new.sheet in
     let r = c.in_ok-rest in
     let d = begins r.rest.now 47 c.in-47.len_at_least (search rules) in
-    let w = ap length d in
-    (omega (arith, w, r.ensures.shorter, l.invariant.0),
-        λ a m h. l.invariant.1 a m
-        (steps_more l.left.now l.from (plain l.sheet) (plain n.new.self) n.ensures.wrote n.result n.ensures.value r.rest.now q r.ensures.step_read
-        _ a m d r.ensures.shorter h))
+    let w = ap length d in (
+      omega (arith, w, r.ensures.shorter, l.invariant.0),
+      λ a m h. l.invariant.1 a m
+          (steps_more l.left.now l.from (plain l.sheet) (plain n.new.self) n.ensures.wrote n.result n.ensures.value r.rest.now q r.ensures.step_read
+          _ a m d r.ensures.shorter h),
+    )

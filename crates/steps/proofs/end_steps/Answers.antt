@@ -44,8 +44,9 @@ loop-axis-preserved c =
     let q = plain c.brackets.new.sheet in
     let r = c.in_ok-rest in
     let d = begins r.rest.now 47 c.in-47.len_at_least (search rules) in
-    let w = ap length d in
-    (omega (arith, w, r.ensures.no_longer, m.ensures.shorter, l.invariant.0),
-        λ a t h. l.invariant.1 a t
-        (end_more l.left.now l.from (plain l.sheet) m.axis m.test m.tested m.ensures.value m.ensures.shorter n.result (plain n.new.sheet) (plain p.new.self)
-        p.ensures q r.rest.now r.ensures.brackets_read (goes_on 0 m.tested.now) refl n.ensures.value n.ensures.wrote _ a t d r.ensures.no_longer h))
+    let w = ap length d in (
+      omega (arith, w, r.ensures.no_longer, m.ensures.shorter, l.invariant.0),
+      λ a t h. l.invariant.1 a t
+          (end_more l.left.now l.from (plain l.sheet) m.axis m.test m.tested m.ensures.value m.ensures.shorter n.result (plain n.new.sheet) (plain p.new.self)
+          p.ensures q r.rest.now r.ensures.brackets_read (goes_on 0 m.tested.now) refl n.ensures.value n.ensures.wrote _ a t d r.ensures.no_longer h),
+    )

@@ -9,9 +9,10 @@ loop-b-preserved-then-depth-ne0 c =
     let s = c.args.s.now in
     let l = c.loop-b in
     let n = c.if-b-gt93.true in
-    let i = c.loop-b-test.true in
-    (omega (arith, l.invariant.0),
-        goes_on_inside s l.b-index (omega (arith, i)) l.depth c.if-depth-ne0.true (λ h. omega (arith, n, h)) (λ h. omega (arith, n, h)) ∙ l.invariant.1)
+    let i = c.loop-b-test.true in (
+      omega (arith, l.invariant.0),
+      goes_on_inside s l.b-index (omega (arith, i)) l.depth c.if-depth-ne0.true (λ h. omega (arith, n, h)) (λ h. omega (arith, n, h)) ∙ l.invariant.1,
+    )
 
 pub returns-then-depth-eq0 : goal.returns-then-depth-eq0
 returns-then-depth-eq0 c =
@@ -26,14 +27,20 @@ loop-b-preserved c =
     let j = c.loop-b-test.true in
     let i : l.b-index < length s = omega (arith, j) in
     elim c.if-b-eq91.branch [
-      then-b-eq91 w ↦ (omega (arith, l.invariant.0, w.depth-is),
-          ap (λ (k : ℕ). goes_on k (drop (l.b-index + 1) s)) w.depth-is ∙ goes_on_open s l.b-index i l.depth w.if-b-eq91.true ∙ l.invariant.1)
-    | else-b-eq91+else-depth-eq0+then-b-eq93 w ↦ (omega (arith, l.invariant.0, w.depth-is),
-          ap (λ (k : ℕ). goes_on k (drop (l.b-index + 1) s)) w.depth-is
-          ∙ goes_on_close s l.b-index i l.depth w.if-depth-eq0.false w.if-b-eq93.true ∙ l.invariant.1)
-    | else-b-eq91+else-depth-eq0+else-b-eq93 w ↦ (omega (arith, l.invariant.0, w.depth-is),
-          ap (λ (k : ℕ). goes_on k (drop (l.b-index + 1) s)) w.depth-is
-          ∙ goes_on_inside s l.b-index i l.depth w.if-depth-eq0.false w.if-b-eq91.false w.if-b-eq93.false ∙ l.invariant.1)
+      | then-b-eq91 w ↦ (
+        omega (arith, l.invariant.0, w.depth-is),
+        ap (λ (k : ℕ). goes_on k (drop (l.b-index + 1) s)) w.depth-is ∙ goes_on_open s l.b-index i l.depth w.if-b-eq91.true ∙ l.invariant.1,
+      )
+      | else-b-eq91+else-depth-eq0+then-b-eq93 w ↦ (
+        omega (arith, l.invariant.0, w.depth-is),
+        ap (λ (k : ℕ). goes_on k (drop (l.b-index + 1) s)) w.depth-is
+            ∙ goes_on_close s l.b-index i l.depth w.if-depth-eq0.false w.if-b-eq93.true ∙ l.invariant.1,
+      )
+      | else-b-eq91+else-depth-eq0+else-b-eq93 w ↦ (
+        omega (arith, l.invariant.0, w.depth-is),
+        ap (λ (k : ℕ). goes_on k (drop (l.b-index + 1) s)) w.depth-is
+            ∙ goes_on_inside s l.b-index i l.depth w.if-depth-eq0.false w.if-b-eq91.false w.if-b-eq93.false ∙ l.invariant.1,
+      )
     ]
 
 pub returns : goal.returns

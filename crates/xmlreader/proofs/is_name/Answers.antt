@@ -8,6 +8,6 @@ pub returns-then-byte-eq95 : goal.returns-then-byte-eq95
 unfolding is_name ◌or◌
 returns-then-byte-eq95 c = rw (eq-eqb _ _ c.if-byte-eq95.true)
 
-pub returns : goal.returns
+pub returns-else-byte-eq95 : goal.returns-else-byte-eq95
 unfolding is_name ◌or◌
-returns c = rw (ne_eqb _ _ c.if-byte-eq95.false) c.is_letter.ensures
+returns-else-byte-eq95 c = rw (ne_eqb _ _ c.if-byte-eq95.false) c.is_letter.ensures

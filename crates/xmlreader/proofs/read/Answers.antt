@@ -5,6 +5,12 @@ use Rattle.xmlreader.proofs.Opens.{not_asked}
 use Rattle.xmlreader.proofs.Answers.{short, none_starts, missed_all, bytes_left, room, written}
 use Rattle.xmlreader.proofs.read.Goals as goal
 
+pub returns : goal.returns
+returns c =
+    let f = rw c.in_ok-left.ensures.ok_part at c.in_ok-element.ensures in
+    let r = written c.args.text.now c.args.nodes.now c.if-nodes-lt256.false c.new-gathered.ensures f.1 c.if-not-is_empty.ensures c.put.ensures in
+    record { answer_of = r.0; wrote = r.1 }
+
 pub returns-then-nodes-lt256 : goal.returns-then-nodes-lt256
 returns-then-nodes-lt256 c =
     let r = short c.args.text.now c.args.nodes.now c.if-nodes-lt256.true in
@@ -35,9 +41,3 @@ pub put-requires : goal.put-requires
 put-requires c =
     let f = rw c.in_ok-left.ensures.ok_part at c.in_ok-element.ensures in
     room c.args.text.now c.args.nodes.now c.if-nodes-lt256.false c.new-gathered.ensures f.1
-
-pub returns : goal.returns
-returns c =
-    let f = rw c.in_ok-left.ensures.ok_part at c.in_ok-element.ensures in
-    let r = written c.args.text.now c.args.nodes.now c.if-nodes-lt256.false c.new-gathered.ensures f.1 c.if-not-is_empty.ensures c.put.ensures in
-    record { answer_of = r.0; wrote = r.1 }

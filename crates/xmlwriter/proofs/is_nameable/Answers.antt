@@ -1,4 +1,4 @@
--- `xmlwriter::is_nameable` meets its contract: 0, or what `is_letter` says.
+-- 0, or what `is_letter` says.
 use borrow.Author.Tests.{eq-eqb, ne_eqb}
 use Rattle.meaning.specs.Finite.{◌or◌}
 use Rattle.meaning.specs.Xml.{is_nameable}
@@ -8,6 +8,6 @@ pub returns-then-label-eq0 : goal.returns-then-label-eq0
 unfolding is_nameable ◌or◌
 returns-then-label-eq0 c = rw (eq-eqb _ _ c.if-label-eq0.true)
 
-pub returns : goal.returns
+pub returns-else-label-eq0 : goal.returns-else-label-eq0
 unfolding is_nameable ◌or◌
-returns c = rw (ne_eqb _ _ c.if-label-eq0.false) c.is_letter.ensures
+returns-else-label-eq0 c = rw (ne_eqb _ _ c.if-label-eq0.false) c.is_letter.ensures

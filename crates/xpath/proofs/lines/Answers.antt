@@ -1,84 +1,70 @@
-use mathlib.Core.Path.{sym, ◌∙◌}
-use mathlib.Core.Bool.{true, false}
-use native.Mathlib.Omega.{arith}
-use lib.Dec.{lit<}
-use lib.ListN.{length}
-use Rattle.axes.proofs.Moves.{byte_inside}
-use Rattle.steps.proofs.Returns.{above}
-use Rattle.xpath.proofs.LineReturns.{other, lines_end, lines_over, lines_bad, lines_open, lines_more}
+use Rattle.std.proofs.Common.{rules, ◌≡◌, sym, ap, ◌∙◌, Some, Ok, Err, ℕ, ◌+◌, ◌-◌, length, arith, lit<}
+use Rattle.std.proofs.lemmas.Bool.{false≢true}
+use Rattle.meaning.proofs.Tests.{is_eq, eq_yes}
+use Rattle.questions.specs.declared.Question.TheVariants.{PathsForm}
+use Rattle.sheet.specs.Bytes.{plain}
+use Rattle.steps.proofs.Returns.{begins, past}
+use Rattle.xpath.proofs.LineReturns.{lines_end, lines_over, lines_none, lines_open, lines_more}
 use Rattle.xpath.proofs.lines.Goals as goal
 
-pub loop-i-init : goal.loop-i-init
-loop-i-init c =
-    (c.requires, λ r c h. h)
+pub returns-then-is_empty : goal.returns-then-is_empty
+returns-then-is_empty c =
+    let l = c.loop in
+    let b = plain l.sheet in
+    l.invariant.1 (Ok tt) b (lines_end l.left.now b (c.args.n - l.counter) (is_eq (sym c.if-is_empty.ensures)))
 
-pub returns-then-left-eq0 : goal.returns-then-left-eq0
-returns-then-left-eq0 c =
-    let s = c.args.s.now in
-    let l = c.loop-i in
-    let e = other l.i (length s) l.invariant.0 c.loop-i-test.true in
-    l.invariant.1 false l.sheet (lines_over s l.i l.sheet e l.left l.sheet c.if-left-eq0.true)
+pub returns-in_default : goal.returns-in_default
+returns-in_default c =
+    let l = c.loop in
+    let n = plain c.line.new.sheet in
+    let j = c.loop-test.true in
+    l.invariant.1 (Err PathsForm) n
+    (lines_none l.left.now (plain l.sheet) (λ h. false≢true (c.if-is_empty.ensures ∙ eq_yes h)) n c.in_default.ensures.line_read (c.args.n - l.counter) (omega (arith, j)))
 
-pub line-end-requires : goal.line-end-requires
-line-end-requires c =
-    let l = c.loop-i in
-    l.invariant.0
+pub returns-in_default-rest : goal.returns-in_default-rest
+returns-in_default-rest c =
+    let l = c.loop in
+    let n = plain c.line.new.sheet in
+    let j = c.loop-test.true in
+    let q = c.in-Some in
+    let k = c.in_default-rest.len_below in
+    l.invariant.1 (Err PathsForm) n
+    (lines_open l.left.now (plain l.sheet) (λ h. false≢true (c.if-is_empty.ensures ∙ eq_yes h)) q.rest.now n q.ensures.line_read
+    (past q.rest.now 10 (lit< tt) (λ h d. omega (arith, h, k))) (c.args.n - l.counter) (omega (arith, j)))
 
-pub returns-then-end-eq0 : goal.returns-then-end-eq0
-returns-then-end-eq0 c =
-    let s = c.args.s.now in
-    let l = c.loop-i in
-    let e = other l.i (length s) l.invariant.0 c.loop-i-test.true in
-    let t = c.line-end in
-    let n = c.if-left-eq0.false in
-    l.invariant.1 false t.new.sheet (lines_bad s l.i l.sheet e t.result t.new.sheet t.ensures.line_read l.left n c.if-end-eq0.true)
+pub returns-in_default-rest-2 : goal.returns-in_default-rest-2
+returns-in_default-rest-2 c =
+    let l = c.loop in
+    let n = plain c.line.new.sheet in
+    let j = c.loop-test.true in
+    let q = c.in-Some in
+    l.invariant.1 (Err PathsForm) n
+    (lines_open l.left.now (plain l.sheet) (λ h. false≢true (c.if-is_empty.ensures ∙ eq_yes h)) q.rest.now n q.ensures.line_read
+    (past q.rest.now 10 (lit< tt) (λ h d. search rules)) (c.args.n - l.counter) (omega (arith, j)))
 
-pub returns-then-byte_at-ne10 : goal.returns-then-byte_at-ne10
-returns-then-byte_at-ne10 c =
-    let s = c.args.s.now in
-    let l = c.loop-i in
-    let e = other l.i (length s) l.invariant.0 c.loop-i-test.true in
-    let t = c.line-end in
-    let n = c.if-left-eq0.false in
-    l.invariant.1 false t.new.sheet (lines_open s l.i l.sheet e t.result t.new.sheet t.ensures.line_read c.if-end-eq0.false l.left n (λ h. c.if-byte_at-ne10.true (c.byte_at.ensures ∙ h)))
+pub loop-preserved : goal.loop-preserved
+loop-preserved c =
+    let l = c.loop in
+    let n = plain c.line.new.sheet in
+    let j = c.loop-test.true in
+    let q = c.in-Some in
+    let d = begins q.rest.now 10 c.in-10.len_at_least (search rules) in (
+      omega (arith, j),
+      λ r t h. l.invariant.1 r t
+          (lines_more l.left.now (plain l.sheet) (λ h. false≢true (c.if-is_empty.ensures ∙ eq_yes h)) q.rest.now n q.ensures.line_read
+          (c.args.n - l.counter) (c.args.n - (l.counter + 1)) (omega (arith, j)) _ r t d h),
+    )
 
-pub overflow_add-i : goal.overflow_add-i
-overflow_add-i c =
-    let s = c.args.s.now in
-    let t = c.line-end in
-    let u = sym c.byte_at.ensures ∙ c.if-byte_at-ne10.false in
-    let i = byte_inside s t.result 10 (sym u) (lit< tt) in
-    omega (arith, i)
+pub returns-then-is_empty-2 : goal.returns-then-is_empty-2
+returns-then-is_empty-2 c =
+    let l = c.loop in
+    let b = plain l.sheet in
+    l.invariant.1 (Ok tt) b (lines_end l.left.now b (c.args.n - l.counter) (is_eq (sym c.if-is_empty-2.ensures)))
 
-pub overflow_sub-left : goal.overflow_sub-left
-overflow_sub-left c =
-    let n = c.if-left-eq0.false in
-    omega (arith, above n)
-
-pub loop-i-smaller : goal.loop-i-smaller
-loop-i-smaller c =
-    let s = c.args.s.now in
-    let t = c.line-end in
-    let g = c.if-end-eq0.false in
-    let u = sym c.byte_at.ensures ∙ c.if-byte_at-ne10.false in
-    let i = byte_inside s t.result 10 (sym u) (lit< tt) in
-    let f = t.ensures.ahead (above g) in
-    omega (arith, i, f.0)
-
-pub loop-i-preserved : goal.loop-i-preserved
-loop-i-preserved c =
-    let s = c.args.s.now in
-    let l = c.loop-i in
-    let e = other l.i (length s) l.invariant.0 c.loop-i-test.true in
-    let t = c.line-end in
-    let n = c.if-left-eq0.false in
-    let g = c.if-end-eq0.false in
-    let u = sym c.byte_at.ensures ∙ c.if-byte_at-ne10.false in
-    let i = byte_inside s t.result 10 (sym u) (lit< tt) in
-    (omega (arith, i), λ r q h. l.invariant.1 r q (lines_more s l.i l.sheet e t.result t.new.sheet t.ensures.line_read g l.left r q n u h))
-
-pub returns : goal.returns
-returns c =
-    let s = c.args.s.now in
-    let l = c.loop-i in
-    l.invariant.1 true l.sheet (lines_end s l.i l.sheet l.left c.loop-i-test.false)
+pub returns-else-is_empty-2 : goal.returns-else-is_empty-2
+returns-else-is_empty-2 c =
+    let l = c.loop in
+    let b = plain l.sheet in
+    let j = c.loop-test.false in
+    l.invariant.1 (Err PathsForm) b
+    (lines_over l.left.now b (λ h. false≢true (c.if-is_empty-2.ensures ∙ eq_yes h)) (c.args.n - l.counter) (omega (arith, j)))

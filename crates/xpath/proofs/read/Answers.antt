@@ -1,5 +1,10 @@
-use native.Mathlib.Omega.{arith}
-use Rattle.xpath.proofs.Answering.{short_answer, long_answer, empty_answer, bad_answer, many_answer, room, written_answer}
+use Rattle.std.proofs.Common.{◌≡◌, sym, ap, ◌∙◌, length, arith}
+use Rattle.std.proofs.lemmas.Result.{err_from_is_err_and}
+use Rattle.std.proofs.lemmas.Bool.{false≢true}
+use Rattle.meaning.proofs.Tests.{is_eq, eq_yes}
+use Rattle.sheet.specs.Bytes.{plain}
+use Rattle.xpath.proofs.Answering.{short_answer, long_answer, empty_answer, bad_answer, many_answer, written_answer}
+use Rattle.xpath.proofs.read.Goals.{then-is_empty-via-then-is_empty, then-is_empty-via-else-is_empty+then-text-gt-TEXT}
 use Rattle.xpath.proofs.read.Goals as goal
 
 pub returns-then-records-lt-BUFFER : goal.returns-then-records-lt-BUFFER
@@ -8,72 +13,45 @@ returns-then-records-lt-BUFFER c =
     let h = short_answer a.text.now a.records.now (omega (arith, c.if-records-lt-BUFFER.true)) in
     record { answer_of = h.0; wrote = h.1 }
 
-pub returns-then-text-gt1024 : goal.returns-then-text-gt1024
-returns-then-text-gt1024 c =
+pub returns-then-is_empty : goal.returns-then-is_empty
+returns-then-is_empty c =
     let a = c.args in
-    let s = a.text.now in
-    let b = a.records.now in
-    let h = long_answer s b c.if-records-lt-BUFFER.false c.if-text-gt1024.true in
+    let l = c.if-records-lt-BUFFER.false in
+    elim c.then-is_empty.branch [
+      | then-is_empty-via-then-is_empty w ↦
+          let h = empty_answer a.text.now a.records.now l (is_eq (sym c.is_empty.ensures ∙ w.if-is_empty.true)) in
+          record { answer_of = h.0; wrote = h.1 }
+      | then-is_empty-via-else-is_empty+then-text-gt-TEXT w ↦
+          let h = long_answer a.text.now a.records.now l w.if-text-gt-TEXT.true in
+          record { answer_of = h.0; wrote = h.1 }
+    ]
+
+pub returns-in_err-lines : goal.returns-in_err-lines
+returns-in_err-lines c =
+    let a = c.args in
+    let l = c.if-records-lt-BUFFER.false in
+    let some = λ (h : length a.text.now ≡ 0). false≢true (c.if-is_empty.ensures ∙ eq_yes h) in
+    let e = c.in_err-lines in
+    let h = bad_answer a.text.now a.records.now l c.if-text-gt-TEXT.false some (plain c.new-sheet.result) c.new-sheet.ensures (plain c.lines.new.sheet) e.field-0.0 e.ensures in
+    let p = err_from_is_err_and c.from_residual.result c.from_residual.ensures.1 in
+    record { answer_of = rw (p.1, p.2) h.0; wrote = h.1 }
+
+pub returns-then-variables-gt-VARIABLES : goal.returns-then-variables-gt-VARIABLES
+returns-then-variables-gt-VARIABLES c =
+    let a = c.args in
+    let l = c.if-records-lt-BUFFER.false in
+    let some = λ (h : length a.text.now ≡ 0). false≢true (c.if-is_empty.ensures ∙ eq_yes h) in
+    let m = c.if-variables-gt-VARIABLES.true in
+    let n = c.variables.ensures in
+    let h = many_answer a.text.now a.records.now l c.if-text-gt-TEXT.false some (plain c.new-sheet.result) c.new-sheet.ensures (plain c.lines.new.sheet) c.in_ok-lines.ensures (omega (arith, m, n)) in
     record { answer_of = h.0; wrote = h.1 }
-
-pub returns-then-text-eq0 : goal.returns-then-text-eq0
-returns-then-text-eq0 c =
-    let a = c.args in
-    let s = a.text.now in
-    let b = a.records.now in
-    let h = empty_answer s b c.if-records-lt-BUFFER.false c.if-text-eq0.true in
-    record { answer_of = h.0; wrote = h.1 }
-
-pub returns-then-not-lines : goal.returns-then-not-lines
-returns-then-not-lines c =
-    let a = c.args in
-    let s = a.text.now in
-    let b = a.records.now in
-    let t = c.lines in
-    let few = c.if-text-gt1024.false in
-    let some = c.if-text-eq0.false in
-    let h = bad_answer s b c.if-records-lt-BUFFER.false few some t.result t.new.sheet t.ensures c.if-not-lines.true in
-    record { answer_of = h.0; wrote = h.1 }
-
-pub returns-then-sheet-gt-VARIABLES : goal.returns-then-sheet-gt-VARIABLES
-returns-then-sheet-gt-VARIABLES c =
-    let a = c.args in
-    let s = a.text.now in
-    let b = a.records.now in
-    let t = c.lines in
-    let few = c.if-text-gt1024.false in
-    let some = c.if-text-eq0.false in
-    let h = many_answer s b c.if-records-lt-BUFFER.false few some t.result t.new.sheet t.ensures c.if-not-lines.false (omega (arith, c.if-sheet-gt-VARIABLES.true)) in
-    record { answer_of = h.0; wrote = h.1 }
-
-pub overflow_cast-bytes : goal.overflow_cast-bytes
-overflow_cast-bytes c =
-    let a = c.args in
-    let s = a.text.now in
-    let b = a.records.now in
-    let t = c.lines in
-    let few = c.if-text-gt1024.false in
-    let some = c.if-text-eq0.false in
-    omega (arith, (room s b c.if-records-lt-BUFFER.false few some t.result t.new.sheet t.ensures c.if-not-lines.false c.if-sheet-gt-VARIABLES.false).0)
-
-pub copy-requires : goal.copy-requires
-copy-requires c =
-    let a = c.args in
-    let s = a.text.now in
-    let b = a.records.now in
-    let t = c.lines in
-    let few = c.if-text-gt1024.false in
-    let some = c.if-text-eq0.false in
-    let m = room s b c.if-records-lt-BUFFER.false few some t.result t.new.sheet t.ensures c.if-not-lines.false c.if-sheet-gt-VARIABLES.false in
-    (omega (arith, m.0), omega (arith, m.0, m.1), omega (arith, m.0, c.if-records-lt-BUFFER.false))
 
 pub returns : goal.returns
 returns c =
     let a = c.args in
-    let s = a.text.now in
-    let b = a.records.now in
-    let t = c.lines in
-    let few = c.if-text-gt1024.false in
-    let some = c.if-text-eq0.false in
-    let h = written_answer s b c.if-records-lt-BUFFER.false few some t.result t.new.sheet t.ensures c.if-not-lines.false c.if-sheet-gt-VARIABLES.false c.copy.new.records c.copy.ensures in
+    let l = c.if-records-lt-BUFFER.false in
+    let some = λ (h : length a.text.now ≡ 0). false≢true (c.if-is_empty.ensures ∙ eq_yes h) in
+    let m = c.if-variables-gt-VARIABLES.false in
+    let n = c.variables.ensures in
+    let h = written_answer a.text.now a.records.now l c.if-text-gt-TEXT.false some (plain c.new-sheet.result) c.new-sheet.ensures (plain c.lines.new.sheet) c.in_ok-lines.ensures (omega (arith, m, n)) c.bytes.ensures c.put.ensures in
     record { answer_of = h.0; wrote = h.1 }

@@ -1,4 +1,4 @@
--- `ordering::Ancestry::lows` meets its contract: at x the row holds the lowest variables below x, of roots too, which are left out at the end.
+-- `ordering::Ancestry::lows` meets its contract: at x the row holds the lowest variables below x, of roots too.
 use Rattle.ordering.specs.Rows.{Gathered, is_low}
 use Rattle.ordering.proofs.Ancestry.lows.Given as goal
 

@@ -1,4 +1,4 @@
--- `ordering::Order::nearest` meets its contract: each group that is asked is a variable, and the first that passes is the one meant.
+-- `ordering::Order::nearest` meets its contract: each that is asked is a variable, and the first that passes is meant.
 use Rattle.std.proofs.lemmas.Iterator.{YieldsList-from_slice, IsFirst-from_position, index_from_first}
 use Rattle.std.proofs.lemmas.Iterator.Adapters.{serves_from_places}
 use Rattle.std.specs.Option.{unwrap_or}
@@ -24,8 +24,11 @@ pub returns : goal.returns
 returns c =
     let o = c.args.self.now in
     let p = near c.args.ancestry.now.below c.args.ancestry.now.above c.args.over in
-    let first = IsFirst-from_position _ _ c.position.result (λ (v : Var). p v.0 ≡ true) (λ (v : Var). p v.0 ≡ false) c.position.ensures.ran
+    let yes = λ (v : Var). p v.0 ≡ true in
+    let no = λ (v : Var). p v.0 ≡ false in
+    let first = IsFirst-from_position _ _ c.position.result yes no c.position.ensures.ran
     (YieldsList-from_slice (taken o) cc) (λ x q k. search (rules, tests)) (λ x q k. search (rules, tests)) in
-    let found = index_from_first (λ (vs : List Var). position p (map (λ (v : Var). v.0) vs)) (λ (v : Var). p v.0 ≡ true) (λ (v : Var). p v.0 ≡ false) (first_none p)
+    let found = index_from_first (λ (vs : List Var). position p (map (λ (v : Var). v.0) vs)) yes no (first_none p)
     (λ x xs e. first_here p _ _ e) (λ x xs e. first_next p _ _ e) (taken o) c.position.result first in
-    c.unwrap_or.ensures ∙ ap (unwrap_or c.position.result) (sym (taken_count o)) ∙ sym found ∙ ap (position p) (sym (groups_taken o))
+    c.unwrap_or.ensures ∙ ap (unwrap_or c.position.result) (sym (taken_count o)) ∙ sym found
+    ∙ ap (position p) (sym (groups_taken o))

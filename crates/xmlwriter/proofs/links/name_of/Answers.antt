@@ -1,8 +1,8 @@
--- `xmlwriter::name_of` meets its contract: by whether the label is 0.
+-- By whether the label is 0.
 use borrow.Author.Tests.{eq-eqb, ne_eqb}
 use Rattle.meaning.specs.Finite.{pick}
 use Rattle.meaning.specs.Xml.{name_of}
-use Rattle.xmlwriter.proofs.name_of.Goals as goal
+use Rattle.xmlwriter.proofs.links.name_of.Goals as goal
 
 pub returns-then-label-eq0 : goal.returns-then-label-eq0
 unfolding name_of pick
