@@ -10,7 +10,9 @@ use Rattle.meaning.specs.Centres.{drawn_number, list_after, NoQuestion, DrawProm
 use Rattle.meaning.specs.Centres as meant
 use Rattle.theory.specs.Centres.{drawing}
 use Rattle.theory.proofs.Centres.{drawing_keeps, shared_machine}
-use Rattle.centres.specs.declared.Drawn.{Drawn}
+use Rattle.std.specs.Prelude.{Result}
+use Rattle.questions.specs.declared.Question.{Question}
+use Rattle.questions.specs.Number.{numbered}
 use Rattle.centres.specs.Answers.{answer_of}
 use Rattle.capi.specs.Draws.{DrawsFrom, drawn_as}
 
@@ -20,9 +22,9 @@ number_is draw_granted = refl
 number_is (draw_refused q) = refl
 
 -- what `draw` says and its number are what C is told
-pub draws_from : (total : ℕ) (cs : List Centre) (i amount : ℕ) {d : Drawn} {after : List Centre} {k : ℕ}
-    → (d ≡ answer_of (drawing total cs i amount)) × (after ≡ list_after (drawing total cs i amount) cs i amount) → k ≡ drawn_as d
-    → DrawsFrom total cs i amount k after
+pub draws_from : (total : ℕ) (cs : List Centre) (i amount : ℕ) {d : Result (Unit {0}) Question} {after : List Centre} {k : ℕ}
+    → (numbered d ≡ answer_of (drawing total cs i amount)) × (after ≡ list_after (drawing total cs i amount) cs i amount)
+    → k ≡ drawn_as (numbered d) → DrawsFrom total cs i amount k after
 draws_from total cs i amount said e = record {
   number = e ∙ (ap drawn_as said.0 ∙ number_is (drawing total cs i amount));
   list = said.1;

@@ -1,13 +1,13 @@
 -- The number of what path reader, writer and reader of XML answer; it fits, since at most 180, 438 and 256 bytes are written.
 use mathlib.Core.Path.{◌≡◌, refl, sym, ap, ◌∙◌, subst}
 use mathlib.Core.List.{List}
-use Prim.Native.Nat.{ℕ, ◌≤◌}
+use Prim.Native.Nat.{ℕ, ◌<◌, ◌≤◌}
 use native.Mathlib.Omega.{arith}
 use lib.ListN.{length}
 use lib.Dec.{leb}
 use Rattle.meaning.specs.Paths.{Path}
 use Rattle.meaning.specs.PathRecords.{variables_of}
-use Rattle.meaning.specs.Results.{Fill, fill_refused, fill_written, fill_wrote, fill_number}
+use Rattle.meaning.specs.Results.{Fill, fill_refused, fill_written, fill_wrote, fill_number, told}
 use Rattle.meaning.specs.Promises.{PathsPromise}
 use Rattle.meaning.specs.Xml.{WriterPromise, ReaderPromise}
 use Rattle.meaning.proofs.Tests.{pick_has, is_le}
@@ -17,8 +17,11 @@ use Rattle.theory.specs.Xml.{write_xml, read_xml}
 use Rattle.theory.proofs.PathPromise as paths
 use Rattle.theory.proofs.XmlPromise as xml
 use Rattle.theory.proofs.XmlBack.{write_few, read_few}
-use Rattle.lent.specs.declared.Answer.{Answer}
+use Rattle.std.specs.Prelude.{Result, Ok, Err}
+use Rattle.questions.specs.declared.Question.{Question}
+use Rattle.questions.specs.Number.{number, numbered}
 use Rattle.lent.specs.Filling.{AnswerOf}
+use Rattle.lent.proofs.Answered.{answer_written, answer_refused}
 use Rattle.capi.specs.Numbers.{FewBytes, answer_number}
 use Rattle.capi.specs.Translates.{Translates}
 use Rattle.capi.specs.Xml.{WritesXml, ReadsXml}
@@ -34,14 +37,17 @@ few_written : (a : Fill) → ((bs : List ℕ) → a ≡ fill_written bs → leng
 few_written (fill_refused q) f = tt
 few_written (fill_written bs) f = f bs refl
 
-few_bytes : (a : Fill) (r : Answer) → Few a → AnswerOf a r → FewBytes r
-few_bytes (fill_refused q) r f h = subst FewBytes (sym h) tt
-few_bytes (fill_written bs) r f h = subst FewBytes (sym h) (omega (arith, f))
+few_read : (a : Fill) (n : ℕ) → Few a → (bs : List ℕ) × (a ≡ fill_written bs) × (n ≡ length bs) → n < 65536
+few_read a n f w = let l = subst Few w.2.0 f in let e = w.2.1 in omega arith
 
-number_is : (a : Fill) (r : Answer) → AnswerOf a r → answer_number r ≡ fill_number a
+few_bytes : (a : Fill) (r : Result ℕ Question) → Few a → AnswerOf a r → FewBytes r
+few_bytes a (Err q) f h = tt
+few_bytes a (Ok n) f h = few_read a n f (answer_written a (Ok n) n h refl)
+
+number_is : (a : Fill) (r : Result ℕ Question) → AnswerOf a r → answer_number r ≡ fill_number a
 unfolding answer_number fill_number
-number_is (fill_refused q) r h = ap answer_number h
-number_is (fill_written bs) r h = ap answer_number h
+number_is a (Err q) h = sym (ap fill_number (answer_refused a (Err q) q h refl))
+number_is a (Ok n) h = let w = answer_written a (Ok n) n h refl in ap (λ k. told 0 k 0) w.2.1 ∙ sym (ap fill_number w.2.0)
 
 -- ---- the path reader
 
@@ -55,7 +61,7 @@ read_paths_few : (s buffer : List ℕ) → Few (read_paths s buffer)
 unfolding read_paths
 read_paths_few s buffer = pick_has Few (leb 1024 (length buffer)) _ _ (λ y. paths_few s (text_paths s) refl) tt
 
-module _ (s buffer : List ℕ) (r : Answer) (h : AnswerOf (read_paths s buffer) r) where
+module _ (s buffer : List ℕ) (r : Result ℕ Question) (h : AnswerOf (read_paths s buffer) r) where
   pub paths_bytes : FewBytes r
   paths_bytes = few_bytes (read_paths s buffer) r (read_paths_few s buffer) h
 
@@ -68,7 +74,7 @@ module _ (s buffer : List ℕ) (r : Answer) (h : AnswerOf (read_paths s buffer) 
 
 -- ---- trees as XML
 
-module _ (nodes buffer : List ℕ) (r : Answer) (h : AnswerOf (write_xml nodes buffer) r) where
+module _ (nodes buffer : List ℕ) (r : Result ℕ Question) (h : AnswerOf (write_xml nodes buffer) r) where
   pub writer_bytes : FewBytes r
   writer_bytes = few_bytes (write_xml nodes buffer) r (few_written (write_xml nodes buffer) (write_few nodes buffer)) h
 
@@ -79,7 +85,7 @@ module _ (nodes buffer : List ℕ) (r : Answer) (h : AnswerOf (write_xml nodes b
     promise = subst (WriterPromise nodes buffer (write_xml nodes buffer)) (sym w) (xml.write_keeps nodes buffer);
   }
 
-module _ (text buffer : List ℕ) (r : Answer) (h : AnswerOf (read_xml text buffer) r) where
+module _ (text buffer : List ℕ) (r : Result ℕ Question) (h : AnswerOf (read_xml text buffer) r) where
   pub reader_bytes : FewBytes r
   reader_bytes = few_bytes (read_xml text buffer) r (few_written (read_xml text buffer) (λ bs d. let l = read_few text buffer bs d in omega arith)) h
 

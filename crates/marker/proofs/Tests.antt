@@ -8,12 +8,14 @@ unfolding neg
 not_neg true = refl
 not_neg false = refl
 
-pub and_neg_true : (a b : Bool) → b ≡ true → false ≡ a and neg b
+pub and_not_true : (a b : Bool) → not b ≡ true → a ≡ a and neg b
 unfolding neg ◌and◌
-and_neg_true true b e = rw e
-and_neg_true false b e = refl
+and_not_true true false e = refl
+and_not_true false false e = refl
+and_not_true a true e = cc
 
-pub and_neg_false : (a b : Bool) → b ≡ false → a ≡ a and neg b
+pub and_not_false : (a b : Bool) → not b ≡ false → false ≡ a and neg b
 unfolding neg ◌and◌
-and_neg_false true b e = rw e
-and_neg_false false b e = refl
+and_not_false true true e = refl
+and_not_false false true e = refl
+and_not_false a false e = cc

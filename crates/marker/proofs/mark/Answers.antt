@@ -7,13 +7,17 @@ use Rattle.theory.proofs.ConstraintFile.{bytes}
 use Rattle.marker.specs.Verdict.{marked_of}
 use Rattle.marker.proofs.mark.Goals as goal
 
-pub mark_answer-requires : goal.mark_answer-requires
-mark_answer-requires c = sym c.judge-judged.ensures ∙ c.in-Accepted.is
-
-pub returns-in-Refused : goal.returns-in-Refused
+pub returns-in-Err : goal.returns-in-Err
 unfolding marked_of
-returns-in-Refused c = let e = sym (file_refused c.args.constraints.now c.args.answer.now (sym c.judge-judged.ensures ∙ c.in-Refused.is)) in
-    record { is = e; promise = rw e (marker_promise _ _ (bytes _ (λ i. omega (arith, c.shared_slice_known-2-1.given i)))) }
+returns-in-Err c =
+    let e = sym (file_refused c.args.constraints.now c.args.answer.now (sym c.in-Err.ensures)) in
+    record { is = e; promise = rw e (marker_promise _ _ (bytes _ (λ i. omega (arith, c.type_inv.answer i)))) }
 
-pub returns-in-Accepted : goal.returns-in-Accepted
-returns-in-Accepted c = record { is = c.mark_answer.ensures; promise = rw c.mark_answer.ensures (marker_promise _ _ (bytes _ (λ i. omega (arith, c.shared_slice_known-2-1.given i)))) }
+pub mark_answer-requires : goal.mark_answer-requires
+mark_answer-requires c = sym c.in-Ok.ensures
+
+pub returns-in-Ok : goal.returns-in-Ok
+returns-in-Ok c = record {
+  is = c.mark_answer.ensures;
+  promise = rw c.mark_answer.ensures (marker_promise _ _ (bytes _ (λ i. omega (arith, c.type_inv.answer i))));
+}

@@ -1,36 +1,32 @@
 -- `marker::mark_answer` meets its contract: what the gate accepts is a tree with every variable on it (proofs/Answered.antt).
 use mathlib.Core.Path.{sym, ◌∙◌}
 use native.Mathlib.Omega.{arith}
-use lib.Seq.{length-take-le}
-use Rattle.marker.proofs.Answered.{rest, answer_refused, whole, both_accepted, all_ready}
+use Rattle.marker.proofs.Answered.{answer_refused, whole, both_accepted, read_is, all_placed}
 use Rattle.theory.proofs.ConstraintFile.{bytes}
 use Rattle.marker.specs.Verdict.{marked_of}
 use Rattle.marker.proofs.mark_answer.Goals as goal
 
-pub overflow_mul-end : goal.overflow_mul-end
-overflow_mul-end c = omega (arith, whole c.args.constraints.now c.args.answer.now c.args.variables c.requires _ (sym c.judge-judged.ensures ∙ c.in-Accepted.is))
+pub returns-in-Err : goal.returns-in-Err
+unfolding marked_of
+returns-in-Err c = sym (answer_refused _ _ c.args.variables c.requires (sym c.in-Err.ensures))
 
-pub slice_bounds-first_unmet-end : goal.slice_bounds-first_unmet-end
-slice_bounds-first_unmet-end c = sym (length-take-le _ _ (whole c.args.constraints.now c.args.answer.now c.args.variables c.requires _ (sym c.judge-judged.ensures ∙ c.in-Accepted.is)))
+pub overflow_mul-nodes : goal.overflow_mul-nodes
+overflow_mul-nodes c = omega (arith, whole _ c.args.answer.now c.args.variables c.requires c.in-Ok.nodes (sym c.in-Ok.ensures))
 
-pub slice_bounds-first_unmet-start : goal.slice_bounds-first_unmet-start
-slice_bounds-first_unmet-start c = whole c.args.constraints.now c.args.answer.now c.args.variables c.requires _ (sym c.judge-judged.ensures ∙ c.in-Accepted.is)
+pub split_at-requires : goal.split_at-requires
+split_at-requires c = whole _ c.args.answer.now c.args.variables c.requires c.in-Ok.nodes (sym c.in-Ok.ensures)
 
-pub slice_bounds-first_unmet-count : goal.slice_bounds-first_unmet-count
-slice_bounds-first_unmet-count c = whole c.args.constraints.now c.args.answer.now c.args.variables c.requires _ (sym c.judge-judged.ensures ∙ c.in-Accepted.is)
+pub invariant_of-tree : goal.invariant_of-tree
+invariant_of-tree c =
+    let w = read_is _ _ c.args.variables c.requires _ (sym c.in-Ok.ensures) (bytes _ (λ i. omega (arith, c.type_inv.answer i))) in
+    rw c.split_at.ensures.front (record { is_tree = w.0; few = w.1 })
 
 pub first_unmet-requires : goal.first_unmet-requires
 first_unmet-requires c =
-    rw rest
-    (all_ready c.args.constraints.now c.args.answer.now c.args.variables c.requires _ (sym c.judge-judged.ensures ∙ c.in-Accepted.is)
-    (bytes _ (λ i. omega (arith, c.shared_slice_known-2-1.given i))))
+    rw (c.split_at.ensures.front, c.split_at.ensures.back)
+    (all_placed _ _ c.args.variables c.requires _ (sym c.in-Ok.ensures) (bytes _ (λ i. omega (arith, c.type_inv.answer i))))
 
-pub returns-in-Refused : goal.returns-in-Refused
-unfolding marked_of
-returns-in-Refused c =
-    sym (answer_refused c.args.constraints.now c.args.answer.now c.args.variables c.requires (sym c.judge-judged.ensures ∙ c.in-Refused.is))
-
-pub returns-in-Accepted : goal.returns-in-Accepted
-returns-in-Accepted c =
-    (rw rest at c.first_unmet.ensures)
-    ∙ sym (both_accepted c.args.constraints.now c.args.answer.now c.args.variables c.requires _ (sym c.judge-judged.ensures ∙ c.in-Accepted.is))
+pub returns-in-Ok : goal.returns-in-Ok
+returns-in-Ok c =
+    (rw (c.split_at.ensures.front, c.split_at.ensures.back) at c.first_unmet.ensures)
+    ∙ sym (both_accepted _ _ c.args.variables c.requires _ (sym c.in-Ok.ensures))

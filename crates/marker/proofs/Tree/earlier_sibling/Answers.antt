@@ -1,4 +1,4 @@
--- `marker::earlier_sibling` meets its contract: a node that is not 0 has the parent that its record names.
+-- `marker::Tree::earlier_sibling` meets its contract: a node that is not 0 has the parent that its record names.
 use mathlib.Core.Path.{◌≡◌, refl, sym, ap, ◌∙◌}
 use mathlib.Core.Bool.{Bool, true, false}
 use native.Mathlib.Nat.{pos_of_ne-zero}
@@ -8,7 +8,7 @@ use Rattle.meaning.specs.Tree.{Node, Tree}
 use Rattle.meaning.specs.Finite.{◌and◌}
 use Rattle.theory.specs.Check.{is_parent, is_earlier_sibling}
 use Rattle.answers.specs.Tree.{tree_in}
-use Rattle.marker.proofs.earlier_sibling.Goals as goal
+use Rattle.marker.proofs.Tree.earlier_sibling.Goals as goal
 
 -- what is asked last may be asked first
 and_false : (a b : Bool) → (a and b and false) ≡ false
@@ -40,5 +40,5 @@ returns-then-later-earlier c = sym (not_earlier _ _ _ c.if-later-earlier.true)
 pub returns : goal.returns
 returns c =
     c.is_parent.ensures
-    ∙ ap (λ (p : Node). is_parent (tree_in c.args.tree.now) p c.args.later.0) c.parent.ensures
+    ∙ ap (λ (p : Node). is_parent (tree_in c.args.self.now.records.now) p c.args.later.0) c.parent.ensures
     ∙ sym (one_test _ _ _ (pos_of_ne-zero c.if-earlier-eq0.false) c.requires.earlier_bound c.if-later-earlier.false)
