@@ -22,10 +22,10 @@ number_is draw_granted = refl
 number_is (draw_refused q) = refl
 
 -- what `draw` says and its number are what C is told
-pub draws_from : (total : ℕ) (cs : List Centre) (i amount : ℕ) {d : Result (Unit {0}) Question} {after : List Centre} {k : ℕ}
+pub draws_from : (total : ℕ) (cs : List Centre) (i amount : ℕ) (d : Result (Unit {0}) Question) {after : List Centre} {k : ℕ}
     → (numbered d ≡ answer_of (drawing total cs i amount)) × (after ≡ list_after (drawing total cs i amount) cs i amount)
     → k ≡ drawn_as (numbered d) → DrawsFrom total cs i amount k after
-draws_from total cs i amount said e = record {
+draws_from total cs i amount d said e = record {
   number = e ∙ (ap drawn_as said.0 ∙ number_is (drawing total cs i amount));
   list = said.1;
   promise = subst (DrawPromise total cs i amount (drawing total cs i amount)) (sym said.1) drawing_keeps;

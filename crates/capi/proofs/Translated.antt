@@ -38,7 +38,7 @@ few_written (fill_refused q) f = tt
 few_written (fill_written bs) f = f bs refl
 
 few_read : (a : Fill) (n : ℕ) → Few a → (bs : List ℕ) × (a ≡ fill_written bs) × (n ≡ length bs) → n < 65536
-few_read a n f w = let l = subst Few w.2.0 f in let e = w.2.1 in omega arith
+few_read a n f w = let l = subst Few w.1 f in let e = w.2 in omega arith
 
 few_bytes : (a : Fill) (r : Result ℕ Question) → Few a → AnswerOf a r → FewBytes r
 few_bytes a (Err q) f h = tt
@@ -47,7 +47,7 @@ few_bytes a (Ok n) f h = few_read a n f (answer_written a (Ok n) n h refl)
 number_is : (a : Fill) (r : Result ℕ Question) → AnswerOf a r → answer_number r ≡ fill_number a
 unfolding answer_number fill_number
 number_is a (Err q) h = sym (ap fill_number (answer_refused a (Err q) q h refl))
-number_is a (Ok n) h = let w = answer_written a (Ok n) n h refl in ap (λ k. told 0 k 0) w.2.1 ∙ sym (ap fill_number w.2.0)
+number_is a (Ok n) h = let w = answer_written a (Ok n) n h refl in ap (λ k. told 0 k 0) w.2 ∙ sym (ap fill_number w.1)
 
 -- ---- the path reader
 

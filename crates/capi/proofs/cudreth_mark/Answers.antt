@@ -16,29 +16,26 @@ use Rattle.capi.proofs.cudreth_mark.Goals as goal
 grades : {file answer : List ℕ} {m : Marked} {r : ℕ} → m ≡ marker file answer → MarkerPromise file answer m → r ≡ marked_number m → Grades file answer r
 grades {file} {answer} e p d = record { number = d ∙ ap marked_number e; promise = subst (MarkerPromise file answer) e p }
 
-pub overflow_mul-result : goal.overflow_mul-result
-overflow_mul-result c = omega (arith, c.kind_number-middle.ensures, kind_small c.in-Unmet.kind)
+pub overflow_cast-number : goal.overflow_cast-number
+overflow_cast-number c = omega (arith, c.number.ensures, kind_small c.in-Unmet.kind)
 
-pub overflow_add-result : goal.overflow_add-result
-overflow_add-result c = omega (arith, c.kind_number-middle.ensures, kind_small c.in-Unmet.kind)
-
-pub overflow_add-result-in-Unmet : goal.overflow_add-result-in-Unmet
+pub overflow_cast-position : goal.overflow_cast-position
 unfolding marked_of
-overflow_add-result-in-Unmet c =
+overflow_cast-position c =
     let file = c.args.constraints.now in
     let small = position_small file c.args.answer.now (bytes file (λ i. omega (arith, c.type_inv.constraints i)))
     (sym c.mark-verdict.ensures.is ∙ ap marked_of c.in-Unmet.is) in
-    omega (arith, c.kind_number-middle.ensures, kind_small c.in-Unmet.kind)
+    omega (arith, small)
 
 pub returns-in-Met : goal.returns-in-Met
-unfolding marked_number told marked_of
-returns-in-Met c = grades c.mark-verdict.ensures.is c.mark-verdict.ensures.promise (rw c.in-Met.is)
+unfolding marked_number marked_of
+returns-in-Met c = grades c.mark-verdict.ensures.is c.mark-verdict.ensures.promise (rw c.in-Met.is c.packed.ensures)
 
 pub returns-in-Unmet : goal.returns-in-Unmet
-unfolding marked_number told marked_of
+unfolding marked_number marked_of
 returns-in-Unmet c =
-    let w = c.mark-verdict.ensures in grades w.is w.promise (rw (c.in-Unmet.is, ← c.kind_number-middle.ensures) (omega arith))
+    let w = c.mark-verdict.ensures in grades w.is w.promise (rw (c.in-Unmet.is, ← c.number.ensures) c.packed-in-Unmet.ensures)
 
 pub returns-in-Refused : goal.returns-in-Refused
-unfolding marked_number told marked_of
-returns-in-Refused c = let w = c.mark-verdict.ensures in grades w.is w.promise (rw c.in-Refused.is (omega arith))
+unfolding marked_number marked_of
+returns-in-Refused c = let w = c.mark-verdict.ensures in grades w.is w.promise (rw c.in-Refused.is c.refused.ensures)

@@ -1,5 +1,5 @@
 -- Few bytes fit their place.
-use Rattle.std.proofs.Common.{◌≡◌, ℕ, ◌<◌, arith, Result, Ok, Err, sym, ap, subst, ◌∙◌}
+use Rattle.std.proofs.Common.{◌≡◌, ℕ, ◌<◌, Result, Ok, sym, ap, subst, ◌∙◌, arith}
 use Rattle.questions.specs.declared.Question.{Question}
 use Rattle.capi.specs.Numbers.{FewBytes, answer_number}
 use Rattle.capi.proofs.filled.Goals as goal
@@ -7,12 +7,12 @@ use Rattle.capi.proofs.filled.Goals as goal
 few : (r : Result ℕ Question) (n : ℕ) → FewBytes r → r ≡ Ok n → n < 65536
 few r n f e = subst FewBytes e f
 
-pub overflow_cast-told-arg-2 : goal.overflow_cast-told-arg-2
-overflow_cast-told-arg-2 c = few _ _ c.requires c.in-Ok.is
+pub overflow_cast-bytes : goal.overflow_cast-bytes
+overflow_cast-bytes c = omega (arith, few _ _ c.requires c.in-Ok.is)
 
 pub returns-in-Ok : goal.returns-in-Ok
 unfolding answer_number
-returns-in-Ok c = c.told.ensures ∙ ap answer_number (sym c.in-Ok.is)
+returns-in-Ok c = c.packed.ensures ∙ ap answer_number (sym c.in-Ok.is)
 
 pub returns-in-Err : goal.returns-in-Err
 unfolding answer_number

@@ -1,7 +1,7 @@
 -- The sum, as the meaning writes it.
 use Rattle.std.proofs.Common.{arith}
 use Rattle.meaning.specs.Results.{told}
-use Rattle.capi.proofs.told.Goals as goal
+use Rattle.capi.proofs.packed.Goals as goal
 
 pub returns : goal.returns
 unfolding told
