@@ -8,6 +8,7 @@ use ids::{Var, Variables};
 use stages::{Join, JoinKind};
 
 // What of a row is missing in one of the rows named.
+#[tactic(auto, using(crate::proofs::Lacks::lacks_all))]
 fn missing(t: [u16; 16], rows: u16, of: u16) -> u16
     ensures { Missing t rows of result }
 {

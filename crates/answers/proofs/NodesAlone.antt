@@ -2,19 +2,17 @@
 use mathlib.Core.Path.{◌≡◌, refl, ap, ◌∙◌}
 use mathlib.Core.Bool.{Bool, true, false}
 use mathlib.Core.List.{List, [], ◌∷◌, map}
-use Prim.Native.Nat.{ℕ, suc, ◌/◌, ◌%◌, ◌≤◌, ◌<◌}
+use Prim.Native.Nat.{ℕ, suc, ◌/◌, ◌%◌}
 use native.Mathlib.Omega.{arith}
 use lib.Dec.{eqb, leb}
 use lib.ListN.{length, length-map}
-use lib.Seq.{take-length}
-use borrow.Author.Tests.{eq-eqb, ne_eqb, lt-leb, le-leb}
+use borrow.Author.Tests.{eq-eqb, ne_eqb}
 use Rattle.meaning.specs.Finite.{pick, ◌and◌}
 use Rattle.meaning.specs.ReadOff.{NodeRecord}
 use Rattle.meaning.specs.Files.{Quad, quads, nodes_fine, node_of, all_nodes, JudgedNodes, refused_nodes, accepted_nodes, judge_nodes}
 use Rattle.meaning.proofs.Records.{length_quads}
 use Rattle.answers.specs.Judgement.{leading, judged_nodes_as, nodes_judgement, nodes_checked}
 use Rattle.std.specs.Prelude.{Ok, Err}
-use Rattle.answers.proofs.Parts.{leading_most}
 
 pub leading_all_nodes : (qs : List Quad) → leading qs ≡ length qs → all_nodes qs ≡ true
 unfolding leading all_nodes pick ◌and◌
@@ -49,9 +47,12 @@ module _ (bs : List ℕ) where
 
     pub nodes_10_11 : k ≡ length bs / 4 → nodes_judgement bs ≡ nodes_checked (quads bs)
     unfolding nodes_judgement judged_nodes_as judge_nodes nodes_checked pick
-    nodes_10_11 d = rw (eq-eqb _ _ m, is_all d) (by (leb 2 (length (quads bs)) and leb (length (quads bs)) 64) (nodes_fine 0 (quads bs)))
+    nodes_10_11 d = rw (eq-eqb _ _ m, is_all d) (by (leb 2 (length (quads bs)) and leb (length (quads bs)) 64)
+        (nodes_fine 0 (quads bs)))
       where
-        by : (a b : Bool) → judged_nodes_as (pick a (pick b (accepted_nodes (map node_of (quads bs))) (refused_nodes 11)) (refused_nodes 10))
+        by : (a b : Bool)
+            → judged_nodes_as (pick a (pick b (accepted_nodes (map node_of (quads bs))) (refused_nodes 11))
+            (refused_nodes 10))
             ≡ pick a (pick b (Ok (length (quads bs))) (Err 11)) (Err 10)
         by true true = ap Ok (length-map (quads bs) node_of)
         by true false = refl
@@ -59,11 +60,13 @@ module _ (bs : List ℕ) where
 
 -- ---- what the code's judgement says
 
-pub accepted_alone : (bs : List ℕ) (k : ℕ) → nodes_judgement bs ≡ Ok k → (vs : List NodeRecord) × (judge_nodes bs ≡ accepted_nodes vs)
+pub accepted_alone : (bs : List ℕ) (k : ℕ) → nodes_judgement bs ≡ Ok k
+    → (vs : List NodeRecord) × (judge_nodes bs ≡ accepted_nodes vs)
 unfolding nodes_judgement judged_nodes_as
 accepted_alone bs k d = by (judge_nodes bs) refl d
   where
-    by : (j : JudgedNodes) → judge_nodes bs ≡ j → judged_nodes_as j ≡ Ok k → (vs : List NodeRecord) × (judge_nodes bs ≡ accepted_nodes vs)
+    by : (j : JudgedNodes) → judge_nodes bs ≡ j → judged_nodes_as j ≡ Ok k
+        → (vs : List NodeRecord) × (judge_nodes bs ≡ accepted_nodes vs)
     by (refused_nodes q) e t = let z : ◌≡◌ {A = ℕ} 0 1 = cc in absurd (omega arith)
     by (accepted_nodes vs) e t = (vs, e)
 

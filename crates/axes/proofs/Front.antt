@@ -1,5 +1,5 @@
 -- A word at the front of bytes is what the library's test of slices finds there.
-use Rattle.std.proofs.Common.{◌≡◌, refl, ap, Bool, true, false, ◌&&◌, List, [], ◌∷◌, ℕ, length, take, nat_eq}
+use Rattle.std.proofs.Common.{◌≡◌, refl, Bool, true, false, ◌&&◌, List, [], ◌∷◌, ℕ, length, take, nat_eq}
 use lib.Pointwise.{pointwise}
 use Rattle.meaning.specs.Finite.{◌and◌}
 use Rattle.theory.specs.Reader.{front}

@@ -46,4 +46,5 @@ is_tested b = is_letter b || eqb b 42
 -- r is a move that was got, and the bytes behind it
 abbrev pub MoveRead : Got Step → Option (Axis × ℕ × Bor (List ℕ)) → Type 0
 MoveRead nothing r = r ≡ None
-MoveRead (got m rest) r = (a : spec.Axis) × (t : Test) × (m ≡ move a t) × (move_view r ≡ Some (axis_for a, test_byte t, rest))
+MoveRead (got m rest) r =
+    (a : spec.Axis) × (t : Test) × (m ≡ move a t) × (move_view r ≡ Some (axis_for a, test_byte t, rest))

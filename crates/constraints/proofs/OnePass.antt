@@ -16,7 +16,6 @@ use Rattle.meaning.specs.Files.{quads, Whole, bad, judge_record, judge_records, 
 use Rattle.meaning.specs.OnePass.{so_far, kept_of, counting, keep, onwards, FromHere}
 use Rattle.meaning.proofs.OnePass.{onwards_refused, one_pass}
 use Rattle.constraints.specs.Judgement.{is_good, judgement_of, judgement}
-
 use Rattle.constraints.proofs.Passing.{good_record}
 use Rattle.constraints.proofs.Records.{here, drop_four}
 
@@ -54,7 +53,8 @@ module _ (file : List ℕ) (short : length file ≤ 1024) (whole : Whole file) w
       (one_pass (take (at + 4) file)).from_any_record (omega arith) (omega (arith, w)) (take-add at 4 file) (ap (λ (k : ℕ). k % 4) (length-take-le at file (omega arith)) ∙ w)
 
   -- the record at `at` is refused: so is the file, whatever comes after it
-  pub refused_here : (at highest q : ℕ) → at + 3 < length file → at % 4 ≡ 0 → Keeps file at highest → here file at ≡ bad q → judgement file ≡ Err q
+  pub refused_here : (at highest q : ℕ) → at + 3 < length file → at % 4 ≡ 0 → Keeps file at highest
+      → here file at ≡ bad q → judgement file ≡ Err q
   unfolding judgement judgement_of onwards keep counting quads
   refused_here at highest q l w s e =
       let kept : kept_of (judge file) ≡ onwards (counting s.n (here file at)) (quads (drop (at + 4) file)) =
@@ -93,30 +93,38 @@ file_read n i e f g h = omega arith
 pub some_records : (n : ℕ) {a : ℕ} → a ≡ n / 4 → a ≢ 0 → n ≢ 0
 some_records n e f z = f (omega arith)
 
-byte_of : (n : ℕ) (bs : List ℕ) (i j : ℕ) → i < n → j < 4 → get_or (get_or (first_chunks 4 n bs) i []) j 0 ≡ get_or bs (i * 4 + j) 0
+byte_of : (n : ℕ) (bs : List ℕ) (i j : ℕ) → i < n → j < 4
+    → get_or (get_or (first_chunks 4 n bs) i []) j 0 ≡ get_or bs (i * 4 + j) 0
 byte_of zero bs i j h l = absurd (omega arith)
-byte_of (suc n) bs zero j h l = let e : j ≡ zero * 4 + j = omega arith in get_or-take 4 bs j 0 l ∙ ap (λ (k : ℕ). get_or bs k 0) e
+byte_of (suc n) bs zero j h l =
+    let e : j ≡ zero * 4 + j = omega arith in get_or-take 4 bs j 0 l ∙ ap (λ (k : ℕ). get_or bs k 0) e
 byte_of (suc n) bs (suc i) j h l =
     let e : 4 + (i * 4 + j) ≡ suc i * 4 + j = omega arith in
     byte_of n (drop 4 bs) i j (omega arith) l ∙ get_or-drop 4 bs (i * 4 + j) 0 ∙ ap (λ (k : ℕ). get_or bs k 0) e
 
 module _ (file : List ℕ) (rs : List (List ℕ)) (short : length file ≤ 1024) (whole : Whole file)
-    (cut : rs ≡ first_chunks 4 (length file / 4) file) (many : length rs ≡ length file / 4) (i : ℕ) (h : i < length rs) where
+    (cut : rs ≡ first_chunks 4 (length file / 4) file) (many : length rs ≡ length file / 4) (i : ℕ)
+        (h : i < length rs) where
   abbrev byte : ℕ → ℕ
   byte j = get_or (get_or rs i []) j 0
 
   byte_is : (j : ℕ) → j < 4 → byte j ≡ get_or file (i * 4 + j) 0
-  byte_is j l = ap (λ (r : List (List ℕ)). get_or (get_or r i []) j 0) cut ∙ byte_of (length file / 4) file i j (omega arith) l
+  byte_is j l =
+      ap (λ (r : List (List ℕ)). get_or (get_or r i []) j 0) cut ∙ byte_of (length file / 4) file i j (omega arith) l
 
   is_here : judge_record (byte 0) (byte 1) (byte 2) (byte 3) ≡ here file (i * 4)
-  is_here = rw (byte_is 0 (omega arith), byte_is 1 (omega arith), byte_is 2 (omega arith), byte_is 3 (omega arith), add-zero)
+  is_here =
+      rw (byte_is 0 (omega arith), byte_is 1 (omega arith), byte_is 2 (omega arith), byte_is 3 (omega arith),
+      add-zero)
 
   -- the record at i is refused
-  pub refused_record : {highest q : ℕ} → Keeps file (i * 4) highest → judge_record (byte 0) (byte 1) (byte 2) (byte 3) ≡ bad q → judgement file ≡ Err q
+  pub refused_record : {highest q : ℕ} → Keeps file (i * 4) highest
+      → judge_record (byte 0) (byte 1) (byte 2) (byte 3) ≡ bad q → judgement file ≡ Err q
   refused_record s e = refused_here file short whole (i * 4) _ _ (omega arith) (omega arith) s (sym is_here ∙ e)
 
   -- it passes
-  pub record_read : {highest : ℕ} → Keeps file (i * 4) highest → is_good (judge_record (byte 0) (byte 1) (byte 2) (byte 3)) ≡ true
+  pub record_read : {highest : ℕ} → Keeps file (i * 4) highest
+      → is_good (judge_record (byte 0) (byte 1) (byte 2) (byte 3)) ≡ true
       → Keeps file ((i + 1) * 4) (max (max highest (byte 1)) (byte 2))
   record_read {highest} s e =
       let n : i * 4 + 4 ≡ (i + 1) * 4 = omega arith in
@@ -124,7 +132,8 @@ module _ (file : List ℕ) (rs : List (List ℕ)) (short : length file ≤ 1024)
       (one_read file short whole (i * 4) highest (omega arith) (omega arith) s (ap is_good (sym is_here) ∙ e))
 
 -- no record is left
-pub all_read : (file : List ℕ) (at highest : ℕ) → length file ≤ at → length file ≢ 0 → Keeps file at highest → judgement file ≡ Ok (highest + 1)
+pub all_read : (file : List ℕ) (at highest : ℕ) → length file ≤ at → length file ≢ 0 → Keeps file at highest
+    → judgement file ≡ Ok (highest + 1)
 unfolding judgement judgement_of
 all_read file at highest l some s = ⊎_elim (λ z. absurd (some (omega (arith, l, z.0)))) (λ z. answer (omega (arith, z))) s.one_more
   where

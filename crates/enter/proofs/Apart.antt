@@ -88,7 +88,18 @@ module _ (n : ℕ) (few : n ≤ 16) (S : List Fact) (f : Facts) (small : (i : �
 
 -- tables with other rows of differ
 abbrev pub differing : Facts → List ℕ → Facts
-differing f t = record { child = f.child; parent = f.parent; below = f.below; above = f.above; differ = t; before = f.before; after = f.after; root = f.root; leaf = f.leaf; label = f.label }
+differing f t = record {
+  child = f.child;
+  parent = f.parent;
+  below = f.below;
+  above = f.above;
+  differ = t;
+  before = f.before;
+  after = f.after;
+  root = f.root;
+  leaf = f.leaf;
+  label = f.label;
+}
 
 module _ (n : ℕ) (few : n ≤ 16) (S : List Fact) (f : Facts) (a b : ℕ) (ha : a < n) (hb : b < n) (small : (i : ℕ) → row f.below i < 65536)
     (r : Ready n S f) (not_above : ¬ Held f (below b a)) (t : List ℕ) (q : PartedOf f.differ f.below f.above a b t) where

@@ -41,7 +41,8 @@ no_leaf_above n few S f a b ha r k x lx u l =
     k.not_above (r.decides.complete (chain (r.decides.sound {f = below b k.under} k.above_b) (chain same up)))
 
 -- where the test for them fails, b is not at or above a, and no leaf is
-module _ (f : Facts) (a b : ℕ) (p q : Bool) (is_p : p ≡ bit (row f.below b) a) (is_q : q ≡ meets (row f.above a) f.leaf) (neither : (p || q) ≡ false) where
+module _ (f : Facts) (a b : ℕ) (p q : Bool)
+    (is_p : p ≡ bit (row f.below b) a) (is_q : q ≡ meets (row f.above a) f.leaf) (neither : (p || q) ≡ false) where
   pub not_above : ¬ Held f (below b a)
   unfolding has
   not_above y = false≢true (sym (or_no p q neither).0 ∙ is_p ∙ y)
@@ -52,7 +53,18 @@ module _ (f : Facts) (a b : ℕ) (p q : Bool) (is_p : p ≡ bit (row f.below b) 
 
 -- tables with other rows of below and above
 abbrev pub widened : Facts → List ℕ → List ℕ → Facts
-widened f t s = record { child = f.child; parent = f.parent; below = t; above = s; differ = f.differ; before = f.before; after = f.after; root = f.root; leaf = f.leaf; label = f.label }
+widened f t s = record {
+  child = f.child;
+  parent = f.parent;
+  below = t;
+  above = s;
+  differ = f.differ;
+  before = f.before;
+  after = f.after;
+  root = f.root;
+  leaf = f.leaf;
+  label = f.label;
+}
 
 module _ (n : ℕ) (few : n ≤ 16) (S : List Fact) (f : Facts) (a b : ℕ) (ha : a < n) (hb : b < n) (r : Ready n S f) where
   abbrev S' : List Fact

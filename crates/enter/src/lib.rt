@@ -25,8 +25,9 @@ fn parted(t: [u16; 16], below: [u16; 16], above: [u16; 16], a: usize, b: usize) 
     tables::raise_alike(half, below, v, u & x)
 }
 
-// The tables with below(a, b), settled again; None is a clash. Where b is not at or above a and no leaf is, nothing becomes the same: the new facts
-// are below(u, v) with u at or above a and v at or below b, and they clash only with before. Elsewhere a and b become the same.
+// The tables with below(a, b), settled again; None is a clash. Where b is not at or above a and no leaf is, nothing
+// becomes the same: the new facts are below(u, v) with u at or above a and v at or below b, and they clash only with
+// before. Elsewhere a and b become the same.
 // With `apart` a and b are those of a chain join, so nothing becomes the same: their groups, which then differ, stay two, and no clash can come of it.
 pub fn enter_below(f: Facts, n: Variables, a: Var, b: Var, apart: bool) -> Option<Facts>
     requires a_lt_n { (a.0 < n.count) × (b.0 < n.count) }
@@ -41,13 +42,14 @@ pub fn enter_below(f: Facts, n: Variables, a: Var, b: Var, apart: bool) -> Optio
     let down = rows[j];
     let up = columns[i];
     if rowbits::has(down, i) | tables::meet(up, f.leaf) {
-        return merge::enter_same(f, n, a, b);
+        // out of its Option and into one again: one that is handed on whole is copied across the borders of the tables
+        let merged = merge::enter_same(f, n, a, b)?;
+        return Some(merged);
     }
     let below = tables::raise(rows, up, down);
     let above = tables::raise(columns, down, up);
-    let before = f.before;
     // most sets have no before, and are not to wait for the test
-    if !tables::blank(before) && tables::crossed(before, below, above) {
+    if !tables::blank(f.before) && tables::crossed(f.before, below, above) {
         return None;
     }
     let mut g = f;

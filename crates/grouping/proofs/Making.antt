@@ -27,7 +27,6 @@ use Rattle.tables.proofs.Groups.{Twin, alone, shared_least, sharing_same}
 use Rattle.tables.proofs.Labels.{label_has, label_is}
 use Rattle.tables.proofs.Rises.{rises, raised_out, raised_in, raised_keeps, raised_has, columns_raised}
 use Rattle.tables.proofs.Wider.{Wide}
-use Rattle.grouping.specs.declared.Round.{Round}
 use Rattle.grouping.specs.Rows.{In, Gap, Painted}
 use Rattle.grouping.specs.Grouping.{held, waits, Held, Standing, Pending, Through, Grouped, with_siblings, SharesBefore, lacking, Unified, UnifiedOf}
 use Rattle.grouping.proofs.Glue.{Cut, Glued, Over, Earlier, Later, glued_sharing, glued_apart, glued_bare, glued_siblings, arrived, glued_parent}
@@ -318,21 +317,24 @@ module _ (f : Facts) (x w near from far : ℕ) (k : Masks f x w near from far) w
   up_small = or_lt 16 (bit_or x near) far (or_lt 16 x near k.small k.is_near.small) k.is_far.small
 
   reached : (n : ℕ) (T : List Fact) → Pending n T x f → Reach (Held f) (In x) (In U) (In D)
-  reached n T p = reach n T x k.small f p w near far k.is_w k.is_near (subst (λ (i : ℕ). Union f.above i far) k.is_from k.is_far)
+  reached n T p =
+      reach n T x k.small f p w near far k.is_w k.is_near (subst (λ (i : ℕ). Union f.above i far) k.is_from k.is_far)
 
   pub unify_differs : (d : ℕ) → Union f.differ M d → Yes (meets d M) → UnifiedOf f x None
   unify_differs d ud h n T p = clash_differs n T f x U D p (reached n T p) d ud h
 
-  pub unify_labels : (l : ℕ) → LabelOf f.label M l → ((i : Var) × In M i × (row f.label i ≢ 0) × (row f.label i ≢ l)) → UnifiedOf f x None
+  pub unify_labels : (l : ℕ) → LabelOf f.label M l → ((i : Var) × In M i × (row f.label i ≢ 0) × (row f.label i ≢ l))
+      → UnifiedOf f x None
   unify_labels l lo y n T p = clash_labels n T f x U D p (reached n T p) l lo y.0 y.1 y.2 y.3
 
   pub unify_document : (l : ℕ) → LabelOf f.label M l → Yes (on_document f.root f.leaf M l) → UnifiedOf f x None
   unify_document l lo y n T p = clash_document n T f x U D p (reached n T p) k.root_small k.leaf_small l lo y
 
-  pub unify_well : (parents : ℕ) (g : Facts) → Made f U D M parents g → Unified f x (record { next = parents; group = M; facts = g })
+  pub unify_well : (parents : ℕ) (g : Facts) → Made f U D M parents g
+      → Unified f x (record { next = parents; group = M; facts = g })
   unify_well parents g q = record {
-    groups = λ n T p earlier later b a z. made_grouped n T f x U D p (reached n T p) up_small (or_lt 16 x w k.small k.is_w.small)
-        k.root_small k.leaf_small parents g q earlier later b a
+    groups = λ n T p earlier later b a z. made_grouped n T f x U D p (reached n T p) up_small
+        (or_lt 16 x w k.small k.is_w.small) k.root_small k.leaf_small parents g q earlier later b a
         (subst (λ (t : List ℕ). SharesBefore t f.after M earlier later b a) q.before
         (subst (λ (t : List ℕ). SharesBefore g.before t M earlier later b a) q.after z));
     keeps = (q.before, q.after);

@@ -54,60 +54,52 @@ pub struct Round {
     pub facts: Facts,
 }
 
-// The variables of x become the same. All that is at or above one of them and at or below one becomes one group, and shares its facts; a
-// leaf at or above x is the same as all below it, so that these join the group. Before is left as it is. None is a clash.
+// The variables of x become the same. All that is at or above one of them and at or below one becomes one group, and
+// shares its facts; a leaf at or above x is the same as all below it, so that these join the group. Before is left as
+// it is. None is a clash.
 pub fn unify(f: Facts, x: u16, lower: u16, upper: u16) -> Option<Round>
     requires { Union f.below x lower × Union f.above x upper }
     ensures { UnifiedOf f x result }
 {
-    let below = f.below;
-    let above = f.above;
-    let child = f.child;
-    let parent = f.parent;
-    let differ = f.differ;
-    let before = f.before;
-    let after = f.after;
-    let label = f.label;
     let down = x | lower;
     let near = x | upper;
-    let far = tables::union_rows(above, tables::when(tables::meet(near, f.leaf), down));
+    let far = tables::union_rows(f.above, tables::when(tables::meet(near, f.leaf), down));
     let up = near | far;
     let group = up & down;
-    let others = tables::union_rows(differ, group);
+    let others = tables::union_rows(f.differ, group);
     if tables::meet(others, group) {
         return None;
     }
-    let shown = tables::label_of(label, group);
-    if two_labels(label, group, shown) {
+    let shown = tables::label_of(f.label, group);
+    if two_labels(f.label, group, shown) {
         return None;
     }
     if tables::on_document(f.root, f.leaf, group, shown) {
         return None;
     }
-    let children = tables::union_rows(child, group);
-    let parents = tables::union_rows(parent, group);
-    let new_below = tables::raise(below, up, down);
-    let new_above = tables::raise(above, down, up);
-    let new_child = tables::raise(tables::raise(child, group, children), parents, group);
-    let new_parent = tables::raise(tables::raise(parent, group, parents), children, group);
-    let new_differ = tables::raise(tables::raise(differ, group, others), others, group);
-    let new_label = paint(label, group, shown);
+    let children = tables::union_rows(f.child, group);
+    let parents = tables::union_rows(f.parent, group);
+    let below = tables::raise(f.below, up, down);
+    let above = tables::raise(f.above, down, up);
+    let child = tables::raise(tables::raise(f.child, group, children), parents, group);
+    let parent = tables::raise(tables::raise(f.parent, group, parents), children, group);
+    let differ = tables::raise(tables::raise(f.differ, group, others), others, group);
+    let label = paint(f.label, group, shown);
     let root = tables::gain(tables::meet(f.root, group), f.root, group);
     let leaf = tables::gain(tables::meet(f.leaf, group), f.leaf, group);
     Some(Round {
         next: parents,
         group,
         facts: Facts {
-            child: new_child,
-            parent: new_parent,
-            below: new_below,
-            above: new_above,
-            differ: new_differ,
-            before,
-            after,
+            child,
+            parent,
+            below,
+            above,
+            differ,
             root,
-            label: new_label,
+            label,
             leaf,
+            ..f
         },
     })
 }

@@ -20,7 +20,14 @@ fn main(rt: HostRuntime) {
         b"root_own_child",
         b"root_own_brother",
     ];
-    let constraint_questions: [&[u8]; 6] = [b"c_1025", b"c_5", b"c_kind_10", b"c_variable_16", b"c_label_0", b"c_root_16"];
+    let constraint_questions: [&[u8]; 6] = [
+        b"c_1025",
+        b"c_5",
+        b"c_kind_10",
+        b"c_variable_16",
+        b"c_label_0",
+        b"c_root_16",
+    ];
     let answer_questions: [&[u8]; 13] = [
         b"a_35_bytes",
         b"a_late_node",
@@ -37,10 +44,17 @@ fn main(rt: HostRuntime) {
         b"a_node_4",
     ];
     // Labels in either case, and two that are no letters.
-    let either_case: [(&[u8], &[u8]); 3] = [(b"c_capital", b"a_small"), (b"c_small", b"a_capital"), (b"c_bracket", b"a_brace")];
+    let either_case: [(&[u8], &[u8]); 3] = [
+        (b"c_capital", b"a_small"),
+        (b"c_small", b"a_capital"),
+        (b"c_bracket", b"a_brace"),
+    ];
     // As few nodes as can be, the document node and its child; and as many records, variables and nodes.
-    let smallest_and_largest: [(&[u8], &[u8]); 3] =
-        [(b"c_two_nodes", b"a_two_nodes"), (b"c_1024", b"a_64_nodes"), (b"c_1024_last_unmet", b"a_64_nodes")];
+    let smallest_and_largest: [(&[u8], &[u8]); 3] = [
+        (b"c_two_nodes", b"a_two_nodes"),
+        (b"c_1024", b"a_64_nodes"),
+        (b"c_1024_last_unmet", b"a_64_nodes"),
+    ];
     // A file that is not there, and a directory, which opens and cannot be read.
     let unreadable: [&[u8]; 2] = [b"nothing", b"."];
 

@@ -37,7 +37,11 @@ fn read_answer(rt: &impl Files, path: &[u8], buffer: &mut [u8]) -> io::Result<us
 // Marks the answer file of the second name as an answer to the constraint file of the first, and prints the verdict.
 pub fn mark_files(rt: &(impl Files + Print + Eprint), constraints: &[u8], answer: &[u8]) {
     let mut records = [0u8; CONSTRAINTS_READ];
-    let Some(n) = reported(rt, constraints, read_constraints(rt, constraints, &mut records)) else {
+    let Some(n) = reported(
+        rt,
+        constraints,
+        read_constraints(rt, constraints, &mut records),
+    ) else {
         return;
     };
     let mut buffer = [0u8; PIECES_READ];

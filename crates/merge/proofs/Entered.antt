@@ -110,7 +110,8 @@ module _ (n : ℕ) (f : Facts) (a b : Var) (few : n ≤ 16) (ha : a < n) (hb : b
   pub merged_clash : ((T : List Fact) → Pending n T x f → Clash n T) → MergedOf n f a b None
   merged_clash k S r back = k _ (begun S r back)
 
-  pub merged_well : (g : Facts) → OneElement g → ((T : List Fact) → Pending n T x f → Pending n T 0 g) → MergedOf n f a b (Some g)
+  pub merged_well : (g : Facts) → OneElement g
+      → ((T : List Fact) → Pending n T x f → Pending n T 0 g) → MergedOf n f a b (Some g)
   merged_well g top k S r back = done n _ g (k _ (begun S r back)) top
 
 -- what a caller tests: below(b,a) is held, or a leaf is at or above a

@@ -125,7 +125,8 @@ module _ (n : ℕ) (T : List Fact) (f : Facts) (x : ℕ) (m : Round) (p : Pendin
     no_after : (i j : ℕ) → i < 16 → ¬ In (row f.after i) j
     no_after i j l u =
         let h = in_row (row f.after i) j (smalls i) u in
-        no_before j i h (subst (λ (b : List ℕ). In (row b j) i) (sym k.keeps.0) (sym (p.standing.mirrored.siblings j i h l) ∙ u))
+        no_before j i h (subst (λ (b : List ℕ). In (row b j) i) (sym k.keeps.0)
+        (sym (p.standing.mirrored.siblings j i h l) ∙ u))
 
     none_of : (t : List ℕ) → ((i j : ℕ) → i < 16 → ¬ In (row t i) j) → Union t m.group 0
     none_of t h = record { small = omega arith; from = λ j u. none_in j u; to = λ i j u v. absurd (h i j (in_row m.group i small u) v) }
@@ -176,7 +177,8 @@ passed_keeps f group parents g h i j u =
 
 module _ (f : Facts) (x : ℕ) (m : Round) (k : Unified f x m) where
   goes_to : (g : Facts) → ((n : ℕ) (T : List Fact) → Pending n T x f → Pending n T m.next g)
-      → ((i j : ℕ) → In (row m.facts.below i) j → In (row g.below i) j) → (next : ℕ) → NextOf g.below g.above g.child g.root m.next next
+      → ((i j : ℕ) → In (row m.facts.below i) j → In (row g.below i) j)
+      → (next : ℕ) → NextOf g.below g.above g.child g.root m.next next
       → Going f x (record { next = next; group = m.group; facts = g })
   goes_to g on keeps next a = record {
     goes_on = λ n T p. next_pending n T g m.next next (on n T p) a;
@@ -185,15 +187,18 @@ module _ (f : Facts) (x : ℕ) (m : Round) (k : Unified f x m) where
     top = λ n T p. next_top n T g m.next next (on n T p) a;
   }
 
-  pub round_blank : m.group < 65536 → ((i : ℕ) → row f.after i < 65536) → (t : Bool) → Blank m.facts.before t → t ≡ true
-      → (next : ℕ) → NextOf m.facts.below m.facts.above m.facts.child m.facts.root m.next next
+  pub round_blank : m.group < 65536 → ((i : ℕ) → row f.after i < 65536)
+      → (t : Bool) → Blank m.facts.before t → t ≡ true → (next : ℕ) → NextOf m.facts.below m.facts.above m.facts.child m.facts.root m.next next
       → Going f x (record { next = next; group = m.group; facts = m.facts })
-  round_blank small smalls t blank e = goes_to m.facts (λ n T p. blank_on n T f x m p k small smalls t blank e) (λ i j u. u)
+  round_blank small smalls t blank e =
+      goes_to m.facts (λ n T p. blank_on n T f x m p k small smalls t blank e) (λ i j u. u)
 
-  module _ (g : Facts) (h : PassedOf m.facts m.group m.next g) (t : Bool) (tests : Crossed g.before g.below g.above t) where
+  module _ (g : Facts) (h : PassedOf m.facts m.group m.next g)
+      (t : Bool) (tests : Crossed g.before g.below g.above t) where
     pub round_crossed : t ≡ true → RoundOf f x None
     round_crossed c n T p = passed_clash n T f x m p k g h t tests c
 
     pub round_passed : t ≡ false → (next : ℕ) → NextOf g.below g.above g.child g.root m.next next
         → Going f x (record { next = next; group = m.group; facts = g })
-    round_passed c = goes_to g (λ n T p. passed_on n T f x m p k g h t tests c) (passed_keeps m.facts m.group m.next g h)
+    round_passed c =
+        goes_to g (λ n T p. passed_on n T f x m p k g h t tests c) (passed_keeps m.facts m.group m.next g h)

@@ -22,9 +22,7 @@ fn with_gap(below: [u16; 16], above: [u16; 16], rows: u16) -> u16
         return 0;
     }
     let x = tables::lowest(rows);
-    let v = below[x];
-    let w = above[x];
-    if tables::except(rows, v & w) != 0 {
+    if tables::except(rows, below[x] & above[x]) != 0 {
         return rows;
     }
     0
@@ -35,9 +33,7 @@ fn union_two(t: [u16; 16], a: usize, b: usize) -> u16
     requires { (a < 16) × (b < 16) }
     ensures { Union t (bit_or (2 ^ a) (2 ^ b)) result }
 {
-    let v = t[a];
-    let w = t[b];
-    v | w
+    t[a] | t[b]
 }
 
 // Both a and b, if the row of one lacks one of them; else none.
@@ -45,10 +41,8 @@ fn two_with_gap(t: [u16; 16], a: usize, b: usize) -> u16
     requires { (a < 16) × (b < 16) }
     ensures { WithGap t (bit_or (2 ^ a) (2 ^ b)) result }
 {
-    let v = t[a];
-    let w = t[b];
     let rows = tables::one(a) | tables::one(b);
-    if tables::except(rows, v & w) == 0 {
+    if tables::except(rows, t[a] & t[b]) == 0 {
         return 0;
     }
     rows
@@ -78,24 +72,21 @@ fn next_round(f: Facts, x: u16, lower: u16, upper: u16) -> Option<Round>
     ensures { RoundOf f x result }
 {
     let mut r = unify(f, x, lower, upper)?;
-    let before = r.facts.before;
-    if tables::blank(before) {
-        let below = r.facts.below;
-        let above = r.facts.above;
-        let child = r.facts.child;
-        r.next = next_set(below, above, child, r.facts.root, r.next);
+    if tables::blank(r.facts.before) {
+        r.next = next_set(
+            r.facts.below,
+            r.facts.above,
+            r.facts.child,
+            r.facts.root,
+            r.next,
+        );
         return Some(r);
     }
-    let unified = r.facts;
-    let g = pass_on(unified, r.group, r.next);
-    let new_before = g.before;
-    let new_below = g.below;
-    let new_above = g.above;
-    if tables::crossed(new_before, new_below, new_above) {
+    let g = pass_on(r.facts, r.group, r.next);
+    if tables::crossed(g.before, g.below, g.above) {
         return None;
     }
-    let new_child = g.child;
-    r.next = next_set(new_below, new_above, new_child, g.root, r.next);
+    r.next = next_set(g.below, g.above, g.child, g.root, r.next);
     r.facts = g;
     Some(r)
 }
@@ -108,20 +99,16 @@ pub fn enter_same(f: Facts, n: Variables, a: Var, b: Var) -> Option<Facts>
 {
     let i = a.0 as usize;
     let j = b.0 as usize;
-    let mut below = f.below;
-    let mut above = f.above;
     let mut g = f;
-    let mut x = two_with_gap(below, i, j);
-    let mut lower = union_two(below, i, j);
-    let mut upper = union_two(above, i, j);
+    let mut x = two_with_gap(f.below, i, j);
+    let mut lower = union_two(f.below, i, j);
+    let mut upper = union_two(f.above, i, j);
     while x != 0 {
         let r = next_round(g, x, lower, upper)?;
         g = r.facts;
         x = r.next;
-        below = g.below;
-        above = g.above;
-        lower = tables::union_rows(below, x);
-        upper = tables::union_rows(above, x);
+        lower = tables::union_rows(g.below, x);
+        upper = tables::union_rows(g.above, x);
     }
     Some(g)
 }

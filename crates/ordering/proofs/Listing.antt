@@ -212,3 +212,13 @@ listed_none after t = refl
 pub listed_next : (after t : List ℕ) (d : ℕ) → listed after t d ++ in_line after (row t d) ≡ listed after t (d + 1)
 unfolding listed
 listed_next after t d = rw add-one
+
+-- ---- the lemmas that the goals of a function are tried with
+
+pub ruleset no_groups = (numbers_none, variables_none)
+
+pub ruleset appending = (next_in_lem, rest_less, appending_more, appending_all)
+
+pub ruleset listing = (listed_none, listed_room, listed_next)
+
+pub ruleset placing = (count_is, inside_at, placing_none, placing_all)

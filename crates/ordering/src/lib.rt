@@ -128,7 +128,7 @@ pub struct Order {
 impl Order {
     ghost use Rattle.ordering.specs.Groups.{groups};
 
-    #[tactic(auto, using(crate::proofs::Listing::numbers_none, crate::proofs::Listing::variables_none), unfolding(crate::specs::Groups::groups))]
+    #[tactic(auto, using(crate::proofs::Listing::no_groups), unfolding(crate::specs::Groups::groups))]
     fn new() -> Self
         ensures { groups result ≡ [] }
     {
@@ -147,7 +147,7 @@ impl Order {
     }
 
     // Puts the members of a row behind the groups, each after those that go before it.
-    #[tactic(auto, using(crate::proofs::Listing::next_in_lem, crate::proofs::Listing::appending_more, crate::proofs::Listing::appending_all, crate::proofs::Listing::rest_less))]
+    #[tactic(auto, using(crate::proofs::Listing::appending))]
     fn append(&mut self, row: u16, after: [u16; 16])
         requires { (length (groups self.old) + length (in_line after row) ≤ 16) × Strict after }
         ensures { groups self.new ≡ groups self.old ++ in_line after row }
@@ -161,7 +161,7 @@ impl Order {
     }
 
     // The groups layer by layer.
-    #[tactic(auto, using(crate::proofs::Listing::listed_none, crate::proofs::Listing::listed_room, crate::proofs::Listing::listed_next))]
+    #[tactic(auto, using(crate::proofs::Listing::listing))]
     pub fn in_order(layer: [u16; 17], after: [u16; 16], n: Variables) -> Self
         requires { (length (listed after layer n.count) ≤ 16) × Strict after }
         ensures { groups result ≡ listed after layer n.count }
@@ -174,7 +174,7 @@ impl Order {
     }
 
     // The place of each group, by its lowest variable: the first place of each, as the last are stored first.
-    #[tactic(auto, using(crate::proofs::Listing::count_is, crate::proofs::Listing::inside_at, crate::proofs::Listing::placing_none, crate::proofs::Listing::placing_all))]
+    #[tactic(auto, using(crate::proofs::Listing::placing))]
     pub fn places(&self) -> [u8; 16]
         ensures { Placed (groups self.now) result }
     {

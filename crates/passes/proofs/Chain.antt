@@ -156,10 +156,12 @@ grouping_more same x a one r eo er g = record {
       (λ l. or_l a r y (g.has k y l hy ne u)) (below_cases h);
 }
 
-pub whole : (same : List ℕ) (t m : ℕ) → ((i : ℕ) → Fits w16 (row same i)) → Fits w16 m → Gathers (λ y. meets (row same y) t) m
+pub whole : (same : List ℕ) (t m : ℕ) → ((i : ℕ) → Fits w16 (row same i)) → Fits w16 m
+    → Gathers (λ y. meets (row same y) t) m
     → WholeGroups same t (bit_or t m)
 whole same t m small ms g = record {
   kept = or_l t m;
-  from = λ x u. ⊎_elim inl (λ v. let q = meets_out (row same x) t (small x).fits (g.from x v) in inr (in_row m x ms.fits v, q.0, q.1, q.2)) (or_case t m x u);
+  from = λ x u. ⊎_elim inl (λ v. let q = meets_out (row same x) t (small x).fits (g.from x v) in
+      inr (in_row m x ms.fits v, q.0, q.1, q.2)) (or_case t m x u);
   to = λ x j h u v. or_r t m x (g.to x h (meets_in (row same x) t j u v));
 }

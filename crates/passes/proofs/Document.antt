@@ -8,12 +8,17 @@ use Rattle.tables.proofs.Clashes.{document_clash, document_bare}
 use Rattle.passes.specs.Steps.{StepOf, Clashes, PassRules, BareRules}
 use Rattle.passes.specs.declared.Stepped.{Stepped}
 
-module _ {n : ℕ} {f : Facts} {r : Stepped} (w : StepOf (PassRules n) n f r) (l : ℕ) (o : LabelOf r.facts.label r.facts.root l) (p : Bool)
+module _ {n : ℕ} {f : Facts} {r : Stepped} (w : StepOf (PassRules n) n f r) (l : ℕ)
+    (o : LabelOf r.facts.label r.facts.root l) (p : Bool)
     (e : p ≡ on_document r.facts.root r.facts.leaf r.facts.root l) where
   pub bare_step : p ≡ false → StepOf (BareRules n) n f r
   bare_step d = record {
     seeded = w.seeded;
-    closed = λ m S s. record { passed = w.closed m S s; bare = document_bare r.facts l o (λ y. false≢true (sym d ∙ e ∙ y)) };
+    closed = λ m S s. record {
+      passed = w.closed m S s;
+      bare = document_bare r.facts l o
+          (λ y. false≢true (sym d ∙ e ∙ y));
+    };
     grown = w.grown;
   }
 

@@ -14,8 +14,8 @@ use Rattle.passes.specs.declared.Stepped.{Stepped}
 unfoldable pub weight : Facts → ℕ
 weight f = sum 16 (row f.below) + sum 16 (row f.child) + sum 16 (row f.before)
 
--- What a step makes of f, for every S that f is to settle from: again tables to settle S from. With no more to add they have G, the step's group of
--- rules; else they have grown.
+-- What a step makes of f, for every S that f is to settle from: again tables to settle S from. With no more to add
+-- they have G, the step's group of rules; else they have grown.
 pub record StepOf (G : Facts → Type 0) (n : ℕ) (f : Facts) (r : Stepped) : Type 0 where
   pub seeded : (S : List Fact) → Seeded n S f → Seeded n S r.facts
   pub closed : r.more ≡ false → (S : List Fact) → Seeded n S f → G r.facts

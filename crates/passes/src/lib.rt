@@ -128,7 +128,8 @@ fn join_rows(
     Joined { more, below: a }
 }
 
-// What a step of settling makes of the tables, and whether another round may find more. A step that finds a clash answers None.
+// What a step of settling makes of the tables, and whether another round may find more. A step that finds a clash
+// answers None.
 #[derive(Clone, Copy)]
 pub struct Stepped {
     pub more: bool,

@@ -177,8 +177,8 @@ module _ {S : List Fact} {f : Facts} {n lows : ℕ} {rows : List ℕ} (w : Prepa
     first_is : numbered e o.len ≡ size n (has f)
     first_is = ap (λ (number : ℕ → ℕ). number o.len) numbers_are ∙ ap (node_at n (has f)) len_is ∙ sym (size_exact n (has f))
 
-    pub file_written : (first : ℕ) (old mid late new : List ℕ) (vs : List ℕ) → first ≡ numbered e o.len → 136 ≤ length old
-        → ((g : ℕ) → Fits w8 (row f.label g))
+    pub file_written : (first : ℕ) (old mid late new : List ℕ) (vs : List ℕ) → first ≡ numbered e o.len
+        → 136 ≤ length old → ((g : ℕ) → Fits w8 (row f.label g))
         → Recorded (λ v. v) blank_at (suc e) old mid → Recorded (numbered e) (group_record f.below f.above f.label n lows e (groups o)) o.len mid late
         → Recorded (λ x. first + x) (place_record vs) n late new → vs ≡ tab n (place_in f.below f.above f.root e (groups o))
         → FileWritten n (has f) old ((first + n) * 4) new

@@ -7,3 +7,4 @@ pub mod Preceding
 pub mod Layers
 pub mod Leading
 pub mod Answer
+pub mod Sets

@@ -23,7 +23,7 @@ struct Plan {
 
 impl Plan {
     // The parent of a group, where these variables are over it.
-    #[tactic(auto, using(crate::proofs::Numbering::numbered_fits, crate::proofs::Places::place_most, tables::proofs::Helpers::pick_on, tables::proofs::Helpers::pick_off), unfolding(crate::specs::Nodes::parent_in))]
+    #[tactic(auto, using(crate::proofs::Sets::parent), unfolding(crate::specs::Nodes::parent_in))]
     fn parent_of(&self, over: u16) -> Node
         ensures { result.0 ≡ parent_for self.now over }
     {
@@ -34,7 +34,7 @@ impl Plan {
     }
 
     // The node of each variable: the document node, or that of the lowest of its group.
-    #[tactic(auto, using(crate::proofs::Numbering::numbered_fits, crate::proofs::Places::place_most, crate::proofs::Places::place_led, crate::proofs::Written::assigned_none))]
+    #[tactic(auto, using(crate::proofs::Sets::assigning))]
     fn assign(&self, root: u16) -> [Node; 16]
         requires { LedFor self.now root }
         ensures { node_numbers self.now.ancestry.n.count result ≡ nodes_for self.now root }
@@ -53,7 +53,7 @@ impl Plan {
     }
 
     // Puts the nodes of the groups.
-    #[tactic(auto, using(crate::proofs::Numbering::numbered_fits, crate::proofs::Numbering::numbered_later, crate::proofs::Written::recorded_none, crate::proofs::Written::recorded_all, ordering::proofs::Listing::inside_at))]
+    #[tactic(auto, using(crate::proofs::Sets::node_records))]
     fn put_nodes(&self, answer: &mut [u8], label: [u8; 16])
         requires { number_for self.now self.now.order.len * 4 ≤ length answer.old }
         ensures { Recorded (number_for self.now) (record_for self.now label) self.now.order.len answer.old answer.new }
@@ -90,7 +90,6 @@ fn put_place(answer: &mut [u8], number: usize, own: Var, node: Node)
 }
 
 // The document node and the blank element.
-#[tactic(auto, using(crate::proofs::Written::document, crate::proofs::Written::recorded_more), unfolding(meaning::specs::Finite::one, meaning::specs::ReadOff::node_bytes))]
 fn put_front(answer: &mut [u8], front: Front)
     requires { suc (one front.element) * 4 ≤ length answer.old }
     ensures { Recorded (λ v. v) blank_at (suc (one front.element)) answer.old answer.new }
@@ -113,7 +112,7 @@ fn put_places(answer: &mut [u8], first: usize, nodes: [Node; 16], n: Variables)
 }
 
 // The answer file of settled tables at the front of the buffer, and how many bytes it has. Of the tables it wants these rows alone.
-#[tactic(auto, using(crate::proofs::Numbering::one_most, crate::proofs::Numbering::numbered_most, crate::proofs::Numbering::numbered_fits))]
+#[tactic(auto, using(crate::proofs::Sets::numbers))]
 pub fn read_off(
     below: [u16; 16],
     above: [u16; 16],

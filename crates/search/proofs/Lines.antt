@@ -26,10 +26,6 @@ use Rattle.search.specs.declared.End.TheVariants.{Tree, None, Spent}
 use Rattle.search.specs.declared.Searched.{Searched}
 use Rattle.search.proofs.Reporting.{WasNone, reports_none, reports_tree, reports_spent, reports_search, was_none}
 
--- the step taken is this one
-pub step_as : (n : ℕ) (f : Facts) {r q : Option Split} → r ≡ q → StepOf n f r → StepOf n f q
-step_as n f e w = subst (StepOf n f) e w
-
 -- ---- the two alternatives
 
 -- the tables after an alternative

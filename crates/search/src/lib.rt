@@ -50,10 +50,10 @@ struct Split {
     apart: bool,
 }
 
-// The alternatives of the first join, or nothing where no join is left. The first of each kind is below(x, y). The second of a parent
-// join is same(x, z), where below(x, z) holds already; so it is of siblings, whose y, a, x are z, x, y here. Of the document node, whose
-// r, y, w are z, x, y here, it is same(y, z), and below(z, y) holds. That of a chain join adds that x and y differ: the first has the
-// trees with both on one node.
+// The alternatives of the first join, or nothing where no join is left. The first of each kind is below(x, y). The
+// second of a parent join is same(x, z), where below(x, z) holds already; so it is of siblings, whose y, a, x are z,
+// x, y here. Of the document node, whose r, y, w are z, x, y here, it is same(y, z), and below(z, y) holds. That of a
+// chain join adds that x and y differ: the first has the trees with both on one node.
 fn next_step(f: Facts, n: Variables) -> Option<Split>
     requires ready { (S : List Fact) × Ready n.count S f }
     ensures { StepOf n.count f result }
@@ -90,7 +90,7 @@ fn line(
     allowance: u32,
     count: u32,
 ) -> Searched
-    requires n_bound { count ≤ allowance }
+    requires count_bound { count ≤ allowance }
     requires ready { (S : List Fact) × Ready n.count S (tables_of child parent below above differ before after label root leaf) }
     ensures { LineOf allowance n.count (tables_of child parent below above differ before after label root leaf) count result }
 {
@@ -134,7 +134,8 @@ fn line(
             end: End::Spent,
         };
     }
-    // one place for the tables of both alternatives, and one for both answers: a second of these would be 96 bytes more of stack a level
+    // One place for the tables of both alternatives, and one for both answers: a second of each would be 400 bytes
+    // more of stack a level.
     let mut entered = enter::enter_below(f, n, next.first.upper, next.first.lower, false);
     let mut ended = search(entered, n, allowance, count + 1);
     let End::None = ended.end else {
@@ -155,7 +156,7 @@ fn line(
 // The search from what settling or entering an alternative answered, with so many alternatives entered before.
 #[cycle(line_search)]
 pub fn search(s: Option<Facts>, n: Variables, allowance: u32, count: u32) -> Searched
-    requires n_bound { count ≤ allowance }
+    requires count_bound { count ≤ allowance }
     requires line { (S : List Fact) × Line n.count S s }
     ensures { SearchedOf allowance n.count s count result }
 {

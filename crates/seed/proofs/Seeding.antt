@@ -33,9 +33,11 @@ seeding_start cs = record { by_row = gathered_none cs left right; by_column = ga
 -- ---- one record more, as the code has it
 
 -- byte j of piece i of four bytes
-byte_of : (n : ℕ) (bs : List ℕ) (i j : ℕ) → i < n → j < 4 → get_or (get_or (first_chunks 4 n bs) i []) j 0 ≡ get_or bs (i * 4 + j) 0
+byte_of : (n : ℕ) (bs : List ℕ) (i j : ℕ) → i < n → j < 4 → get_or (get_or (first_chunks 4 n bs) i []) j 0 ≡ get_or
+    bs (i * 4 + j) 0
 byte_of zero bs i j h l = absurd (omega arith)
-byte_of (suc n) bs zero j h l = let e : j ≡ zero * 4 + j = omega arith in get_or-take 4 bs j 0 l ∙ ap (λ (k : ℕ). get_or bs k 0) e
+byte_of (suc n) bs zero j h l = let e : j ≡ zero * 4 + j = omega arith in
+    get_or-take 4 bs j 0 l ∙ ap (λ (k : ℕ). get_or bs k 0) e
 byte_of (suc n) bs (suc i) j h l =
     let e : 4 + (i * 4 + j) ≡ suc i * 4 + j = omega arith in
     byte_of n (drop 4 bs) i j (omega arith) l ∙ get_or-drop 4 bs (i * 4 + j) 0 ∙ ap (λ (k : ℕ). get_or bs k 0) e

@@ -67,7 +67,8 @@ pub record GivesTwoLabels (S : List Fact) : Type 0 where
   pub gives_other : Memᴰ (label variable other) S
   pub unlike : one ≢ other
 
--- the tables of a file: they hold what is sown and no other fact; that `parent` is the columns of `child`, and `after` of `before`, is in seeded
+-- the tables of a file: they hold what is sown and no other fact; that `parent` is the columns of `child`, and `after`
+-- of `before`, is in seeded
 pub record SownOf (file : List ℕ) (f : Facts) : Type 0 where
   pub one_label : ¬ GivesTwoLabels (facts_of (constraints_in file))
   pub exact : (φ : Fact) → Yes (has f φ) ↔ Sown (facts_of (constraints_in file)) φ

@@ -79,8 +79,9 @@ fn put_together(rows: &[u16; 256], columns: &[u16; 256], label: [u8; 16]) -> Fac
     }
 }
 
-// The tables of the given facts, ready to be settled; None as soon as a variable is given a second label, case aside, which no tables hold. The
-// records are gathered by kind here, where the arrays are, and not in a function that hands them back: that would copy a kilobyte.
+// The tables of the given facts, ready to be settled; None as soon as a variable is given a second label, case aside,
+// which no tables hold. The records are gathered by kind here, where the arrays are, and not in a function that hands
+// them back: that would copy a kilobyte.
 pub fn seed(file: &[u8]) -> Option<Facts>
     requires { (n : ℕ) × (judgement file.now ≡ Ok n) }
     ensures { SeedsOf file.now result }

@@ -35,15 +35,18 @@ module _ (n : ℕ) (S : List Fact) (f : Facts) (seed : Seeded n S f) (passed : P
     mirrored = record { parents = seed.parents; ancestors = passed.ancestors; siblings = seed.siblings };
   }
 
-pub grew : {G : Facts → Type 0} {n : ℕ} {f : Facts} {r : Stepped} → StepOf G n f r → r.more ≡ true → weight f < weight r.facts
+pub grew : {G : Facts → Type 0} {n : ℕ} {f : Facts} {r : Stepped} → StepOf G n f r → r.more ≡ true
+    → weight f < weight r.facts
 unfolding pick
-grew {f = f} {r = r} w m = let a : weight f + 1 ≤ weight r.facts = subst (λ (b : Bool). weight f + pick b 1 0 ≤ weight r.facts) m w.grown in omega arith
+grew {f = f} {r = r} w m = let a : weight f + 1 ≤ weight r.facts = subst
+    (λ (b : Bool). weight f + pick b 1 0 ≤ weight r.facts) m w.grown in omega arith
 
 -- no step makes the tables less
 pub no_less : {G : Facts → Type 0} {n : ℕ} {f : Facts} {r : Stepped} → StepOf G n f r → weight f ≤ weight r.facts
 no_less {f = f} {r = r} w = let a : weight f + pick r.more 1 0 ≤ weight r.facts = w.grown in omega arith
 
-pub weight_most : (f : Facts) → ((x : ℕ) → Fits w16 (row f.below x)) → ((x : ℕ) → Fits w16 (row f.child x)) → ((x : ℕ) → Fits w16 (row f.before x))
+pub weight_most : (f : Facts) → ((x : ℕ) → Fits w16 (row f.below x)) → ((x : ℕ) → Fits w16 (row f.child x))
+    → ((x : ℕ) → Fits w16 (row f.before x))
     → weight f ≤ 3145680
 unfolding weight
 weight_most f b c d = let p = most (row f.below) b in let q = most (row f.child) c in let r = most (row f.before) d in omega arith

@@ -64,8 +64,13 @@ module _ (t a b : List ℕ) (z : ℕ) (r : List ℕ) (x : ℕ) (s : List ℕ) (h
     to = λ k i y q m u v. ⊎_elim (λ e. here k i y q e u v) (λ n. (one_up k).kept y (g.to k i y q n u v)) (below_cases m);
   }
 
-pub reached : (t a b : List ℕ) (z : ℕ) (r : List ℕ) → 16 ≤ z → ((i : ℕ) → Fits w16 (row a i)) → Reaching t a b z r → Reached t a b r
-reached t a b z r h small g = record { up = g.up; from = g.from; to = λ x k y q u v. g.to x k y q (le_trans (in_row (row a x) k (small x).fits u) h) u v }
+pub reached : (t a b : List ℕ) (z : ℕ) (r : List ℕ) → 16 ≤ z → ((i : ℕ) → Fits w16 (row a i)) → Reaching t a b z r
+    → Reached t a b r
+reached t a b z r h small g = record {
+  up = g.up;
+  from = g.from;
+  to = λ x k y q u v. g.to x k y q (le_trans (in_row (row a x) k (small x).fits u) h) u v;
+}
 
 -- ---- unlike
 

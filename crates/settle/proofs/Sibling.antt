@@ -60,7 +60,18 @@ module _ {t rows columns r : List ℕ} (w : Parted t rows columns r) (m : Turned
 -- ---- with the new rows of before
 
 abbrev pub ordering : Facts → (befores afters differs : List ℕ) → Facts
-ordering f b a d = record { child = f.child; parent = f.parent; below = f.below; above = f.above; differ = d; before = b; after = a; root = f.root; label = f.label; leaf = f.leaf }
+ordering f b a d = record {
+  child = f.child;
+  parent = f.parent;
+  below = f.below;
+  above = f.above;
+  differ = d;
+  before = b;
+  after = a;
+  root = f.root;
+  label = f.label;
+  leaf = f.leaf;
+}
 
 -- what settling knows where they were computed
 pub record Rowed (n : ℕ) (f : Facts) (befores : List ℕ) : Type 0 where
@@ -106,7 +117,8 @@ module _ {n : ℕ} {f : Facts} {befores : List ℕ} (o : Rowed n f befores) (S :
   before_in : (x y : ℕ) → In befores x y → (x < n) × (y < n)
   before_in x y u = within (before x y) (before_s x y u)
 
-  sound_with : (afters differs : List ℕ) → ((x y : ℕ) → In differs x y → Settled n S (differ x y)) → Sound n S (ordering f befores afters differs)
+  sound_with : (afters differs : List ℕ) → ((x y : ℕ) → In differs x y → Settled n S (differ x y))
+      → Sound n S (ordering f befores afters differs)
   unfolding has
   sound_with a t h (child x y) u = seed.sound (child x y) u
   sound_with a t h (below x y) u = seed.sound (below x y) u
@@ -135,7 +147,8 @@ module _ {n : ℕ} {f : Facts} {befores : List ℕ} (o : Rowed n f befores) (S :
     sound : Sound n S g
     unfolding has
     sound = sound_with afters differs
-        (parted_least d turns (λ i j. Settled n S (differ i j)) (λ i j. differ_back) (λ i j. seed.sound (differ i j)) (λ i j u. before_differ (before_s i j u)))
+        (parted_least d turns (λ i j. Settled n S (differ i j)) (λ i j. differ_back)
+        (λ i j. seed.sound (differ i j)) (λ i j u. before_differ (before_s i j u)))
 
     keeps : (φ : Fact) → Yes (has f φ) → Yes (has g φ)
     unfolding has
@@ -189,7 +202,8 @@ module _ {n : ℕ} {f : Facts} {befores : List ℕ} (o : Rowed n f befores) (S :
       same_differ : (x y u : ℕ) → In f.below x u → In f.below u x → In differs x y → In differs u y
       unfolding has
       same_differ x y u a b v = d.to u y (⊎_elim (λ c. inl (p.sharing.same_differ x y u a b c))
-          (λ c. inr (⊎_elim (λ c. inl (firsts x y u a b c)) (λ c. inr (turns.back y u (lasts y x u a b (turns.fro x y c)))) c)) (d.from x y v))
+          (λ c. inr (⊎_elim (λ c. inl (firsts x y u a b c)) (λ c.
+          inr (turns.back y u (lasts y x u a b (turns.fro x y c)))) c)) (d.from x y v))
 
       -- nothing is before itself, since it is below itself
       no_before : (x : ℕ) → In befores x x → ⊥
@@ -221,7 +235,8 @@ module _ {n : ℕ} {f : Facts} {befores : List ℕ} (o : Rowed n f befores) (S :
       }
 
       -- where child gained nothing
-      pub ordered_closed : {childs : List ℕ} {b : Bool} → PassedOn f.child befores afters childs → Unlike f.child childs b → b ≡ false → SiblingRules n g
+      pub ordered_closed : {childs : List ℕ} {b : Bool} → PassedOn f.child befores afters childs
+          → Unlike f.child childs b → b ≡ false → SiblingRules n g
       unfolding has
       ordered_closed {childs} c u z = record {
         siblings = record {
@@ -290,13 +305,16 @@ module _ {n : ℕ} {f : Facts} {childs parents differs : List ℕ} (few : n ≤ 
 
 -- ---- both, and that the tables grew
 
-module _ {n : ℕ} {f : Facts} {befores afters differs childs : List ℕ} (o : Rowed n f befores) (d : Parted f.differ befores afters differs)
+module _ {n : ℕ} {f : Facts} {befores afters differs childs : List ℕ} (o : Rowed n f befores)
+    (d : Parted f.differ befores afters differs)
     (c : PassedOn f.child befores afters childs) where
-  pub both_seeded : {parents aparts : List ℕ} → Columned befores afters → Transposed childs parents → length parents ≡ 16 → Parted differs childs parents aparts → (S : List Fact) → Seeded n S f
+  pub both_seeded : {parents aparts : List ℕ} → Columned befores afters → Transposed childs parents
+      → length parents ≡ 16 → Parted differs childs parents aparts → (S : List Fact) → Seeded n S f
       → Seeded n S (passing (ordering f befores afters differs) childs parents aparts)
   both_seeded m t long e S seed = passed_seeded o.few c t long (turned o S seed m) e S (ordered_seeded o S seed m d)
 
-  pub both_grew : (parents aparts : List ℕ) {b : Bool} → Unlike f.child childs b → b ≡ true → weight f < weight (passing (ordering f befores afters differs) childs parents aparts)
+  pub both_grew : (parents aparts : List ℕ) {b : Bool} → Unlike f.child childs b → b ≡ true
+      → weight f < weight (passing (ordering f befores afters differs) childs parents aparts)
   unfolding weight
   both_grew parents aparts u m =
       let w = u.some m in

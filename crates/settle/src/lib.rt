@@ -28,7 +28,8 @@ fn reach(t: [u16; 16], a: [u16; 16], b: [u16; 16]) -> [u16; 16]
     r
 }
 
-// Whether two tables are not the same.
+// Whether two tables are not the same. All rows are compared without a branch; == on arrays leaves at the first that
+// differs.
 #[tactic(auto, using(crate::proofs::Reaching::comparing_none, crate::proofs::Reaching::comparing_more, crate::proofs::Reaching::compared))]
 fn unlike(t: [u16; 16], u: [u16; 16]) -> bool
     ensures { Unlike t u result }
@@ -91,9 +92,9 @@ fn find_order(start: [u16; 16], below: [u16; 16], above: [u16; 16], n: Variables
     Some(Order { before, after })
 }
 
-// The tables settled, or None for a clash. Passes until none has more; then, unless no variable is before another, the rules of siblings: the
-// rows of before are shared and chained, and those of child passed along them. Where child gains nothing by that all rules hold, else rounds
-// go on.
+// The tables settled, or None for a clash. Passes until none has more; then, unless no variable is before another, the
+// rules of siblings: the rows of before are shared and chained, and those of child passed along them. Where child
+// gains nothing by that all rules hold, else rounds go on.
 pub fn settle(f: Facts, n: Variables) -> Option<Facts>
     requires { (S : List Fact) × Seeded n.count S f }
     ensures { SettledOf n.count f result }

@@ -66,10 +66,14 @@ module _ (same : List ℕ) (t : Shares) (several : ℕ) where
       there k n = rw (other_row r.child x s.child k n, other_row r.parent x s.parent k n, other_row r.differ x s.differ k n, other_row r.label x s.label k n) refl
 
   pub shared_rows : (n x : ℕ) (r : Shares) → x ≤ n → n ≤ x → Passing x r → Shared n t same several r
-  shared_rows n x r most least w = record { done = λ k h. w.done k (omega arith); rest = λ k h. w.rest k (omega arith) }
+  shared_rows n x r most least w = record {
+    done = λ k h. w.done k (omega arith);
+    rest = λ k h. w.rest k (omega arith);
+  }
 
   -- what was taken so far has another label than y
-  pub two_clash : (n x y : ℕ) (s : Share) → x < n → Taking same t (row same x) s → Yes (bit (row same x) y) → Clashing s.label (row t.label y) true
+  pub two_clash : (n x y : ℕ) (s : Share) → x < n → Taking same t (row same x) s → Yes (bit (row same x) y)
+      → Clashing s.label (row t.label y) true
       → GroupClash n t same
   two_clash n x y s h w own k =
       let q = k.clash refl in

@@ -67,7 +67,8 @@ rows_grown {s} {r} {c} {p} {d} {l} e = record {
 
 module _ (same : List ℕ) (t : Shares) (own : ℕ) where
   -- nothing is taken yet
-  pub taking_none : (s : Share) → (s.child ≡ 0) × ((s.parent ≡ 0) × ((s.differ ≡ 0) × (s.label ≡ 0))) → Taking same t own s
+  pub taking_none : (s : Share) → (s.child ≡ 0) × ((s.parent ≡ 0) × ((s.differ ≡ 0) × (s.label ≡ 0)))
+      → Taking same t own s
   taking_none s (c, (p, (d, l))) = record {
     child = λ j u. none_in j (of j c u);
     parent = λ j u. none_in j (of j p u);

@@ -31,7 +31,12 @@ share_at t x = record { child = row t.child x; parent = row t.parent x; differ =
 
 -- the tables where x has s
 abbrev pub stored : Shares → ℕ → Share → Shares
-stored t x s = record { child = set t.child x s.child; parent = set t.parent x s.parent; differ = set t.differ x s.differ; label = set t.label x s.label }
+stored t x s = record {
+  child = set t.child x s.child;
+  parent = set t.parent x s.parent;
+  differ = set t.differ x s.differ;
+  label = set t.label x s.label;
+}
 
 -- j is in a row of the group, or the same as a number of such a row
 abbrev pub Source : List ℕ → List ℕ → ℕ → ℕ → Type 0

@@ -7,22 +7,20 @@ use native.Mathlib.Decide.{dec_le}
 use native.Mathlib.Omega.{arith}
 use lib.ListN.{length, take, drop, length-append, length-replicate}
 use lib.Seq.{sets, take_at, sets-eq, length-sets}
-use lib.Dec.{eqb, leb}
 use Rattle.std.proofs.Common.{Option, None, Some}
-use Rattle.meaning.specs.Finite.{pick}
 use Rattle.meaning.specs.Tree.{Var}
 use Rattle.meaning.specs.Constraint.{Constraint, is_child, is_below, is_strictly_below, is_same, is_root, is_label, is_before}
 use Rattle.meaning.specs.Paths as spec
 use Rattle.meaning.specs.Paths.{Test, letter, any, test_byte}
 use Rattle.meaning.specs.PathRecords.{Sheet, blank_sheet, next_taken, with_records, rooted_by, rooted, axis_record, move_records, record_bytes, file_bytes}
-use Rattle.meaning.proofs.Tests.{pick_yes, pick_no, le_yes, is_le, is_eq}
+use Rattle.meaning.proofs.Tests.{pick_yes, pick_no, is_eq}
 use Rattle.theory.proofs.PathFile.{file_length}
 use Rattle.meaning.proofs.PathSheets.{letter_range, rooted_next}
 use Rattle.constraints.specs.declared.Kind.{Kind}
 use Rattle.constraints.specs.declared.Kind.TheVariants as kind
 use Rattle.constraints.specs.Record.{kind_number}
 use Rattle.axes.specs.Moving.{axis_for}
-use Rattle.sheet.specs.Bytes.{Bytes, blank_in, numbered_in, put_in, root_in, root_given, rooted_in, axis_in, move_in, root_for, Follows, For}
+use Rattle.sheet.specs.Bytes.{Bytes, blank_in, numbered_in, put_in, root_given, rooted_in, axis_in, move_in, root_for, Follows, For}
 use Rattle.sheet.proofs.Small.{numbered_yes, numbered_no, put_more, put_full}
 
 -- ---- a blank sheet
@@ -40,7 +38,8 @@ blank_follows = record {
 
 module _ (v : Sheet) (b : Bytes) (o : Follows v b) where
   -- where the sheet has a number left, it is stored
-  numbered_few : v.next ≤ 16 → Follows (next_taken v) (record { records = b.records; length = b.length; next = b.next + 1; root = b.root })
+  numbered_few : v.next ≤ 16 → Follows (next_taken v)
+      (record { records = b.records; length = b.length; next = b.next + 1; root = b.root })
   unfolding next_taken
   numbered_few p =
       let e = o.few p in
@@ -53,7 +52,8 @@ module _ (v : Sheet) (b : Bytes) (o : Follows v b) where
 
   numbered_many : 16 < v.next → Follows (next_taken v) b
   unfolding next_taken
-  numbered_many p = record { size = o.size; few = λ h. absurd (omega arith); many = λ h. o.many p; exact = λ h. absurd (omega arith) }
+  numbered_many p =
+      record { size = o.size; few = λ h. absurd (omega arith); many = λ h. o.many p; exact = λ h. absurd (omega arith) }
 
   pub numbered_follows : Follows (next_taken v) (numbered_in b)
   numbered_follows = go (dec_le v.next 16)
@@ -69,14 +69,17 @@ module _ (v : Sheet) (b : Bytes) (o : Follows v b) where
 pub file_append : (cs ds : List Constraint) → file_bytes (cs ++ ds) ≡ file_bytes cs ++ file_bytes ds
 unfolding file_bytes
 file_append [] ds = refl
-file_append (c ∷ cs) ds = ap (λ (k : List ℕ). record_bytes c ++ k) (file_append cs ds) ∙ sym (append_assoc (record_bytes c) (file_bytes cs) (file_bytes ds))
+file_append (c ∷ cs) ds =
+    ap (λ (k : List ℕ). record_bytes c ++ k) (file_append cs ds)
+    ∙ sym (append_assoc (record_bytes c) (file_bytes cs) (file_bytes ds))
 
 one_bytes : (c : Constraint) → file_bytes (c ∷ []) ≡ record_bytes c
 unfolding file_bytes
 one_bytes c = append-nil (record_bytes c)
 
 -- the bytes of a record behind those of others
-put_bytes : (k x y l n : ℕ) (b fb : List ℕ) → length b ≡ 192 → n ≤ 188 → n ≡ length fb → take n b ≡ fb → take (n + 4) (sets b n (k ∷ x ∷ y ∷ l ∷ [])) ≡ fb ++ (k ∷ x ∷ y ∷ l ∷ [])
+put_bytes : (k x y l n : ℕ) (b fb : List ℕ) → length b ≡ 192 → n ≤ 188 → n ≡ length fb → take n b ≡ fb
+    → take (n + 4) (sets b n (k ∷ x ∷ y ∷ l ∷ [])) ≡ fb ++ (k ∷ x ∷ y ∷ l ∷ [])
 put_bytes k x y l n b fb s m e t =
     let rec : List ℕ = k ∷ x ∷ y ∷ l ∷ [] in
     ap (take (n + 4)) (sets-eq rec b n (omega arith) ∙ ap (λ (z : List ℕ). z ++ rec ++ drop (n + 4) b) t)
@@ -96,11 +99,14 @@ module _ (v : Sheet) (b : Bytes) (c : Constraint) (k : Kind) (x y l : ℕ) (o : 
     size = o.size;
     few = o.few;
     many = o.many;
-    exact = λ h q. let m = more_records q in let e = (o.exact h (omega arith)).0 in let f = file_length v.records in absurd (omega arith);
+    exact =
+        λ h q. let m = more_records q in let e = (o.exact h (omega arith)).0 in let f = file_length v.records in
+        absurd (omega arith);
   }
 
   free : b.length + 4 ≤ 192
-      → Follows (with_records (c ∷ []) v) (record { records = sets b.records b.length bytes; length = b.length + 4; next = b.next; root = b.root })
+      → Follows (with_records (c ∷ []) v)
+      (record { records = sets b.records b.length bytes; length = b.length + 4; next = b.next; root = b.root })
   unfolding with_records
   free g = record {
     size = length-sets b.records b.length bytes ∙ o.size;
@@ -111,8 +117,11 @@ module _ (v : Sheet) (b : Bytes) (c : Constraint) (k : Kind) (x y l : ℕ) (o : 
         let e = o.exact h (omega arith) in
         let f : file_bytes (v.records ++ (c ∷ [])) ≡ file_bytes v.records ++ bytes =
         file_append v.records (c ∷ []) ∙ ap (λ (z : List ℕ). file_bytes v.records ++ z) (one_bytes c ∙ is h) in
-        let z = ap length f ∙ length-append (file_bytes v.records) bytes in
-        (omega (arith, z, e.0), put_bytes (kind_number k) x y l b.length b.records (file_bytes v.records) o.size (omega arith) e.0 e.1 ∙ sym f);
+        let z = ap length f ∙ length-append (file_bytes v.records) bytes in (
+          omega (arith, z, e.0),
+          put_bytes (kind_number k) x y l b.length b.records (file_bytes v.records) o.size
+              (omega arith) e.0 e.1 ∙ sym f,
+        );
   }
 
   pub put_follows : Follows (with_records (c ∷ []) v) (put_in k x y l b)
@@ -120,7 +129,9 @@ module _ (v : Sheet) (b : Bytes) (c : Constraint) (k : Kind) (x y l : ℕ) (o : 
     where
       go : Dec (b.length + 4 ≤ 192) → Follows (with_records (c ∷ []) v) (put_in k x y l b)
       go (yes p) = subst (Follows (with_records (c ∷ []) v)) (put_more b k x y l _ _ refl refl p) (free p)
-      go (no p) = let g : 192 < b.length + 4 = omega arith in subst (Follows (with_records (c ∷ []) v)) (put_full b k x y l g) (full g)
+      go (no p) =
+          let g : 192 < b.length + 4 = omega arith in subst (Follows (with_records (c ∷ []) v)) (put_full b k x y l g)
+          (full g)
 
 -- ---- a start at the root
 
@@ -133,7 +144,8 @@ module _ (v : Sheet) (b : Bytes) (o : Follows v b) (some : 0 < b.next) where
   given = record { next = suc v.next; root_at = v.next; records = v.records }
 
   abbrev with_root : Bytes
-  with_root = let n = numbered_in b in record { records = n.records; length = n.length; next = n.next; root = Some b.next }
+  with_root =
+      let n = numbered_in b in record { records = n.records; length = n.length; next = n.next; root = Some b.next }
 
   -- a number that was given away is a root's
   is_number : (n m : ℕ) → n ≡ m → 0 < n → Some n ≡ root_for m
@@ -185,15 +197,19 @@ module _ (v : Sheet) (b : Bytes) (o : Follows v b) (some : 0 < b.next) where
 
 module _ (v : Sheet) (b : Bytes) (x y X Y : ℕ) (o : Follows v b) (p : For v x X) (q : For v y Y) where
   -- a record of the two, either way round
-  along : (k : Kind) (c : Constraint) → record_bytes c ≡ kind_number k ∷ X ∷ Y ∷ 0 ∷ [] → Follows (with_records (c ∷ []) v) (put_in k x y 0 b)
+  along : (k : Kind) (c : Constraint) → record_bytes c ≡ kind_number k ∷ X ∷ Y ∷ 0 ∷ []
+      → Follows (with_records (c ∷ []) v) (put_in k x y 0 b)
   along k c e =
       let n = kind_number k in
-      put_follows v b c k x y 0 o (λ h. e ∙ ap (λ (z : ℕ). n ∷ z ∷ Y ∷ 0 ∷ []) (sym (p h)) ∙ ap (λ (z : ℕ). n ∷ x ∷ z ∷ 0 ∷ []) (sym (q h)))
+      put_follows v b c k x y 0 o (λ h. e ∙ ap (λ (z : ℕ). n ∷ z ∷ Y ∷ 0 ∷ []) (sym (p h))
+      ∙ ap (λ (z : ℕ). n ∷ x ∷ z ∷ 0 ∷ []) (sym (q h)))
 
-  against : (k : Kind) (c : Constraint) → record_bytes c ≡ kind_number k ∷ Y ∷ X ∷ 0 ∷ [] → Follows (with_records (c ∷ []) v) (put_in k y x 0 b)
+  against : (k : Kind) (c : Constraint) → record_bytes c ≡ kind_number k ∷ Y ∷ X ∷ 0 ∷ []
+      → Follows (with_records (c ∷ []) v) (put_in k y x 0 b)
   against k c e =
       let n = kind_number k in
-      put_follows v b c k y x 0 o (λ h. e ∙ ap (λ (z : ℕ). n ∷ z ∷ X ∷ 0 ∷ []) (sym (q h)) ∙ ap (λ (z : ℕ). n ∷ y ∷ z ∷ 0 ∷ []) (sym (p h)))
+      put_follows v b c k y x 0 o (λ h. e ∙ ap (λ (z : ℕ). n ∷ z ∷ X ∷ 0 ∷ []) (sym (q h))
+      ∙ ap (λ (z : ℕ). n ∷ y ∷ z ∷ 0 ∷ []) (sym (p h)))
 
   axis_follows : (a : spec.Axis) → Follows (with_records (axis_record a X Y ∷ []) v) (axis_in (axis_for a) x y b)
   unfolding axis_record record_bytes
@@ -209,16 +225,22 @@ module _ (v : Sheet) (b : Bytes) (x y X Y : ℕ) (o : Follows v b) (p : For v x 
 
   two_records : (c d : Constraint) → with_records (d ∷ []) (with_records (c ∷ []) v) ≡ with_records (c ∷ d ∷ []) v
   unfolding with_records
-  two_records c d = ap (λ (k : List Constraint). record { next = v.next; root_at = v.root_at; records = k }) (append_assoc v.records (c ∷ []) (d ∷ []))
+  two_records c d =
+      ap (λ (k : List Constraint). record { next = v.next; root_at = v.root_at; records = k })
+      (append_assoc v.records (c ∷ []) (d ∷ []))
 
-  pub move_follows : (a : spec.Axis) (t : Test) → Follows (with_records (move_records a t X Y) v) (move_in (axis_for a) (test_byte t) x y b)
+  pub move_follows : (a : spec.Axis) (t : Test) → Follows (with_records (move_records a t X Y) v)
+      (move_in (axis_for a) (test_byte t) x y b)
   unfolding move_in test_byte move_records
-  move_follows a any = subst (Follows (with_records (axis_record a X Y ∷ []) v)) (sym (pick_yes _ _ refl)) (axis_follows a)
+  move_follows a any =
+      subst (Follows (with_records (axis_record a X Y ∷ []) v)) (sym (pick_yes _ _ refl)) (axis_follows a)
   move_follows a (letter l i) =
       let c = axis_record a X Y in
       let g = (letter_range l i).0 in
       let w = with_records (c ∷ []) v in
-      subst (Follows (with_records (c ∷ is_label Y l ∷ []) v)) (sym (pick_no _ _ (λ z. let e : l ≡ 42 = is_eq z in omega arith)))
-      (subst (λ (k : Sheet). Follows k (put_in kind.Label y 0 l (axis_in (axis_for a) x y b))) (two_records c (is_label Y l))
+      subst (Follows (with_records (c ∷ is_label Y l ∷ []) v))
+      (sym (pick_no _ _ (λ z. let e : l ≡ 42 = is_eq z in omega arith)))
+      (subst (λ (k : Sheet). Follows k (put_in kind.Label y 0 l (axis_in (axis_for a) x y b)))
+      (two_records c (is_label Y l))
       (put_follows w (axis_in (axis_for a) x y b) (is_label Y l) kind.Label y 0 l (axis_follows a)
       (unfold record_bytes with_records in (λ h. ap (λ (z : ℕ). 8 ∷ z ∷ 0 ∷ l ∷ []) (sym (q h))))))

@@ -1,5 +1,5 @@
 -- The functions that change a sheet, by their cases.
-use Rattle.std.proofs.Common.{◌≡◌, refl, sym, ap, ◌∙◌, subst, Bool, true, false, List, [], ◌∷◌, ℕ, ◌+◌, ◌≤◌, ◌<◌, Option, None, Some, arith}
+use Rattle.std.proofs.Common.{◌≡◌, refl, sym, ap, ◌∙◌, Bool, true, false, List, [], ◌∷◌, ℕ, ◌+◌, ◌≤◌, ◌<◌, Option, None, Some, arith}
 use Rattle.std.specs.Prelude.{unwrap_or}
 use lib.Seq.{sets}
 use lib.Dec.{leb}
@@ -15,7 +15,8 @@ abbrev with_root : ℕ → Bytes → Bytes
 with_root x n = record { records = n.records; length = n.length; next = n.next; root = Some x }
 
 module _ (b : Bytes) where
-  pub numbered_yes : b.next < 17 → record { records = b.records; length = b.length; next = b.next + 1; root = b.root } ≡ numbered_in b
+  pub numbered_yes : b.next < 17
+      → record { records = b.records; length = b.length; next = b.next + 1; root = b.root } ≡ numbered_in b
   unfolding numbered_in
   numbered_yes h = sym (pick_yes _ _ (lt_yes h))
 
@@ -27,11 +28,13 @@ module _ (b : Bytes) where
     abbrev stored : List ℕ → ℕ → Bytes
     stored rs n = record { records = rs; length = n; next = b.next; root = b.root }
 
-    pub put_more : (rs : List ℕ) (n : ℕ) → rs ≡ sets b.records b.length (kind_number k ∷ x ∷ y ∷ l ∷ []) → n ≡ b.length + 4
+    pub put_more : (rs : List ℕ) (n : ℕ) → rs ≡ sets b.records b.length (kind_number k ∷ x ∷ y ∷ l ∷ [])
+        → n ≡ b.length + 4
         → b.length + 4 ≤ 192 → stored rs n ≡ put_in k x y l b
     unfolding put_in
     put_more rs n e d h =
-        ap (λ (q : List ℕ). stored q n) e ∙ ap (λ (m : ℕ). stored (sets b.records b.length (kind_number k ∷ x ∷ y ∷ l ∷ [])) m) d
+        ap (λ (q : List ℕ). stored q n) e ∙ ap (λ (m : ℕ). stored
+        (sets b.records b.length (kind_number k ∷ x ∷ y ∷ l ∷ [])) m) d
         ∙ sym (pick_yes _ _ (le_yes h))
 
     pub put_full : 192 < b.length + 4 → b ≡ put_in k x y l b
@@ -55,7 +58,8 @@ module _ (b : Bytes) where
     pub root_new : b.root ≡ None → x ≡ b.next → n ≡ numbered_in b → d ≡ rooted_in b
     unfolding rooted_in
     root_new e i j =
-        p ∙ ap (λ (q : Bytes). put_in kind.Root x 0 0 (with_root x q)) j ∙ ap (λ (k : ℕ). put_in kind.Root k 0 0 (with_root k (numbered_in b))) i
+        p ∙ ap (λ (q : Bytes). put_in kind.Root x 0 0 (with_root x q)) j
+        ∙ ap (λ (k : ℕ). put_in kind.Root k 0 0 (with_root k (numbered_in b))) i
         ∙ sym (ap (λ (q : Option ℕ). root_given q b) e)
 
   module _ (a : Axis) (t x y : ℕ) {c : Bytes} (e : c ≡ axis_in a x y b) where
@@ -69,4 +73,5 @@ module _ (b : Bytes) where
 
 pub root_value : (x : ℕ) (n d : Bytes) → d ≡ put_in kind.Root x 0 0 (with_root x n) → x ≡ root_in d
 root_value x n d p =
-    sym (ap (λ (q : Bytes). root_in q) p ∙ ap (λ (q : Option ℕ). unwrap_or q 0) (put_root (with_root x n) kind.Root x 0 0))
+    sym (ap (λ (q : Bytes). root_in q) p ∙ ap (λ (q : Option ℕ). unwrap_or q 0)
+    (put_root (with_root x n) kind.Root x 0 0))

@@ -31,20 +31,27 @@ blank_in = record { records = replicate 192 0; length = 0; next = 1; root = None
 
 -- one number given away
 unfoldable pub numbered_in : Bytes → Bytes
-numbered_in b = pick (ltb b.next 17) (record { records = b.records; length = b.length; next = b.next + 1; root = b.root }) b
+numbered_in b =
+    pick (ltb b.next 17) (record { records = b.records; length = b.length; next = b.next + 1; root = b.root }) b
 
 -- one record more
 unfoldable pub put_in : Kind → ℕ → ℕ → ℕ → Bytes → Bytes
 put_in k x y l b =
     pick (leb (b.length + 4) 192)
-    (record { records = sets b.records b.length (kind_number k ∷ x ∷ y ∷ l ∷ []); length = b.length + 4; next = b.next; root = b.root })
+    (record {
+      records = sets b.records b.length (kind_number k ∷ x ∷ y ∷ l ∷ []);
+      length = b.length + 4;
+      next = b.next;
+      root = b.root;
+    })
     b
 
 -- a start at the root
 abbrev pub root_given : Option ℕ → Bytes → Bytes
 root_given (Some r) b = b
 root_given None b =
-    let n = numbered_in b in put_in kind.Root b.next 0 0 (record { records = n.records; length = n.length; next = n.next; root = Some b.next })
+    let n = numbered_in b in
+    put_in kind.Root b.next 0 0 (record { records = n.records; length = n.length; next = n.next; root = Some b.next })
 
 unfoldable pub rooted_in : Bytes → Bytes
 rooted_in b = root_given b.root b
@@ -76,7 +83,8 @@ pub record Follows (v : Sheet) (b : Bytes) : Type 0 where
   pub size : length b.records ≡ 192
   pub few : v.next ≤ 16 → (b.next ≡ v.next) × (b.root ≡ root_for v.root_at)
   pub many : 16 < v.next → b.next ≡ 17
-  pub exact : v.next ≤ 16 → length v.records ≤ 48 → (b.length ≡ length (file_bytes v.records)) × (take b.length b.records ≡ file_bytes v.records)
+  pub exact : v.next ≤ 16 → length v.records ≤ 48
+      → (b.length ≡ length (file_bytes v.records)) × (take b.length b.records ≡ file_bytes v.records)
 
 -- x is the number X, if the sheet has at most 16 variables
 abbrev pub For : Sheet → ℕ → Var → Type 0

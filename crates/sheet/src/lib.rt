@@ -9,8 +9,9 @@ use constraints::Kind;
 // The bytes of 48 records, more than a text of 16 variables needs.
 const ROOM: usize = 192;
 
-// A sheet is lent and not passed by value, since each level of brackets would copy it. Numbers stop at 17 and records at 48, so that no bound
-// goes through the readers. A number is a plain byte: a struct, as Var, would be passed by a pointer to a copy.
+// A sheet is lent and not passed by value, since each level of brackets would copy it. Numbers stop at 17 and records
+// at 48, so that no bound goes through the readers. A number is a plain byte: a struct, as Var, would be passed by a
+// pointer to a copy.
 #[derive(Drop)]
 pub struct Sheet {
     records: [u8; ROOM],

@@ -7,7 +7,8 @@ use text::TEXT_BYTES;
 
 fn main(rt: HostRuntime) {
     let mut constraints = [0u8; CONSTRAINTS_READ];
-    let Some(n) = standard_input(&rt, b"usage: solve < CONSTRAINTS\n", fill, &mut constraints) else {
+    let Some(n) = standard_input(&rt, b"usage: solve < CONSTRAINTS\n", fill, &mut constraints)
+    else {
         return;
     };
     let mut out = [0u8; TEXT_BYTES];

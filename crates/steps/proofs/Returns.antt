@@ -1,5 +1,5 @@
 -- The readers of a path, its steps, a step and its brackets, return by return: what the callees answered gives what is answered.
-use Rattle.std.proofs.Common.{◌≡◌, refl, sym, ap, ◌∙◌, subst, Bool, true, false, List, [], ◌∷◌, ℕ, zero, suc, ◌+◌, ◌-◌, ◌*◌, ◌≤◌, ◌<◌, length, drop, take, get_or, length-drop, Option, None, Some, Bor, eqb, arith}
+use Rattle.std.proofs.Common.{◌≡◌, refl, sym, ap, ◌∙◌, subst, true, false, List, [], ◌∷◌, ℕ, zero, suc, ◌+◌, ◌-◌, ◌*◌, ◌≤◌, ◌<◌, length, drop, take, get_or, Option, None, Some, Bor, eqb, arith}
 use Rattle.std.proofs.lemmas.Bool.{false≢true}
 use Rattle.std.proofs.lemmas.List.{take_all}
 use Rattle.std.specs.Prelude.{unwrap_or}
@@ -34,14 +34,16 @@ module _ {A : Type 0} (f : A → Sheet) where
   read_nothing nothing c h = refl
   read_nothing (got a q) c h = absurd (subst IsSome (sym h.0) tt)
 
-  pub read_got : (g : Got A) (q : List ℕ) (c : Bytes) → ReadTo f g (Some q) c → (a : A) × (g ≡ got a q) × Follows (f a) c
+  pub read_got : (g : Got A) (q : List ℕ) (c : Bytes) → ReadTo f g (Some q) c
+      → (a : A) × (g ≡ got a q) × Follows (f a) c
   read_got nothing q c h = absurd (subst IsSome h tt)
   read_got (got a p) q c h = (a, sym (ap (λ (k : Option (List ℕ)). got a (bytes_of k)) h.0), h.1)
 
   pub read_along : (r : Option (List ℕ)) (c : Bytes) {g k : Got A} → g ≡ k → ReadTo f k r c → ReadTo f g r c
   read_along r c e h = subst (λ z. ReadTo f z r c) (sym e) h
 
-  pub read_map : {B : Type 0} (k : B → A) (g : Got B) (r : Option (List ℕ)) (c : Bytes) → ReadTo (λ b. f (k b)) g r c → ReadTo f (and_then g (λ b q. got (k b) q)) r c
+  pub read_map : {B : Type 0} (k : B → A) (g : Got B) (r : Option (List ℕ)) (c : Bytes) → ReadTo (λ b. f (k b)) g r c
+      → ReadTo f (and_then g (λ b q. got (k b) q)) r c
   read_map k nothing r c h = h
   read_map k (got b q) r c h = h
 
@@ -91,10 +93,12 @@ module _ (s : List ℕ) (x : ℕ) (b : Bytes) where
     path_alone n v X zero o p l = absurd (not-suc-le-zero l)
     path_alone n v X (suc k) o p l =
         read_along (λ p. path_sheet p X v) (Some q) u
-        (pick_yes _ _ (byte_yes i) ∙ pick_no _ _ (λ y. false≢true (sym n ∙ sym (ap (λ (k : List ℕ). is_small (byte k)) (behind i)) ∙ y)))
+        (pick_yes _ _ (byte_yes i) ∙ pick_no _ _ (λ y. false≢true
+        (sym n ∙ sym (ap (λ (k : List ℕ). is_small (byte k)) (behind i)) ∙ y)))
         (ap (λ (k : List ℕ). Some k) (sym (behind i)), root_follows v o)
 
-    pub path_root : (r : Option (List ℕ)) (y : ℕ) (c : Bytes) → y ≡ root_in u → is_small (byte q) ≡ true → StepsRead q y u r c → PathRead s x b r c
+    pub path_root : (r : Option (List ℕ)) (y : ℕ) (c : Bytes) → y ≡ root_in u → is_small (byte q) ≡ true
+        → StepsRead q y u r c → PathRead s x b r c
     unfolding path_at step_sheet
     path_root r y c d n h v X zero o p l = absurd (not-suc-le-zero l)
     path_root r y c d n h v X (suc k) o p l =
@@ -112,21 +116,26 @@ module _ (s : List ℕ) (x : ℕ) (b : Bytes) where
 
   module _ (n : Bytes) (e : n ≡ numbered_in b) (y : ℕ) (d : y ≡ b.next) where
     -- what the step's reader answered, at the sheet with a number less
-    step_answer : (r : Option (List ℕ)) (c : Bytes) → StepRead s x y n r c → (v : Sheet) (X : Var) (k : ℕ) → Follows v b → For v x X
+    step_answer : (r : Option (List ℕ)) (c : Bytes) → StepRead s x y n r c → (v : Sheet) (X : Var) (k : ℕ)
+        → Follows v b → For v x X
         → 4 * length s + 1 < k → ReadTo (λ m. step_sheet m X v.next (next_taken v)) (step_at k s) r c
     unfolding next_taken
     step_answer r c h v X k o p l =
-        h (next_taken v) X v.next k (subst (Follows (next_taken v)) (sym e) (numbered_follows v b o)) (λ z. p (omega arith))
+        h (next_taken v) X v.next k (subst (Follows (next_taken v)) (sym e) (numbered_follows v b o))
+        (λ z. p (omega arith))
         (λ z. d ∙ (o.few (omega arith)).0) l
 
     abbrev rest : ℕ → Got Step → Got Steps
-    rest k g = and_then g λ m q. pick (eqb (byte q) 47) (and_then (steps_at k (drop 1 q)) λ ss q. got (more m ss) q) (got (one m) q)
+    rest k g =
+        and_then g λ m q. pick (eqb (byte q) 47) (and_then (steps_at k (drop 1 q)) λ ss q. got (more m ss) q)
+        (got (one m) q)
 
     pub steps_bad : (c : Bytes) → StepRead s x y n None c → StepsRead s x b None c
     unfolding steps_at
     steps_bad c h v X zero o p l = absurd (not-suc-le-zero l)
     steps_bad c h v X (suc k) o p l =
-        let g = read_nothing (λ m. step_sheet m X v.next (next_taken v)) (step_at k s) c (step_answer None c h v X k o p (omega arith)) in
+        let g = read_nothing (λ m. step_sheet m X v.next (next_taken v)) (step_at k s) c
+        (step_answer None c h v X k o p (omega arith)) in
         read_along (λ ss. steps_sheet ss X v) None c (ap (rest k) g) refl
 
     module _ (q : List ℕ) (c : Bytes) (h : StepRead s x y n (Some q) c) where
@@ -134,20 +143,25 @@ module _ (s : List ℕ) (x : ℕ) (b : Bytes) where
       unfolding steps_at step_sheet
       steps_one i v X zero o p l = absurd (not-suc-le-zero l)
       steps_one i v X (suc k) o p l =
-          let g = read_got (λ m. step_sheet m X v.next (next_taken v)) (step_at k s) q c (step_answer (Some q) c h v X k o p (omega arith)) in
+          let g = read_got (λ m. step_sheet m X v.next (next_taken v)) (step_at k s) q c
+          (step_answer (Some q) c h v X k o p (omega arith)) in
           read_along (λ ss. steps_sheet ss X v) (Some q) c (ap (rest k) g.1 ∙ pick_no _ _ (byte_no q 47 i)) (refl, g.2)
 
-      pub steps_more : (a : List ℕ) (r : Option (List ℕ)) (t : Bytes) → q ≡ 47 ∷ a → length q < length s → StepsRead a y c r t → StepsRead s x b r t
+      pub steps_more : (a : List ℕ) (r : Option (List ℕ)) (t : Bytes) → q ≡ 47 ∷ a → length q < length s
+          → StepsRead a y c r t → StepsRead s x b r t
       unfolding steps_at step_sheet next_taken
       steps_more a r t w j f v X zero o p l = absurd (not-suc-le-zero l)
       steps_more a r t w j f v X (suc k) o p l =
-          let g = read_got (λ m. step_sheet m X v.next (next_taken v)) (step_at k s) q c (step_answer (Some q) c h v X k o p (omega arith)) in
+          let g = read_got (λ m. step_sheet m X v.next (next_taken v)) (step_at k s) q c
+          (step_answer (Some q) c h v X k o p (omega arith)) in
           let u = step_sheet g.0 X v.next (next_taken v) in
           let z = ap length w in
           read_along (λ ss. steps_sheet ss X v) r t
-          (ap (rest k) g.1 ∙ pick_yes _ _ (byte_yes w) ∙ ap (λ (a : List ℕ). and_then (steps_at k a) λ ss q. got (more g.0 ss) q) (behind w))
+          (ap (rest k) g.1 ∙ pick_yes _ _ (byte_yes w)
+          ∙ ap (λ (a : List ℕ). and_then (steps_at k a) λ ss q. got (more g.0 ss) q) (behind w))
           (read_map (λ ss. steps_sheet ss X v) (more g.0) (steps_at k a) r t
-          (f u v.next k g.2 (λ a. d ∙ (o.few (let m = step_next g.0 X v.next (next_taken v) in omega arith)).0) (omega (arith, z, j, l))))
+          (f u v.next k g.2 (λ a. d ∙ (o.few (let m = step_next g.0 X v.next (next_taken v) in omega arith)).0)
+          (omega (arith, z, j, l))))
 
 -- ---- a move
 
@@ -181,11 +195,13 @@ move_some (got m q) b c r h =
     )
 
 -- its records on a sheet
-pub moved_follows : (a : spec.Axis) (t : Test) (b : Axis) (c x y X Y : ℕ) (v : Sheet) (w u : Bytes) → axis_for a ≡ b → test_byte t ≡ c → u ≡ move_in b c x y w
+pub moved_follows : (a : spec.Axis) (t : Test) (b : Axis) (c x y X Y : ℕ) (v : Sheet) (w u : Bytes) → axis_for a ≡ b
+    → test_byte t ≡ c → u ≡ move_in b c x y w
     → Follows v w → For v x X → For v y Y → Follows (step_sheet (move a t) X Y v) u
 unfolding step_sheet
 moved_follows a t b c x y X Y v w u e f g o p q =
-    subst (Follows (step_sheet (move a t) X Y v)) (ap (λ (k : Axis). move_in k (test_byte t) x y w) e ∙ ap (λ (k : ℕ). move_in b k x y w) f ∙ sym g) (move_follows v w x y X Y o p q a t)
+    subst (Follows (step_sheet (move a t) X Y v)) (ap (λ (k : Axis). move_in k (test_byte t) x y w) e
+    ∙ ap (λ (k : ℕ). move_in b k x y w) f ∙ sym g) (move_follows v w x y X Y o p q a t)
 
 pub sheet_next : (m : Step) (v : Sheet) (X Y y : ℕ) → For v y Y → For (step_sheet m X Y v) y Y
 sheet_next m v X Y y q h = q (le_trans (step_next m X Y v) h)
@@ -197,16 +213,19 @@ module _ (s : List ℕ) (x y : ℕ) (b : Bytes) where
   unfolding step_at
   step_not c h v X Y zero o p q l = absurd (not-suc-le-zero l)
   step_not c h v X Y (suc k) o p q l =
-      read_along (λ m. step_sheet m X Y v) None c (ap (λ (g : Got Step). and_then g λ m t. brackets_at k m t) (move_none (move_at s) h)) refl
+      read_along (λ m. step_sheet m X Y v) None c (ap (λ (g : Got Step). and_then g λ m t. brackets_at k m t)
+      (move_none (move_at s) h)) refl
 
   pub step_is : (a : Axis) (t : ℕ) (e : Bor (List ℕ)) → MoveRead (move_at s) (Some (a, t, e)) → length e.now < length s
-      → (u : Bytes) (r : Option (List ℕ)) (c : Bytes) → u ≡ move_in a t x y b → BracketsRead e.now y u r c → StepRead s x y b r c
+      → (u : Bytes) (r : Option (List ℕ)) (c : Bytes) → u ≡ move_in a t x y b → BracketsRead e.now y u r c
+      → StepRead s x y b r c
   unfolding step_at
   step_is a t e h i u r c f w v X Y zero o p q l = absurd (not-suc-le-zero l)
   step_is a t e h i u r c f w v X Y (suc k) o p q l =
       let z = move_some (move_at s) a t e h in
       read_along (λ m. step_sheet m X Y v) r c (ap (λ (g : Got Step). and_then g λ m t. brackets_at k m t) z.4)
-      (w v (move z.0 z.1) X Y k (moved_follows z.0 z.1 a t x y X Y v b u z.2 z.3 f o p q) (sheet_next (move z.0 z.1) v X Y y q) (omega arith))
+      (w v (move z.0 z.1) X Y k (moved_follows z.0 z.1 a t x y X Y v b u z.2 z.3 f o p q)
+      (sheet_next (move z.0 z.1) v X Y y q) (omega arith))
 
 -- ---- its brackets
 
@@ -214,7 +233,8 @@ module _ (s : List ℕ) (y : ℕ) (b : Bytes) where
   pub brackets_none : (byte s ≡ 91 → ⊥) → BracketsRead s y b (Some s) b
   unfolding brackets_at
   brackets_none n v m X Y zero o q l = absurd (not-suc-le-zero l)
-  brackets_none n v m X Y (suc k) o q l = read_along (λ z. step_sheet z X Y v) (Some s) b (pick_no _ _ (byte_no s 91 n)) (refl, o)
+  brackets_none n v m X Y (suc k) o q l =
+      read_along (λ z. step_sheet z X Y v) (Some s) b (pick_no _ _ (byte_no s 91 n)) (refl, o)
 
   module _ (p : List ℕ) (e : s ≡ 91 ∷ p) where
     abbrev closed : ℕ → Step → Got Path → Got Step
@@ -224,30 +244,38 @@ module _ (s : List ℕ) (y : ℕ) (b : Bytes) where
     unfolding brackets_at
     opened k m = pick_yes _ _ (byte_yes e) ∙ ap (λ (t : List ℕ). closed k m (path_at k t)) (behind e)
 
-    inner : (r : Option (List ℕ)) (c : Bytes) → PathRead p y b r c → (v : Sheet) (m : Step) (X Y : Var) (k : ℕ) → Follows (step_sheet m X Y v) b
-        → For (step_sheet m X Y v) y Y → 4 * length s < suc k → ReadTo (λ p. path_sheet p Y (step_sheet m X Y v)) (path_at k p) r c
+    inner : (r : Option (List ℕ)) (c : Bytes) → PathRead p y b r c → (v : Sheet) (m : Step) (X Y : Var) (k : ℕ)
+        → Follows (step_sheet m X Y v) b
+        → For (step_sheet m X Y v) y Y → 4 * length s < suc k → ReadTo (λ p. path_sheet p Y (step_sheet m X Y v))
+        (path_at k p) r c
     inner r c h v m X Y k o q l = let z = ap length e in h (step_sheet m X Y v) Y k o q (omega (arith, z, l))
 
     pub brackets_bad : (c : Bytes) → PathRead p y b None c → BracketsRead s y b None c
     brackets_bad c h v m X Y zero o q l = absurd (not-suc-le-zero l)
     brackets_bad c h v m X Y (suc k) o q l =
-        let z = read_nothing (λ p. path_sheet p Y (step_sheet m X Y v)) (path_at k p) c (inner None c h v m X Y k o q l) in
+        let z = read_nothing (λ p. path_sheet p Y (step_sheet m X Y v)) (path_at k p) c
+        (inner None c h v m X Y k o q l) in
         read_along (λ z. step_sheet z X Y v) None c (opened k m ∙ ap (closed k m) z) refl
 
     module _ (t : List ℕ) (c : Bytes) (h : PathRead p y b (Some t) c) where
       pub brackets_open : (byte t ≡ 93 → ⊥) → BracketsRead s y b None c
       brackets_open n v m X Y zero o q l = absurd (not-suc-le-zero l)
       brackets_open n v m X Y (suc k) o q l =
-          let z = read_got (λ p. path_sheet p Y (step_sheet m X Y v)) (path_at k p) t c (inner (Some t) c h v m X Y k o q l) in
-          read_along (λ z. step_sheet z X Y v) None c (opened k m ∙ ap (closed k m) z.1 ∙ pick_no _ _ (byte_no t 93 n)) refl
+          let z = read_got (λ p. path_sheet p Y (step_sheet m X Y v)) (path_at k p) t c
+          (inner (Some t) c h v m X Y k o q l) in
+          read_along (λ z. step_sheet z X Y v) None c (opened k m ∙ ap (closed k m) z.1 ∙ pick_no _ _ (byte_no t 93 n))
+          refl
 
-      pub brackets_more : (a : List ℕ) (r : Option (List ℕ)) (d : Bytes) → t ≡ 93 ∷ a → length t < length p → BracketsRead a y c r d → BracketsRead s y b r d
+      pub brackets_more : (a : List ℕ) (r : Option (List ℕ)) (d : Bytes) → t ≡ 93 ∷ a → length t < length p
+          → BracketsRead a y c r d → BracketsRead s y b r d
       unfolding step_sheet
       brackets_more a r d i j f v m X Y zero o q l = absurd (not-suc-le-zero l)
       brackets_more a r d i j f v m X Y (suc k) o q l =
-          let z = read_got (λ p. path_sheet p Y (step_sheet m X Y v)) (path_at k p) t c (inner (Some t) c h v m X Y k o q l) in
+          let z = read_got (λ p. path_sheet p Y (step_sheet m X Y v)) (path_at k p) t c
+          (inner (Some t) c h v m X Y k o q l) in
           let w = ap length e in
           let g = ap length i in
           read_along (λ z. step_sheet z X Y v) r d
           (opened k m ∙ ap (closed k m) z.1 ∙ pick_yes _ _ (byte_yes i) ∙ ap (brackets_at k (having m z.0)) (behind i))
-          (f v (having m z.0) X Y k z.2 (λ a. q (le_trans (path_next z.0 Y (step_sheet m X Y v)) a)) (omega (arith, w, g, j, l)))
+          (f v (having m z.0) X Y k z.2 (λ a. q (le_trans (path_next z.0 Y (step_sheet m X Y v)) a))
+          (omega (arith, w, g, j, l)))

@@ -23,14 +23,18 @@ module _ (s : List ℕ) (i : ℕ) (l : i < length s) where
   at_byte depth c e = at_place depth ∙ ap (λ (b : ℕ). goes_on depth (b ∷ drop (i + 1) s)) e
 
   pub goes_on_open : (depth : ℕ) → get_or s i 0 ≡ 91 → goes_on (depth + 1) (drop (i + 1) s) ≡ goes_on depth (drop i s)
-  goes_on_open depth e = ap (λ (k : ℕ). goes_on k (drop (i + 1) s)) (add-one depth) ∙ sym (at_byte depth 91 e ∙ bracket_opens depth _)
+  goes_on_open depth e =
+      ap (λ (k : ℕ). goes_on k (drop (i + 1) s)) (add-one depth) ∙ sym (at_byte depth 91 e ∙ bracket_opens depth _)
 
-  pub goes_on_close : (depth : ℕ) → (depth ≡ 0 → ⊥) → get_or s i 0 ≡ 93 → goes_on (depth - 1) (drop (i + 1) s) ≡ goes_on depth (drop i s)
+  pub goes_on_close : (depth : ℕ) → (depth ≡ 0 → ⊥) → get_or s i 0 ≡ 93
+      → goes_on (depth - 1) (drop (i + 1) s) ≡ goes_on depth (drop i s)
   goes_on_close zero z e = absurd (z refl)
   goes_on_close (suc depth) z e =
-      let h : suc depth - 1 ≡ depth = omega arith in ap (λ (k : ℕ). goes_on k (drop (i + 1) s)) h ∙ sym (at_byte (suc depth) 93 e ∙ bracket_closes depth _)
+      let h : suc depth - 1 ≡ depth = omega arith in ap (λ (k : ℕ). goes_on k (drop (i + 1) s)) h
+      ∙ sym (at_byte (suc depth) 93 e ∙ bracket_closes depth _)
 
-  pub goes_on_inside : (depth : ℕ) → (depth ≡ 0 → ⊥) → (get_or s i 0 ≡ 91 → ⊥) → (get_or s i 0 ≡ 93 → ⊥) → goes_on depth (drop (i + 1) s) ≡ goes_on depth (drop i s)
+  pub goes_on_inside : (depth : ℕ) → (depth ≡ 0 → ⊥) → (get_or s i 0 ≡ 91 → ⊥) → (get_or s i 0 ≡ 93 → ⊥)
+      → goes_on depth (drop (i + 1) s) ≡ goes_on depth (drop i s)
   goes_on_inside zero z n m = absurd (z refl)
   goes_on_inside (suc depth) z n m = sym (at_place (suc depth) ∙ goes_on_past (get_or s i 0) depth _ n m)
 

@@ -1,5 +1,5 @@
--- What the readers of a path and of the steps of a line answer: the bytes left of the text, and a sheet of bytes that follows the meaning's sheet of
--- records.
+-- What the readers of a path and of the steps of a line answer: the bytes left of the text, and a sheet of bytes that
+-- follows the meaning's sheet of records.
 use Rattle.std.specs.Prelude.{◌≡◌, Bool, true, false, List, ℕ, ◌+◌, ◌*◌, ◌<◌, length, Option, None, Some}
 use Rattle.meaning.specs.Tree.{Var}
 use Rattle.meaning.specs.Paths.{Step}
@@ -13,12 +13,17 @@ abbrev pub ReadTo : {A : Type 0} → (A → Sheet) → Got A → Option (List �
 ReadTo f nothing r b = r ≡ None
 ReadTo f (got a rest) r b = (r ≡ Some rest) × Follows (f a) b
 
--- from the bytes s and the sheet b to the bytes r and the sheet c, whatever sheet of records b follows, with fuel above the code's measure
+-- from the bytes s and the sheet b to the bytes r and the sheet c, whatever sheet of records b follows, with fuel above
+-- the code's measure
 abbrev pub PathRead : List ℕ → ℕ → Bytes → Option (List ℕ) → Bytes → Type 0
-PathRead s x b r c = (v : Sheet) (X : Var) (k : ℕ) → Follows v b → For v x X → 4 * length s + 3 < k → ReadTo (λ p. path_sheet p X v) (path_at k s) r c
+PathRead s x b r c =
+    (v : Sheet) (X : Var) (k : ℕ) → Follows v b → For v x X → 4 * length s + 3 < k
+    → ReadTo (λ p. path_sheet p X v) (path_at k s) r c
 
 abbrev pub StepsRead : List ℕ → ℕ → Bytes → Option (List ℕ) → Bytes → Type 0
-StepsRead s x b r c = (v : Sheet) (X : Var) (k : ℕ) → Follows v b → For v x X → 4 * length s + 2 < k → ReadTo (λ ss. steps_sheet ss X v) (steps_at k s) r c
+StepsRead s x b r c =
+    (v : Sheet) (X : Var) (k : ℕ) → Follows v b → For v x X → 4 * length s + 2 < k
+    → ReadTo (λ ss. steps_sheet ss X v) (steps_at k s) r c
 
 abbrev pub StepRead : List ℕ → ℕ → ℕ → Bytes → Option (List ℕ) → Bytes → Type 0
 StepRead s x y b r c =
@@ -28,7 +33,8 @@ StepRead s x y b r c =
 -- after what has been read of a step
 abbrev pub BracketsRead : List ℕ → ℕ → Bytes → Option (List ℕ) → Bytes → Type 0
 BracketsRead s y b r c =
-    (v : Sheet) (m : Step) (X Y : Var) (k : ℕ) → Follows (step_sheet m X Y v) b → For (step_sheet m X Y v) y Y → 4 * length s < k
+    (v : Sheet) (m : Step) (X Y : Var) (k : ℕ) → Follows (step_sheet m X Y v) b → For (step_sheet m X Y v) y Y
+    → 4 * length s < k
     → ReadTo (λ q. step_sheet q X Y v) (brackets_at k m s) r c
 
 -- the number of a line's step, and the sheet after it has been given away, by whether the line goes on
@@ -42,4 +48,6 @@ end_numbered false b = b
 
 -- the steps of a line
 abbrev pub EndRead : List ℕ → ℕ → Bytes → Option (List ℕ) → Bytes → Type 0
-EndRead s x b r c = (v : Sheet) (X : Var) (k : ℕ) → Follows v b → For v x X → 4 * length s + 2 < k → ReadTo (λ ss. end_sheet ss X v) (steps_at k s) r c
+EndRead s x b r c =
+    (v : Sheet) (X : Var) (k : ℕ) → Follows v b → For v x X → 4 * length s + 2 < k
+    → ReadTo (λ ss. end_sheet ss X v) (steps_at k s) r c

@@ -10,8 +10,9 @@ use axes::move_at;
 use lent::byte_at;
 use sheet::Sheet;
 
-// The readers of a path, its steps, a step and its brackets call one another, with the bytes left falling. Each answers the bytes behind what it
-// read, or nothing if that is not of the form. A path in brackets follows the node of x; a step leads from the node of x to that of y.
+// The readers of a path, its steps, a step and its brackets call one another, with the bytes left falling. Each answers
+// the bytes behind what it read, or nothing if that is not of the form. A path in brackets follows the node of x; a
+// step leads from the node of x to that of y.
 #[cycle(brackets_path_step_steps)]
 fn path<'a>(s: &'a [u8], x: u8, sheet: &mut Sheet) -> Option<&'a [u8]>
     ensures path_read { PathRead s.now x (plain sheet.old) (option_copied result) (plain sheet.new) }

@@ -1,15 +1,13 @@
 // What the programs print, at the front of a lent buffer: the text of a verdict, or the records of a text of paths.
 #![tactic(auto)]
 
-ghost use Rattle.std.specs.Prelude.{◌≡◌, ◌≤◌, length};
+ghost use Rattle.std.specs.Prelude.{◌≤◌, length, take};
 ghost use Rattle.meaning.specs.Text.{solve_allowance};
-ghost use Rattle.marker.specs.declared.Verdict.TheVariants.{Unmet};
-ghost use Rattle.lent.specs.Putting.{Put};
+ghost use Rattle.putting.specs.Pages.{HasRoom, Same, Puts};
 ghost use Rattle.text.specs.Verdicts.{bytes_of, solver_text, marker_text};
 ghost use Rattle.text.specs.Printing.{SolvedAs, MarkedAs, PathsAs};
 
-use constraints::Kind;
-use putting::{put, put_answer, put_kind, put_line, put_number, put_records};
+use putting::{Page, kind_word, put_answer};
 use solver::Verdict;
 
 // What `solve` allows itself.
@@ -21,52 +19,39 @@ pub const TEXT_BYTES: usize = 594;
 // Room for the records of every text of paths: as much as question 7 asks of the buffer that is lent for them.
 pub const RECORDS_BYTES: usize = 1024;
 
-fn put_unmet(out: &mut [u8], position: usize, kind: Kind) -> usize
-    requires { 42 ≤ length out.old }
-    ensures { Put out.old 0 (marker_text (Unmet position kind)) result out.new }
-{
-    let number = put(out, 0, b"unmet ");
-    let space = put_number(out, number, position as u64);
-    let word = put(out, space, b" ");
-    let end = put_kind(out, word, kind);
-    put(out, end, b"\n")
-}
-
-fn put_mark(out: &mut [u8], verdict: marker::Verdict) -> usize
-    requires { 42 ≤ length out.old }
-    ensures { Put out.old 0 (marker_text verdict) result out.new }
+fn put_mark(page: &mut Page<'_>, verdict: marker::Verdict)
+    requires { HasRoom page.old 42 }
+    ensures same { Same page.old page.new }
+    ensures put { Puts page.old (marker_text verdict) page.new }
 {
     match verdict {
-        marker::Verdict::Met => put(out, 0, b"met\n"),
-        marker::Verdict::Unmet { position, kind } => put_unmet(out, position, kind),
-        marker::Verdict::Refused(question) => put_line(out, 0, b"refused ", question as u32),
-    }
-}
-
-fn put_solved(out: &mut [u8], verdict: Verdict, answer: &[u8]) -> usize
-    requires { (594 ≤ length out.old) × (length answer.now ≤ 136) }
-    ensures { Put out.old 0 (solver_text verdict answer.now) result out.new }
-{
-    match verdict {
-        Verdict::Tree { bytes: _, count } => {
-            let records = put_line(out, 0, b"tree ", count);
-            put_records(out, records, answer)
+        marker::Verdict::Met => page.put(b"met\n"),
+        marker::Verdict::Unmet { position, kind } => {
+            page.put(b"unmet ");
+            page.number(position as u64);
+            page.put(b" ");
+            page.put(kind_word(kind));
+            page.put(b"\n")
         }
-        Verdict::None { count } => put_line(out, 0, b"none ", count),
-        Verdict::Spent { count } => put_line(out, 0, b"spent ", count),
-        Verdict::Refused(question) => put_line(out, 0, b"refused ", question as u32),
+        marker::Verdict::Refused(question) => page.refused(question),
     }
 }
 
-// How many bytes a verdict says were written.
-fn bytes_of(verdict: Verdict) -> usize
-    ensures { result ≡ bytes_of verdict }
+// The answer file of a tree is at the front of the answer.
+fn put_solved(page: &mut Page<'_>, verdict: Verdict, answer: &[u8])
+    requires { HasRoom page.old 594 × (bytes_of verdict ≤ 136) × (136 ≤ length answer.now) }
+    ensures same { Same page.old page.new }
+    ensures put { Puts page.old (solver_text verdict (take (bytes_of verdict) answer.now)) page.new }
 {
     match verdict {
-        Verdict::Tree { bytes, count: _ } => bytes,
-        Verdict::None { count: _ } => 0,
-        Verdict::Spent { count: _ } => 0,
-        Verdict::Refused(_) => 0,
+        Verdict::Tree { bytes, count } => {
+            let file = &answer[..bytes];
+            page.line(b"tree ", count);
+            page.records(file)
+        }
+        Verdict::None { count } => page.line(b"none ", count),
+        Verdict::Spent { count } => page.line(b"spent ", count),
+        Verdict::Refused(question) => page.refused(question),
     }
 }
 
@@ -76,15 +61,19 @@ pub fn solve(constraints: &[u8], out: &mut [u8; TEXT_BYTES]) -> usize
 {
     let mut answer = [0u8; 136];
     let verdict = solver::solve(constraints, &mut answer, ALLOWANCE);
-    let bytes = bytes_of(verdict);
-    put_solved(out, verdict, &answer[..bytes])
+    let mut page = Page::new(out);
+    put_solved(&mut page, verdict, &answer);
+    page.written()
 }
 
 // Puts what `mark` prints of the two files at the front of the buffer, and answers how many bytes that are.
 pub fn mark(constraints: &[u8], answer: &[u8], out: &mut [u8; TEXT_BYTES]) -> usize
     ensures { MarkedAs constraints.now answer.now out.old result out.new }
 {
-    put_mark(out, marker::mark(constraints, answer))
+    let verdict = marker::mark(constraints, answer);
+    let mut page = Page::new(out);
+    put_mark(&mut page, verdict);
+    page.written()
 }
 
 // Puts what `paths` writes of the bytes it read at the front of the buffer, and answers how many bytes that are.

@@ -43,7 +43,8 @@ impl Links {
         self.first[up] = node as u8;
     }
 
-    // The links of accepted records: from the last node to the first, so that each is put before its later siblings.
+    // The links of accepted records: from the last node to the first, so that each is put before its later siblings. Answered by value: filled
+    // behind a reference a text of 64 nodes took up to a sixth longer.
     pub fn of(nodes: &[u8]) -> Links
         requires { Linkable nodes.now }
         ensures { Linked result 1 (get_or result.first 0 0) (forest_in nodes.now) }

@@ -1,5 +1,5 @@
 -- What is answered and written once the lines have been read: the sheet then has the numbers and the bytes of the records.
-use Rattle.std.proofs.Common.{◌≡◌, refl, sym, ap, ◌∙◌, subst, List, [], ◌∷◌, ℕ, suc, ◌+◌, ◌≤◌, ◌<◌, length, take, Result, Ok, Err, arith}
+use Rattle.std.proofs.Common.{◌≡◌, refl, sym, ap, ◌∙◌, subst, List, [], ◌∷◌, ℕ, ◌≤◌, ◌<◌, length, take, Result, Ok, Err, arith}
 use native.Mathlib.Nat.{not-suc-le-zero}
 use native.Mathlib.Decide.{dec_le}
 use Prim.Native.Nat.{suc-le-suc, zero-le}
@@ -53,7 +53,8 @@ module _ (s : List ℕ) where
   unfolding text_paths lines_at
   no_line e =
       let h : length s ≤ 1024 = omega arith in
-      pick_yes _ _ (le_yes h) ∙ ap some_line (pick_yes _ _ (eq_yes e)) ∙ pick_no _ _ (λ y. let k : 1 ≤ 0 = is_le y in not-suc-le-zero k)
+      pick_yes _ _ (le_yes h) ∙ ap some_line (pick_yes _ _ (eq_yes e))
+      ∙ pick_no _ _ (λ y. let k : 1 ≤ 0 = is_le y in not-suc-le-zero k)
 
   -- a text that is not empty has a line
   has_line : (ps : List Path) → (length s ≡ 0 → ⊥) → s ≡ lines_text ps → 1 ≤ length ps
@@ -85,7 +86,9 @@ module _ (s buffer : List ℕ) where
   )
 
   pub short_answer : length buffer < 1024 → Answers (Err Buffer)
-  short_answer l = refusal Buffer refl (unfold read_paths in (pick_no _ _ (λ y. let h : 1024 ≤ length buffer = is_le y in omega arith)))
+  short_answer l =
+      refusal Buffer refl (unfold read_paths in (pick_no _ _ (λ y. let h : 1024 ≤ length buffer = is_le y in
+      omega arith)))
 
   module _ (l : 1024 ≤ length buffer) where
     no_form : (q : Question) → number q ≡ 13 → text_paths s ≡ nothing → Answers (Err q)
@@ -97,7 +100,8 @@ module _ (s buffer : List ℕ) where
     pub empty_answer : length s ≡ 0 → Answers (Err PathsForm)
     empty_answer h = no_form PathsForm refl (no_line s h)
 
-    module _ (few_bytes : length s ≤ 1024) (not_empty : length s ≡ 0 → ⊥) (b : Bytes) (blank : b ≡ blank_in) (c : Bytes) where
+    module _ (few_bytes : length s ≤ 1024) (not_empty : length s ≡ 0 → ⊥) (b : Bytes) (blank : b ≡ blank_in)
+        (c : Bytes) where
       pub bad_answer : (q : Question) → LinesRead s 8 b (Err q) c → Answers (Err q)
       bad_answer q h = go (text_paths s) refl (text_read s few_bytes not_empty (Err q) c b blank h)
         where
@@ -106,7 +110,8 @@ module _ (s buffer : List ℕ) where
           go (got ps t) e h = absurd (subst IsOk (sym h.0) tt)
 
       module _ (h : LinesRead s 8 b (Ok tt) c) where
-        got_paths : (g : Got (List Path)) → AllRead sheet_of g (Ok tt) c → (ps : List Path) × (q : List ℕ) × (g ≡ got ps q) × Follows (sheet_of ps) c
+        got_paths : (g : Got (List Path)) → AllRead sheet_of g (Ok tt) c
+            → (ps : List Path) × (q : List ℕ) × (g ≡ got ps q) × Follows (sheet_of ps) c
         got_paths nothing k = absurd (subst IsOk k tt)
         got_paths (got ps q) k = (ps, q, refl, k.1)
 
@@ -117,7 +122,8 @@ module _ (s buffer : List ℕ) where
         pub many_answer : 16 < c.next → Answers (Err PathsVariables)
         many_answer m =
             let z = found in
-            refusal PathsVariables refl (unfold read_paths answer_of paths_answer variables_of in (pick_yes _ _ (le_yes l) ∙ ap answer_of z.2
+            refusal PathsVariables refl (unfold read_paths answer_of paths_answer variables_of in (
+            pick_yes _ _ (le_yes l) ∙ ap answer_of z.2
             ∙ pick_no _ _ (λ y. let f : (sheet_of z.0).next ≤ 16 = is_le y in let d = (z.3.few f).0 in omega arith)))
 
         module _ (m : c.next ≤ 16) where
@@ -129,7 +135,8 @@ module _ (s buffer : List ℕ) where
               go (yes p) = p
               go (no p) = let d = o.many (omega arith) in absurd (omega arith)
 
-          exactly : (ps : List Path) → OfForm s ps → Follows (sheet_of ps) c → take c.length c.records ≡ file_bytes (records_of ps)
+          exactly : (ps : List Path) → OfForm s ps → Follows (sheet_of ps) c
+              → take c.length c.records ≡ file_bytes (records_of ps)
           unfolding variables_of records_of
           exactly ps f o =
               let v = few ps o in
@@ -138,11 +145,13 @@ module _ (s buffer : List ℕ) where
               let q : length (records_of ps) ≤ 46 = omega arith in
               (o.exact v (omega (arith, q))).1
 
-          filled : (ps : List Path) (q : List ℕ) → text_paths s ≡ got ps q → variables_of ps ≤ 16 → read_paths s buffer ≡ fill_written (file_bytes (records_of ps))
+          filled : (ps : List Path) (q : List ℕ) → text_paths s ≡ got ps q → variables_of ps ≤ 16
+              → read_paths s buffer ≡ fill_written (file_bytes (records_of ps))
           unfolding read_paths answer_of paths_answer
           filled ps q e v = pick_yes _ _ (le_yes l) ∙ ap answer_of e ∙ pick_yes _ _ (le_yes v)
 
-          pub written_answer : {r : ℕ} {text after : List ℕ} → text ≡ take c.length c.records → Put buffer 0 text r after
+          pub written_answer : {r : ℕ} {text after : List ℕ} → text ≡ take c.length c.records
+              → Put buffer 0 text r after
               → AnswerOf (read_paths s buffer) (Ok r) × (after ≡ fill_wrote (read_paths s buffer) buffer)
           written_answer {r} {text} {after} e p =
               let z = found in

@@ -1,5 +1,5 @@
 -- A line and the lines of a text, return by return.
-use Rattle.std.proofs.Common.{◌≡◌, refl, sym, ap, ◌∙◌, subst, Bool, true, false, List, [], ◌∷◌, ℕ, zero, suc, ◌+◌, ◌-◌, ◌*◌, ◌≤◌, ◌<◌, length, drop, Option, None, Some, Result, Ok, Err, eqb, arith}
+use Rattle.std.proofs.Common.{◌≡◌, refl, sym, ap, ◌∙◌, subst, true, false, List, [], ◌∷◌, ℕ, zero, suc, ◌+◌, ◌*◌, ◌<◌, length, drop, Option, None, Some, Result, Ok, Err, eqb, arith}
 use Rattle.std.proofs.lemmas.Bool.{false≢true}
 use Rattle.std.specs.Prelude.{unwrap_or}
 use native.Mathlib.Nat.{not-suc-le-zero}
@@ -22,15 +22,18 @@ use Rattle.xpath.specs.Reading.{LineRead, AllRead, LinesRead}
 -- ---- a line
 
 module _ (s : List ℕ) (b : Bytes) where
-  pub line_here : (x : ℕ) (n : Bytes) (r : Option (List ℕ)) (c : Bytes) → x ≡ b.next → n ≡ numbered_in b → (byte s ≡ 47 → ⊥) → EndRead s x n r c → LineRead s b r c
+  pub line_here : (x : ℕ) (n : Bytes) (r : Option (List ℕ)) (c : Bytes) → x ≡ b.next → n ≡ numbered_in b
+      → (byte s ≡ 47 → ⊥) → EndRead s x n r c → LineRead s b r c
   unfolding path_at line_sheet next_taken
   line_here x n r c i j w h v zero o l = absurd (not-suc-le-zero l)
   line_here x n r c i j w h v (suc k) o l =
       read_along (λ p. line_sheet p v) r c (pick_no _ _ (byte_no s 47 w))
       (read_map (λ p. line_sheet p v) from_here (steps_at k s) r c
-      (h (next_taken v) v.next k (subst (Follows (next_taken v)) (sym j) (numbered_follows v b o)) (λ z. i ∙ (o.few (omega arith)).0) (omega arith)))
+      (h (next_taken v) v.next k (subst (Follows (next_taken v)) (sym j) (numbered_follows v b o))
+      (λ z. i ∙ (o.few (omega arith)).0) (omega arith)))
 
-  module _ (q : List ℕ) (i : s ≡ 47 ∷ q) (some : 0 < b.next) (x : ℕ) (u : Bytes) (d : x ≡ root_in u) (e : u ≡ rooted_in b) where
+  module _ (q : List ℕ) (i : s ≡ 47 ∷ q) (some : 0 < b.next) (x : ℕ) (u : Bytes) (d : x ≡ root_in u)
+      (e : u ≡ rooted_in b) where
     root_follows : (v : Sheet) → Follows v b → Follows (rooted v) u
     root_follows v o = subst (Follows (rooted v)) (sym e) (rooted_follows v b o some)
 
@@ -43,10 +46,12 @@ module _ (s : List ℕ) (b : Bytes) where
     line_alone c n f v (suc k) o l =
         let r = is_same (rooted v).root_at 0 in
         read_along (λ p. line_sheet p v) (Some q) c
-        (pick_yes _ _ (byte_yes i) ∙ pick_no _ _ (λ y. false≢true (sym n ∙ sym (ap (λ (k : List ℕ). is_small (byte k)) (behind i)) ∙ y))) (
+        (pick_yes _ _ (byte_yes i) ∙ pick_no _ _ (λ y. false≢true
+        (sym n ∙ sym (ap (λ (k : List ℕ). is_small (byte k)) (behind i)) ∙ y))) (
           ap (λ (k : List ℕ). Some k) (sym (behind i)),
           subst (Follows (with_records (r ∷ []) (rooted v))) (sym f)
-              (put_follows (rooted v) u r kind.Same x 0 0 (root_follows v o) (λ h. ap (λ (z : ℕ). 4 ∷ z ∷ 0 ∷ 0 ∷ []) (sym (root_is v o h)))),
+              (put_follows (rooted v) u r kind.Same x 0 0 (root_follows v o)
+              (λ h. ap (λ (z : ℕ). 4 ∷ z ∷ 0 ∷ 0 ∷ []) (sym (root_is v o h)))),
         )
 
     pub line_root : (r : Option (List ℕ)) (c : Bytes) → is_small (byte q) ≡ true → EndRead q x u r c → LineRead s b r c
@@ -70,7 +75,8 @@ module _ {A : Type 0} (f : A → Sheet) where
   pub all_along : (r : Answer) (c : Bytes) {g k : Got A} → g ≡ k → AllRead f k r c → AllRead f g r c
   all_along r c e h = subst (λ z. AllRead f z r c) (sym e) h
 
-  pub all_map : {B : Type 0} (k : B → A) (g : Got B) (r : Answer) (c : Bytes) → AllRead (λ b. f (k b)) g r c → AllRead f (and_then g (λ b q. got (k b) q)) r c
+  pub all_map : {B : Type 0} (k : B → A) (g : Got B) (r : Answer) (c : Bytes) → AllRead (λ b. f (k b)) g r c
+      → AllRead f (and_then g (λ b q. got (k b) q)) r c
   all_map k nothing r c h = h
   all_map k (got b q) r c h = h
 
@@ -90,9 +96,11 @@ module _ (s : List ℕ) (b : Bytes) where
     lines_over (suc n) e v o = absurd (omega arith)
 
     abbrev after : ℕ → Got Path → Got (List Path)
-    after n g = and_then g λ p r. pick (eqb (byte r) 10) (and_then (lines_at n (drop 1 r)) λ ps q. got (p ∷ ps) q) nothing
+    after n g =
+        and_then g λ p r. pick (eqb (byte r) 10) (and_then (lines_at n (drop 1 r)) λ ps q. got (p ∷ ps) q) nothing
 
-    line_answer : (r : Option (List ℕ)) (c : Bytes) → LineRead s b r c → (v : Sheet) → Follows v b → ReadTo (λ p. line_sheet p v) (path_at (fuel s) s) r c
+    line_answer : (r : Option (List ℕ)) (c : Bytes) → LineRead s b r c → (v : Sheet) → Follows v b
+        → ReadTo (λ p. line_sheet p v) (path_at (fuel s) s) r c
     unfolding fuel
     line_answer r c h v o = h v (4 * length s + 4) o (omega arith)
 
@@ -103,7 +111,8 @@ module _ (s : List ℕ) (b : Bytes) where
         let g = read_nothing (λ p. line_sheet p v) (path_at (fuel s) s) c (line_answer None c h v o) in
         all_along (λ ps. lines_sheet ps v) (Err PathsForm) c (pick_no _ _ some_left ∙ ap (after n) g) refl
 
-    pub lines_open : (q : List ℕ) (c : Bytes) → LineRead s b (Some q) c → (byte q ≡ 10 → ⊥) → (n : ℕ) → 0 < n → LinesRead s n b (Err PathsForm) c
+    pub lines_open : (q : List ℕ) (c : Bytes) → LineRead s b (Some q) c → (byte q ≡ 10 → ⊥) → (n : ℕ) → 0 < n
+        → LinesRead s n b (Err PathsForm) c
     unfolding lines_at
     lines_open q c h w zero l v o = absurd (omega (arith, l))
     lines_open q c h w (suc n) l v o =
@@ -111,7 +120,8 @@ module _ (s : List ℕ) (b : Bytes) where
         let e = pick_no (and_then (lines_at n (drop 1 q)) λ ps q. got (g.0 ∷ ps) q) nothing (byte_no q 10 w) in
         all_along (λ ps. lines_sheet ps v) (Err PathsForm) c (pick_no _ _ some_left ∙ ap (after n) g.1 ∙ e) refl
 
-    pub lines_more : (q : List ℕ) (c : Bytes) → LineRead s b (Some q) c → (n m : ℕ) → n ≡ suc m → (a : List ℕ) (r : Answer) (t : Bytes) → q ≡ 10 ∷ a
+    pub lines_more : (q : List ℕ) (c : Bytes) → LineRead s b (Some q) c → (n m : ℕ) → n ≡ suc m
+        → (a : List ℕ) (r : Answer) (t : Bytes) → q ≡ 10 ∷ a
         → LinesRead a m c r t → LinesRead s n b r t
     unfolding lines_at lines_sheet
     lines_more q c h zero m l a r t k f v o = absurd (omega (arith, l))
@@ -120,5 +130,6 @@ module _ (s : List ℕ) (b : Bytes) where
         let e : m ≡ n = omega (arith, l) in
         let w : LinesRead a n c r t = subst (λ (j : ℕ). LinesRead a j c r t) e f in
         all_along (λ ps. lines_sheet ps v) r t
-        (pick_no _ _ some_left ∙ ap (after n) g.1 ∙ pick_yes _ _ (byte_yes k) ∙ ap (λ (a : List ℕ). and_then (lines_at n a) λ ps q. got (g.0 ∷ ps) q) (behind k))
+        (pick_no _ _ some_left ∙ ap (after n) g.1 ∙ pick_yes _ _ (byte_yes k)
+        ∙ ap (λ (a : List ℕ). and_then (lines_at n a) λ ps q. got (g.0 ∷ ps) q) (behind k))
         (all_map (λ ps. lines_sheet ps v) (λ ps. g.0 ∷ ps) (lines_at n a) r t (w (line_sheet g.0 v) g.2))

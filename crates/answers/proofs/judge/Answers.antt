@@ -19,13 +19,15 @@ use Rattle.answers.proofs.judge.Goals as goal
 left_over : {p r : ℕ} (m k : ℕ) → p + k ≡ r → r ≡ m → p ≡ m - k
 left_over m k e f = omega arith
 
-places_told : {j k : ℕ} {ps qs : List Quad} {b o : Bool} → j ≡ k → ps ≡ qs → b ≡ places_fine j 0 ps → b ≡ o → places_fine k 0 qs ≡ o
+places_told : {j k : ℕ} {ps qs : List Quad} {b o : Bool} → j ≡ k → ps ≡ qs → b ≡ places_fine j 0 ps → b ≡ o
+    → places_fine k 0 qs ≡ o
 places_told e f g h = sym (g ∙ rw (e, f)) ∙ h
 
 pub returns-then-not-is_empty : goal.returns-then-not-is_empty
 unfolding answer_judgement judged_as
 returns-then-not-is_empty c =
-    rw (refused_8 c.args.variables c.args.answer.now (λ e. eqb-false _ _ (sym c.is_empty.ensures ∙ c.if-not-is_empty.true) (c.as_chunks.ensures.back_len ∙ e)))
+    rw (refused_8 c.args.variables c.args.answer.now (λ e. eqb-false _ _ (sym c.is_empty.ensures
+        ∙ c.if-not-is_empty.true) (c.as_chunks.ensures.back_len ∙ e)))
 
 pub returns-then-not-all_places : goal.returns-then-not-all_places
 unfolding answer_judgement judged_as
@@ -60,10 +62,15 @@ returns-then-places-variables c =
     (ap nodes_checked (sym (front_is _ _ q.front _ c.split_at.ensures.front)) ∙ sym c.in_ok-count.ensures) in
     let l = left_over _ _ c.split_at.ensures.back_len q.front_len in
     elim c.then-places-variables.branch [
-      then-places-variables-via-then-places-variables w ↦ rw (h.1, miscounted _ _ _ (λ e. w.if-places-variables.true (l ∙ e)))
-    | then-places-variables-via-else-places-variables+then-not-places_fine w ↦
-      rw (h.1, misplaced c.args.variables _ _ (sym l ∙ w.if-places-variables.false)
-      (places_told h.0 (back_is _ _ q.front _ c.split_at.ensures.back) w.places_fine.ensures w.if-not-places_fine.true))
+      | then-places-variables-via-then-places-variables w ↦ rw
+          (h.1, miscounted _ _ _ (λ e. w.if-places-variables.true (l ∙ e)))
+      | then-places-variables-via-else-places-variables+then-not-places_fine w ↦
+          rw (
+            h.1,
+            misplaced c.args.variables _ _ (sym l ∙ w.if-places-variables.false)
+                (places_told h.0 (back_is _ _ q.front _ c.split_at.ensures.back) w.places_fine.ensures
+                    w.if-not-places_fine.true),
+          )
     ]
 
 pub returns : goal.returns
@@ -76,5 +83,6 @@ returns c =
     let h = passed c.args.variables _ w _ k p
     (ap nodes_checked (sym (front_is _ _ q.front _ c.split_at.ensures.front)) ∙ sym c.in_ok-count.ensures) in
     let l = left_over _ _ c.split_at.ensures.back_len q.front_len in
-    let f = places_told h.0 (back_is _ _ q.front _ c.split_at.ensures.back) c.places_fine.ensures c.if-not-places_fine.false in
+    let f = places_told h.0 (back_is _ _ q.front _ c.split_at.ensures.back) c.places_fine.ensures
+        c.if-not-places_fine.false in
     ap Ok h.0 ∙ sym (ap judged_as h.1 ∙ accepted c.args.variables _ w _ k p (sym l ∙ c.if-places-variables.false) f)

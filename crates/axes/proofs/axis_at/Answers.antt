@@ -1,4 +1,4 @@
-use Rattle.std.proofs.Common.{◌≡◌, sym, ◌∙◌, rules}
+use Rattle.std.proofs.Common.{sym, ◌∙◌, rules}
 use Rattle.meaning.specs.Ascii.{ascii}
 use Rattle.meaning.specs.Paths.{to_self, to_child, to_parent, to_descendant, to_ancestor, to_descendant_or_self, to_ancestor_or_self, to_following_sibling, to_preceding_sibling, axis_text}
 use Rattle.axes.proofs.Moves.{with_d, with_a, with_p, with_f, with_c, with_s, with_none, read_one, read_two, read_none}
@@ -47,4 +47,5 @@ pub returns-in_default-clause-value : goal.returns-in_default-clause-value
 returns-in_default-clause-value c =
     let s = c.args.s.now in
     let b = c.byte_at.ensures in
-    read_none s (with_none s (λ e. search rules) (λ e. search rules) (λ e. search rules) (λ e. search rules) (λ e. search rules) (λ e. search rules))
+    read_none s (with_none s (λ e. search rules) (λ e. search rules) (λ e. search rules) (λ e. search rules)
+    (λ e. search rules) (λ e. search rules))

@@ -1,4 +1,3 @@
-use Rattle.std.proofs.Common.{rules}
 use Rattle.axes.proofs.Moves.{stripped, not_stripped}
 use Rattle.axes.proofs.named.Goals as goal
 

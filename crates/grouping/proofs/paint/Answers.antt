@@ -1,7 +1,5 @@
-use Prim.Native.Nat.{◌<◌}
 use Rattle.tables.proofs.Members.{passed_less, next_in_lem}
-use Rattle.grouping.proofs.Loops.{painting_none, painting_more, was_painted, none_painted}
-use borrow.Author.Rules.{rules}
+use Rattle.grouping.proofs.Loops.{painting_more, was_painted, none_painted}
 use Rattle.grouping.proofs.paint.Goals as goal
 
 pub returns-then-l-eq0 : goal.returns-then-l-eq0

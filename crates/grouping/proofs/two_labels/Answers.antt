@@ -1,6 +1,5 @@
-use Prim.Native.Nat.{◌<◌}
-use Rattle.tables.proofs.Members.{passed_none, passed_more, passed_less, next_in_lem, next_named}
-use Rattle.grouping.proofs.Loops.{only_one, is_two, is_one, none_two}
+use Rattle.tables.proofs.Members.{passed_more, passed_less, next_in_lem}
+use Rattle.grouping.proofs.Loops.{only_one, is_one}
 use Rattle.grouping.proofs.two_labels.Goals as goal
 
 pub bounds-t-x : goal.bounds-t-x

@@ -8,7 +8,8 @@ use borrow.Author.Rules.{rules}
 use Rattle.grouping.proofs.unify.Goals as goal
 use Rattle.grouping.proofs.unify.Goals.{After-union_rows-far}
 
-masks : (c : After-union_rows-far) → Masks c.args.f c.args.x c.args.lower c.args.upper c.when.result c.union_rows-far.result
+masks : (c : After-union_rows-far)
+    → Masks c.args.f c.args.x c.args.lower c.args.upper c.when.result c.union_rows-far.result
 masks c =
     let root : Fits w16 c.args.f.root = search (rules, c.well_formed) in
     let leaf : Fits w16 c.args.f.leaf = search (rules, c.well_formed) in
@@ -51,14 +52,14 @@ returns c =
       is_shown = c.label_of-shown.ensures;
       only = c.two_labels.ensures.one c.if-two_labels.false;
       bare = λ y. not_yes (sym c.on_document.ensures ∙ c.if-on_document.false) y;
-      below = c.raise-new_below.ensures;
-      above = c.raise-new_above.ensures;
-      child = record { half = _; first = c.raise.ensures; last = c.raise-new_child.ensures };
-      parent = record { half = _; first = c.raise-2.ensures; last = c.raise-new_parent.ensures };
-      differ = record { half = _; first = c.raise-3.ensures; last = c.raise-new_differ.ensures };
+      below = c.raise-below.ensures;
+      above = c.raise-above.ensures;
+      child = record { half = _; first = c.raise.ensures; last = c.raise-child.ensures };
+      parent = record { half = _; first = c.raise-2.ensures; last = c.raise-parent.ensures };
+      differ = record { half = _; first = c.raise-3.ensures; last = c.raise-differ.ensures };
       before = refl;
       after = refl;
       root = rw (c.gain-root.ensures, c.meet-3.ensures);
       leaf = rw (c.gain-leaf.ensures, c.meet-4.ensures);
-      label = c.paint-new_label.ensures;
+      label = c.paint-label.ensures;
     })

@@ -1,5 +1,5 @@
 -- `marker::mark` meets its contract: the equation is that of the answer's part, and the promise is the theory's of the meaning's marker.
-use mathlib.Core.Path.{sym, ◌∙◌}
+use mathlib.Core.Path.{sym}
 use native.Mathlib.Omega.{arith}
 use Rattle.theory.proofs.Promises.{marker_promise}
 use Rattle.marker.proofs.Answered.{file_refused}

@@ -11,7 +11,11 @@ use Rattle.merge.specs.Merging.{OneElement}
 use Rattle.merge.proofs.enter_same.Given as goal
 
 abbrev pub invariant-loop-x : goal.invariant-loop-x
-invariant-loop-x l = ((T : List Fact) → Pending l.fn.n.count T l.initial.x l.initial.g → Pending l.fn.n.count T l.x l.g) × (l.x ≡ 0 → OneElement l.g) × (l.x ≢ 0 → Gap l.g.below l.x × Union l.g.below l.x l.lower × Union l.g.above l.x l.upper)
+invariant-loop-x l = record {
+  pending : (T : List Fact) → Pending l.fn.n.count T l.initial.x l.initial.g → Pending l.fn.n.count T l.x l.g;
+  top : l.x ≡ 0 → OneElement l.g;
+  apart : l.x ≢ 0 → Gap l.g.below l.x × Union l.g.below l.x l.lower × Union l.g.above l.x l.upper;
+}
 
 abbrev pub decreases-loop-x : goal.decreases-loop-x
 decreases-loop-x l = lacking l.g.below

@@ -1,7 +1,6 @@
 -- `merge::next_set` meets its contract.
 use mathlib.Core.Path.{refl}
-use mathlib.Core.Logic.{inl, inr}
-use native.Mathlib.Omega.{arith}
+use mathlib.Core.Logic.{inr}
 use lib.ListN.{get_or}
 use mir.Val.{Fits}
 use mir.Syntax.{w16}

@@ -1,7 +1,6 @@
 -- `merge::with_gap` meets its contract: below chains through the lowest, and what the lowest has not both below and above it shows a gap.
 use mathlib.Core.Path.{sym, ◌∙◌}
 use Prim.Native.Nat.{◌<◌}
-use native.Mathlib.Omega.{arith}
 use Rattle.tables.proofs.Members.{lowest_in}
 use Rattle.merge.proofs.Loops.{none_apart, is_apart, not_apart}
 use Rattle.merge.proofs.with_gap.Goals as goal

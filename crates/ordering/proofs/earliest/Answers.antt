@@ -1,6 +1,13 @@
+use mathlib.Core.Logic.{◌≢◌}
+use lib.Bits.{bit_and}
+use Rattle.tables.specs.Tables.{row}
 use Rattle.tables.proofs.Members.{passed_more, passed_less, next_in_lem}
 use Rattle.ordering.proofs.InLine.{some_left, found_earliest}
 use Rattle.ordering.proofs.earliest.Goals as goal
+
+-- a member that is passed has one that goes before it
+not_free : (c : goal.After-rest-left) → bit_and c.args.row (row c.args.after c.lowest-x.result) ≢ 0
+not_free c = c.if-row-earlier-eq0.false
 
 pub bounds-after-x : goal.bounds-after-x
 bounds-after-x c =
@@ -23,6 +30,6 @@ pub loop-after-preserved : goal.loop-after-preserved
 loop-after-preserved c =
     let i = c.loop-after.invariant in
     let low = c.lowest-x.ensures in
-    let next = passed_more _ _ _ _ i.passed i.some low _ (λ j p. p) c.if-row-earlier-eq0.false in
+    let next = passed_more _ _ _ _ i.passed i.some low _ (λ j p. p) (not_free c) in
     let some = some_left _ _ _ c.ranges.row.fits c.requires.0 c.requires.1 next in
     rw (c.rest-left.ensures _ low) record { some = some; passed = next }

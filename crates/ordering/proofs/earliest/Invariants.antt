@@ -1,4 +1,4 @@
--- `ordering::earliest` meets its contract: some members are left, and each that was passed has one that goes before it.
+-- `ordering::earliest` meets its contract: some members are left, and each passed one has one that goes before it.
 use mathlib.Core.Logic.{◌≢◌}
 use lib.Bits.{bit_and}
 use Rattle.tables.specs.Tables.{row}

@@ -5,5 +5,6 @@ use Rattle.passes.proofs.chain_rows.Goals as goal
 pub loop-y-preserved : goal.loop-y-preserved
 loop-y-preserved c = (
   c.loop-x.invariant.long,
-  lifting_more _ _ _ _ (omega arith) (lifted _ _ _ _ (omega arith) c.loop-x.auto.x-end c.loop-x.invariant) c.loop-y.invariant.1,
+  lifting_more _ _ _ _ (omega arith) (lifted _ _ _ _ (omega arith) c.loop-x.auto.x-end c.loop-x.invariant)
+      c.loop-y.invariant.1,
 )

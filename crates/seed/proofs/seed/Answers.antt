@@ -11,16 +11,20 @@ pub returns-then-second_label : goal.returns-then-second_label
 returns-then-second_label c =
     let q = c.as_chunks.ensures in
     let accepts = (accepted_file c.args.file.now c.requires.0 c.requires.1).0 in
-    seeding_clash _ _ accepts (λ i. (c.type_inv.file i).fits) _ (omega (arith, q.front_len)) _ _ _ c.loop-number.invariant _ q.front
-    _ _ _ _ c.index-kind.ensures c.index-x.ensures c.index-y.ensures c.folded-name.ensures _ c.label_with-new.ensures _ c.second_label.ensures
+    seeding_clash _ _ accepts (λ i. (c.type_inv.file i).fits) _ (omega (arith, q.front_len)) _ _ _
+    c.loop-number.invariant _ q.front
+    _ _ _ _ c.index-kind.ensures c.index-x.ensures c.index-y.ensures c.folded-name.ensures _
+    c.label_with-new.ensures _ c.second_label.ensures
     c.if-second_label.true
 
 pub loop-number-preserved : goal.loop-number-preserved
 loop-number-preserved c =
     let q = c.as_chunks.ensures in
     let accepts = (accepted_file c.args.file.now c.requires.0 c.requires.1).0 in
-    seeding_step _ _ accepts (λ i. (c.type_inv.file i).fits) _ (omega (arith, q.front_len)) _ _ _ c.loop-number.invariant _ q.front
-    _ _ _ _ c.index-kind.ensures c.index-x.ensures c.index-y.ensures c.folded-name.ensures _ c.label_with-new.ensures _ c.second_label.ensures
+    seeding_step _ _ accepts (λ i. (c.type_inv.file i).fits) _ (omega (arith, q.front_len)) _ _ _
+    c.loop-number.invariant _ q.front
+    _ _ _ _ c.index-kind.ensures c.index-x.ensures c.index-y.ensures c.folded-name.ensures _
+    c.label_with-new.ensures _ c.second_label.ensures
     c.if-second_label.false _ _ c.one.ensures c.one-in-loop-number.ensures
 
 pub returns : goal.returns

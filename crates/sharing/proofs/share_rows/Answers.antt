@@ -9,7 +9,12 @@ use Rattle.sharing.proofs.Passing.{passing_none, passing_more, share_of, two_cla
 use Rattle.sharing.proofs.share_rows.Goals as goal
 
 pub loop-x-init : goal.loop-x-init
-loop-x-init c = passing_none _ _ _ record { child = search rules; parent = search rules; differ = search rules; label = search rules }
+loop-x-init c = passing_none _ _ _ record {
+  child = search rules;
+  parent = search rules;
+  differ = search rules;
+  label = search rules;
+}
 
 pub loop-ys-init : goal.loop-ys-init
 loop-ys-init c =
@@ -24,7 +29,17 @@ loop-zs-init c =
     let e = c.row-of.ensures in
     let own = next_named _ _ _ _ c.loop-ys.invariant.1 c.loop-ys-test.true c.lowest-y.ensures in
     let h : Fits w16 (slice_index_or c.args.t.differ c.lowest-y.result 0) = search rules in
-    rw e (added _ _ _ _ c.loop-ys.invariant.0 own (rw e at c.with_rows-s.ensures), passed_none _ _ (omega (arith, h.fits, and_le_l (row c.args.t.differ c.lowest-y.result) (bit_or c.args.several c.one.result))), grown_none _)
+    rw e (
+      added _ _ _ _ c.loop-ys.invariant.0 own (rw e at c.with_rows-s.ensures),
+      passed_none _ _
+          (omega (
+            arith,
+            h.fits,
+            and_le_l (row c.args.t.differ c.lowest-y.result)
+                (bit_or c.args.several c.one.result),
+          )),
+      grown_none _,
+    )
 
 pub bounds-same-z : goal.bounds-same-z
 bounds-same-z c = next_in_lem _ _ _ _ c.loop-zs.invariant.1 c.loop-zs-test.true c.lowest-z.ensures
@@ -37,37 +52,43 @@ has-requires-in-loop-zs-2 c = next_in_lem _ _ _ _ c.loop-zs.invariant.1 c.loop-z
 
 pub loop-zs-smaller : goal.loop-zs-smaller
 loop-zs-smaller c =
-    rw (c.rest-zs.ensures _ c.lowest-z.ensures) (passed_less _ _ _ _ c.loop-zs.invariant.1 c.loop-zs-test.true c.lowest-z.ensures)
+    rw (c.rest-zs.ensures _ c.lowest-z.ensures) (passed_less _ _ _ _ c.loop-zs.invariant.1 c.loop-zs-test.true
+    c.lowest-z.ensures)
 
 pub loop-zs-preserved : goal.loop-zs-preserved
 loop-zs-preserved c =
     let e = c.row-of.ensures in
     let own = next_named _ _ _ _ c.loop-ys.invariant.1 c.loop-ys-test.true c.lowest-y.ensures in
     rw (c.rest-zs.ensures _ c.lowest-z.ensures)
-    (z_step _ _ _ _ _ _ _ _ _ _ _ _ _ c.loop-zs.invariant own c.loop-zs-test.true c.lowest-z.ensures (sym c.has.ensures ∙ c.if-has.false)
+    (z_step _ _ _ _ _ _ _ _ _ _ _ _ _ c.loop-zs.invariant own c.loop-zs-test.true c.lowest-z.ensures
+    (sym c.has.ensures ∙ c.if-has.false)
     (rw e at c.has-in-loop-zs.ensures) (rw e at c.has-in-loop-zs-2.ensures) c.with_group-s.ensures)
 
 pub loop-ys-smaller : goal.loop-ys-smaller
 loop-ys-smaller c =
-    rw (c.rest-ys.ensures _ c.lowest-y.ensures) (passed_less _ _ _ _ c.loop-ys.invariant.1 c.loop-ys-test.true c.lowest-y.ensures)
+    rw (c.rest-ys.ensures _ c.lowest-y.ensures) (passed_less _ _ _ _ c.loop-ys.invariant.1 c.loop-ys-test.true
+    c.lowest-y.ensures)
 
 pub loop-ys-preserved : goal.loop-ys-preserved
 loop-ys-preserved c =
     let e = c.row-of.ensures in
     rw (c.rest-ys.ensures _ c.lowest-y.ensures)
-    (y_step _ _ _ _ _ _ _ _ _ _ _ c.loop-ys.invariant c.loop-ys-test.true c.lowest-y.ensures (rw (e, c.if-clashes.false) at c.clashes.ensures)
+    (y_step _ _ _ _ _ _ _ _ _ _ _ c.loop-ys.invariant c.loop-ys-test.true c.lowest-y.ensures
+    (rw (e, c.if-clashes.false) at c.clashes.ensures)
     (rw e at c.with_rows-s.ensures) c.loop-zs-test.false c.loop-zs.invariant)
 
 pub loop-x-preserved : goal.loop-x-preserved
 loop-x-preserved c =
     rw c.set.ensures (passing_more _ _ _ _ _ _ (omega arith) c.loop-x.invariant
-    (share_of _ _ _ _ _ _ _ c.loop-ys-test.false c.loop-ys.invariant.0 (ap (bit_or c.args.several) c.one.ensures) c.loop-ys.invariant.1))
+    (share_of _ _ _ _ _ _ _ c.loop-ys-test.false c.loop-ys.invariant.0 (ap (bit_or c.args.several) c.one.ensures)
+    c.loop-ys.invariant.1))
 
 pub returns-then-clashes : goal.returns-then-clashes
 returns-then-clashes c =
     let e = c.row-of.ensures in
     let own = next_named _ _ _ _ c.loop-ys.invariant.1 c.loop-ys-test.true c.lowest-y.ensures in
-    two_clash _ _ c.args.several _ _ _ _ c.loop-x-test.true c.loop-ys.invariant.0 own (rw (e, c.if-clashes.true) at c.clashes.ensures)
+    two_clash _ _ c.args.several _ _ _ _ c.loop-x-test.true c.loop-ys.invariant.0 own
+    (rw (e, c.if-clashes.true) at c.clashes.ensures)
 
 pub returns-then-has : goal.returns-then-has
 returns-then-has c =

@@ -1,6 +1,6 @@
 -- `siblings::pass_on` meets its contract: with no sibling all is as it was.
 use mathlib.Core.Path.{refl}
-use mathlib.Core.Logic.{inl, inr}
+use mathlib.Core.Logic.{inl}
 use Rattle.siblings.proofs.Loops.{none_spread, none_turned}
 use Rattle.siblings.proofs.pass_on.Goals as goal
 

@@ -19,7 +19,8 @@ decreases-steps l = 4 * length l.s.now + 2
 abbrev pub invariant-brackets-loop-left : goal.invariant-brackets-loop-left
 invariant-brackets-loop-left l =
     (length l.left ≤ length l.s)
-    × ((r : Option (List ℕ)) (c : Bytes) → BracketsRead l.left l.y (plain l.sheet) r c → BracketsRead l.s l.y (plain l.initial.sheet) r c)
+    × ((r : Option (List ℕ)) (c : Bytes) → BracketsRead l.left l.y (plain l.sheet) r c → BracketsRead l.s l.y
+    (plain l.initial.sheet) r c)
 
 abbrev pub decreases-brackets-loop-left : goal.decreases-brackets-loop-left
 decreases-brackets-loop-left l = length l.left
@@ -27,7 +28,8 @@ decreases-brackets-loop-left l = length l.left
 abbrev pub invariant-steps-loop-rest : goal.invariant-steps-loop-rest
 invariant-steps-loop-rest l =
     (length l.left ≤ length l.s)
-    × ((r : Option (List ℕ)) (c : Bytes) → StepsRead l.left l.from (plain l.sheet) r c → StepsRead l.s l.x (plain l.initial.sheet) r c)
+    × ((r : Option (List ℕ)) (c : Bytes) → StepsRead l.left l.from (plain l.sheet) r c → StepsRead l.s l.x
+    (plain l.initial.sheet) r c)
 
 abbrev pub decreases-steps-loop-rest : goal.decreases-steps-loop-rest
 decreases-steps-loop-rest l = length l.left

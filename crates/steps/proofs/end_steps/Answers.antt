@@ -19,7 +19,8 @@ returns-in_err-rest-clause-end_read c =
     let p = c.put_move in
     let q = plain c.brackets.new.sheet in
     rw c.from_residual-in_err-rest.ensures (l.invariant.1 _ q
-    (end_bad l.left.now l.from (plain l.sheet) m.axis m.test m.tested m.ensures.value m.ensures.shorter n.result (plain n.new.sheet) (plain p.new.self)
+    (end_bad l.left.now l.from (plain l.sheet) m.axis m.test m.tested m.ensures.value m.ensures.shorter n.result
+    (plain n.new.sheet) (plain p.new.self)
     p.ensures q c.in_err-rest.ensures.brackets_read (goes_on 0 m.tested.now) n.ensures.value n.ensures.wrote))
 
 pub returns-in_default-clause-end_read : goal.returns-in_default-clause-end_read
@@ -31,7 +32,8 @@ returns-in_default-clause-end_read c =
     let q = plain c.brackets.new.sheet in
     let r = c.in_ok-rest in
     l.invariant.1 _ q
-    (end_one l.left.now l.from (plain l.sheet) m.axis m.test m.tested m.ensures.value m.ensures.shorter n.result (plain n.new.sheet) (plain p.new.self)
+    (end_one l.left.now l.from (plain l.sheet) m.axis m.test m.tested m.ensures.value m.ensures.shorter n.result
+    (plain n.new.sheet) (plain p.new.self)
     p.ensures q r.rest.now r.ensures.brackets_read (goes_on 0 m.tested.now) refl n.ensures.value n.ensures.wrote
     (past r.rest.now 47 (lit< tt) (λ h d. search rules)))
 
@@ -47,6 +49,8 @@ loop-axis-preserved c =
     let w = ap length d in (
       omega (arith, w, r.ensures.no_longer, m.ensures.shorter, l.invariant.0),
       λ a t h. l.invariant.1 a t
-          (end_more l.left.now l.from (plain l.sheet) m.axis m.test m.tested m.ensures.value m.ensures.shorter n.result (plain n.new.sheet) (plain p.new.self)
-          p.ensures q r.rest.now r.ensures.brackets_read (goes_on 0 m.tested.now) refl n.ensures.value n.ensures.wrote _ a t d r.ensures.no_longer h),
+          (end_more l.left.now l.from (plain l.sheet) m.axis m.test m.tested m.ensures.value m.ensures.shorter n.result
+          (plain n.new.sheet) (plain p.new.self)
+          p.ensures q r.rest.now r.ensures.brackets_read (goes_on 0 m.tested.now) refl n.ensures.value n.ensures.wrote
+          _ a t d r.ensures.no_longer h),
     )

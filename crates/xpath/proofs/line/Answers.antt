@@ -10,7 +10,8 @@ returns-in_default-clause-line_read c =
     let a = c.args in
     let n = c.number-x in
     let q = c.end_steps in
-    line_here a.s.now (plain a.sheet.now) n.result (plain n.new.self) _ (plain q.new.sheet) n.ensures.value n.ensures.wrote
+    line_here a.s.now (plain a.sheet.now) n.result (plain n.new.self) _
+    (plain q.new.sheet) n.ensures.value n.ensures.wrote
     (past a.s.now 47 (lit< tt) (λ h d. search rules)) q.ensures.end_read
 
 pub returns-then-is_small-clause-line_read : goal.returns-then-is_small-clause-line_read
@@ -20,7 +21,8 @@ returns-then-is_small-clause-line_read c =
     let w = c.rooted-root in
     let n = sym (ap is_small c.byte_at.ensures) ∙ sym c.if-is_small.ensures in
     let q = c.end_steps-then-is_small in
-    line_root a.s.now (plain a.sheet.now) _ e a.sheet.now.some w.result (plain w.new.self) w.ensures.value w.ensures.wrote _ (plain q.new.sheet) n
+    line_root a.s.now (plain a.sheet.now) _ e a.sheet.now.some w.result
+    (plain w.new.self) w.ensures.value w.ensures.wrote _ (plain q.new.sheet) n
     q.ensures.end_read
 
 pub returns-clause-line_read : goal.returns-clause-line_read
@@ -30,4 +32,5 @@ returns-clause-line_read c =
     let w = c.rooted-root in
     let n = sym (ap is_small c.byte_at.ensures) ∙ sym c.if-is_small.ensures in
     let p = c.put in
-    line_alone a.s.now (plain a.sheet.now) _ e a.sheet.now.some w.result (plain w.new.self) w.ensures.value w.ensures.wrote (plain p.new.self) n p.ensures
+    line_alone a.s.now (plain a.sheet.now) _ e a.sheet.now.some w.result
+    (plain w.new.self) w.ensures.value w.ensures.wrote (plain p.new.self) n p.ensures

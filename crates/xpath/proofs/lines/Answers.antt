@@ -1,4 +1,4 @@
-use Rattle.std.proofs.Common.{rules, ◌≡◌, sym, ap, ◌∙◌, Some, Ok, Err, ℕ, ◌+◌, ◌-◌, length, arith, lit<}
+use Rattle.std.proofs.Common.{rules, sym, ◌∙◌, Ok, Err, ◌+◌, ◌-◌, arith, lit<}
 use Rattle.std.proofs.lemmas.Bool.{false≢true}
 use Rattle.meaning.proofs.Tests.{is_eq, eq_yes}
 use Rattle.questions.specs.declared.Question.TheVariants.{PathsForm}
@@ -19,7 +19,8 @@ returns-in_default c =
     let n = plain c.line.new.sheet in
     let j = c.loop-test.true in
     l.invariant.1 (Err PathsForm) n
-    (lines_none l.left.now (plain l.sheet) (λ h. false≢true (c.if-is_empty.ensures ∙ eq_yes h)) n c.in_default.ensures.line_read (c.args.n - l.counter) (omega (arith, j)))
+    (lines_none l.left.now (plain l.sheet) (λ h. false≢true (c.if-is_empty.ensures ∙ eq_yes h)) n
+    c.in_default.ensures.line_read (c.args.n - l.counter) (omega (arith, j)))
 
 pub returns-in_default-rest : goal.returns-in_default-rest
 returns-in_default-rest c =
@@ -29,7 +30,8 @@ returns-in_default-rest c =
     let q = c.in-Some in
     let k = c.in_default-rest.len_below in
     l.invariant.1 (Err PathsForm) n
-    (lines_open l.left.now (plain l.sheet) (λ h. false≢true (c.if-is_empty.ensures ∙ eq_yes h)) q.rest.now n q.ensures.line_read
+    (lines_open l.left.now (plain l.sheet) (λ h. false≢true (c.if-is_empty.ensures ∙ eq_yes h)) q.rest.now n
+    q.ensures.line_read
     (past q.rest.now 10 (lit< tt) (λ h d. omega (arith, h, k))) (c.args.n - l.counter) (omega (arith, j)))
 
 pub returns-in_default-rest-2 : goal.returns-in_default-rest-2
@@ -39,7 +41,8 @@ returns-in_default-rest-2 c =
     let j = c.loop-test.true in
     let q = c.in-Some in
     l.invariant.1 (Err PathsForm) n
-    (lines_open l.left.now (plain l.sheet) (λ h. false≢true (c.if-is_empty.ensures ∙ eq_yes h)) q.rest.now n q.ensures.line_read
+    (lines_open l.left.now (plain l.sheet) (λ h. false≢true (c.if-is_empty.ensures ∙ eq_yes h)) q.rest.now n
+    q.ensures.line_read
     (past q.rest.now 10 (lit< tt) (λ h d. search rules)) (c.args.n - l.counter) (omega (arith, j)))
 
 pub loop-preserved : goal.loop-preserved
@@ -51,7 +54,8 @@ loop-preserved c =
     let d = begins q.rest.now 10 c.in-10.len_at_least (search rules) in (
       omega (arith, j),
       λ r t h. l.invariant.1 r t
-          (lines_more l.left.now (plain l.sheet) (λ h. false≢true (c.if-is_empty.ensures ∙ eq_yes h)) q.rest.now n q.ensures.line_read
+          (lines_more l.left.now (plain l.sheet) (λ h. false≢true (c.if-is_empty.ensures ∙ eq_yes h)) q.rest.now n
+          q.ensures.line_read
           (c.args.n - l.counter) (c.args.n - (l.counter + 1)) (omega (arith, j)) _ r t d h),
     )
 
@@ -67,4 +71,5 @@ returns-else-is_empty-2 c =
     let b = plain l.sheet in
     let j = c.loop-test.false in
     l.invariant.1 (Err PathsForm) b
-    (lines_over l.left.now b (λ h. false≢true (c.if-is_empty-2.ensures ∙ eq_yes h)) (c.args.n - l.counter) (omega (arith, j)))
+    (lines_over l.left.now b (λ h. false≢true (c.if-is_empty-2.ensures ∙ eq_yes h)) (c.args.n - l.counter)
+    (omega (arith, j)))

@@ -1,4 +1,4 @@
-use Rattle.std.proofs.Common.{ℕ, ◌-◌, ◌≤◌, Result}
+use Rattle.std.proofs.Common.{◌-◌, ◌≤◌, Result}
 use Rattle.questions.specs.declared.Question.{Question}
 use Rattle.sheet.specs.Bytes.{Bytes, plain}
 use Rattle.xpath.specs.Reading.{LinesRead}

@@ -1,4 +1,4 @@
-use Rattle.std.proofs.Common.{◌≡◌, sym, ap, ◌∙◌, length, arith}
+use Rattle.std.proofs.Common.{◌≡◌, sym, ◌∙◌, length, arith}
 use Rattle.std.proofs.lemmas.Result.{err_from_is_err_and}
 use Rattle.std.proofs.lemmas.Bool.{false≢true}
 use Rattle.meaning.proofs.Tests.{is_eq, eq_yes}
@@ -32,7 +32,8 @@ returns-in_err-lines c =
     let l = c.if-records-lt-BUFFER.false in
     let some = λ (h : length a.text.now ≡ 0). false≢true (c.if-is_empty.ensures ∙ eq_yes h) in
     let e = c.in_err-lines in
-    let h = bad_answer a.text.now a.records.now l c.if-text-gt-TEXT.false some (plain c.new-sheet.result) c.new-sheet.ensures (plain c.lines.new.sheet) e.field-0.0 e.ensures in
+    let h = bad_answer a.text.now a.records.now l c.if-text-gt-TEXT.false some
+    (plain c.new-sheet.result) c.new-sheet.ensures (plain c.lines.new.sheet) e.field-0.0 e.ensures in
     let p = err_from_is_err_and c.from_residual.result c.from_residual.ensures.1 in
     record { answer_of = rw (p.1, p.2) h.0; wrote = h.1 }
 
@@ -43,7 +44,9 @@ returns-then-variables-gt-VARIABLES c =
     let some = λ (h : length a.text.now ≡ 0). false≢true (c.if-is_empty.ensures ∙ eq_yes h) in
     let m = c.if-variables-gt-VARIABLES.true in
     let n = c.variables.ensures in
-    let h = many_answer a.text.now a.records.now l c.if-text-gt-TEXT.false some (plain c.new-sheet.result) c.new-sheet.ensures (plain c.lines.new.sheet) c.in_ok-lines.ensures (omega (arith, m, n)) in
+    let h = many_answer a.text.now a.records.now l c.if-text-gt-TEXT.false some
+    (plain c.new-sheet.result) c.new-sheet.ensures (plain c.lines.new.sheet) c.in_ok-lines.ensures
+    (omega (arith, m, n)) in
     record { answer_of = h.0; wrote = h.1 }
 
 pub returns : goal.returns
@@ -53,5 +56,7 @@ returns c =
     let some = λ (h : length a.text.now ≡ 0). false≢true (c.if-is_empty.ensures ∙ eq_yes h) in
     let m = c.if-variables-gt-VARIABLES.false in
     let n = c.variables.ensures in
-    let h = written_answer a.text.now a.records.now l c.if-text-gt-TEXT.false some (plain c.new-sheet.result) c.new-sheet.ensures (plain c.lines.new.sheet) c.in_ok-lines.ensures (omega (arith, m, n)) c.bytes.ensures c.put.ensures in
+    let h = written_answer a.text.now a.records.now l c.if-text-gt-TEXT.false some
+    (plain c.new-sheet.result) c.new-sheet.ensures (plain c.lines.new.sheet) c.in_ok-lines.ensures
+    (omega (arith, m, n)) c.bytes.ensures c.put.ensures in
     record { answer_of = h.0; wrote = h.1 }

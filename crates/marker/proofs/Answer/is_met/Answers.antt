@@ -24,7 +24,8 @@ module _ {tree places : List ℕ} (constraint : Record) (p : Placed tree places 
   x_inside x e = omega (arith, e, p.placed constraint.x.0 (x_named constraint))
 
   pub y_inside : (y : ℕ) → y ≡ places_in places constraint.y.0 → (k : Kind) → constraint.kind ≡ k
-      → constraint.y.0 < named (constraint_as k constraint.x.0 constraint.y.0 constraint.label) → y < (tree_in tree).size
+      → constraint.y.0 < named (constraint_as k constraint.x.0 constraint.y.0 constraint.label) → y <
+          (tree_in tree).size
   y_inside y at_y k e h = omega (arith, at_y, p.placed constraint.y.0 (y_named constraint k e h))
 
 pub is_parent-requires : goal.is_parent-requires
@@ -42,7 +43,8 @@ pub at_or_above-requires-then-ne : goal.at_or_above-requires-then-ne
 unfolding named constraint_as
 at_or_above-requires-then-ne c = record {
   upper_bound = x_inside c.args.constraint c.requires _ c.node_of-x.ensures;
-  lower_bound = y_inside c.args.constraint c.requires _ c.node_of-y.ensures StrictlyBelow c.in-StrictlyBelow.is (omega arith);
+  lower_bound =
+      y_inside c.args.constraint c.requires _ c.node_of-y.ensures StrictlyBelow c.in-StrictlyBelow.is (omega arith);
 }
 
 pub has-requires : goal.has-requires
@@ -84,7 +86,8 @@ returns-in-Same c = rw (c.in-Same.is, ← c.node_of-x.ensures, ← c.node_of-y.e
 
 pub returns-in-Differ : goal.returns-in-Differ
 unfolding meetsb constraint_of constraint_as
-returns-in-Differ c = rw (c.in-Differ.is, ← c.node_of-x.ensures, ← c.node_of-y.ensures) (c.ne-in-Differ.ensures ∙ not_neg _)
+returns-in-Differ c =
+    rw (c.in-Differ.is, ← c.node_of-x.ensures, ← c.node_of-y.ensures) (c.ne-in-Differ.ensures ∙ not_neg _)
 
 pub returns-in-Root : goal.returns-in-Root
 unfolding meetsb constraint_of constraint_as
@@ -92,7 +95,8 @@ returns-in-Root c = rw (c.in-Root.is, ← c.node_of-x.ensures) refl
 
 pub returns-in-Leaf : goal.returns-in-Leaf
 unfolding meetsb constraint_of constraint_as
-returns-in-Leaf c = rw (c.in-Leaf.is, ← c.node_of-x.ensures) (ap not (c.has.ensures ∙ c.args.self.now.with_child _) ∙ not_neg _)
+returns-in-Leaf c =
+    rw (c.in-Leaf.is, ← c.node_of-x.ensures) (ap not (c.has.ensures ∙ c.args.self.now.with_child _) ∙ not_neg _)
 
 pub returns-in-Label : goal.returns-in-Label
 unfolding meetsb constraint_of constraint_as

@@ -12,7 +12,8 @@ use Rattle.marker.proofs.Sets.{above_first, above_more, set_more}
 use Rattle.marker.proofs.Tree.ancestor_sets.Goals as goal
 
 -- the parent of the node at hand has a smaller number
-parent_smaller : (tree : List ℕ) → IsTree (tree_in tree) → (i : ℕ) → 1 ≤ i → i < length tree / 4 → (p : ℕ) → p ≡ (tree_in tree).parent i → p < i
+parent_smaller : (tree : List ℕ) → IsTree (tree_in tree) → (i : ℕ) → 1 ≤ i → i < length tree / 4 → (p : ℕ)
+    → p ≡ (tree_in tree).parent i → p < i
 unfolding tree_in
 parent_smaller tree w i one l p e = omega (arith, e, w.smaller i one l)
 
@@ -48,7 +49,8 @@ loop-i-preserved c =
       λ u. set_more (λ v a. bit a u ≡ is_above (tree_in c.args.self.now.records.now) u v) l.above l.i c.with.result
           (omega arith) (λ v h. l.invariant.1 u v h)
           (rw c.with.ensures (above_more _ w u l.i l.auto.i c.loop-i-test.true _
-          (rw (← c.parent-parent.ensures) (l.invariant.1 u _ (parent_smaller _ w _ l.auto.i c.loop-i-test.true _ c.parent-parent.ensures))))),
+          (rw (← c.parent-parent.ensures) (l.invariant.1 u _
+              (parent_smaller _ w _ l.auto.i c.loop-i-test.true _ c.parent-parent.ensures))))),
     )
 
 pub returns : goal.returns

@@ -9,4 +9,5 @@ use Rattle.answers.specs.Tree.{tree_in}
 use Rattle.marker.proofs.Tree.ancestor_sets.Given as goal
 
 abbrev pub invariant-loop-i : goal.invariant-loop-i
-invariant-loop-i l = (length l.above ≡ 64) × ((u v : Node) → v < l.i → bit (get_or l.above v 0) u ≡ is_above (tree_in l.self.records.now) u v)
+invariant-loop-i l = (length l.above ≡ 64) × ((u v : Node) → v < l.i → bit (get_or l.above v 0) u ≡ is_above
+    (tree_in l.self.records.now) u v)

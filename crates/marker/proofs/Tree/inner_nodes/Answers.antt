@@ -1,5 +1,5 @@
 use mathlib.Core.Path.{◌≡◌, ap, ◌∙◌}
-use Prim.Native.Nat.{ℕ, ◌<◌}
+use Prim.Native.Nat.{ℕ}
 use native.Mathlib.Omega.{arith}
 use Rattle.meaning.specs.Finite.{anyb}
 use Rattle.theory.specs.Check.{is_parent}
@@ -25,7 +25,8 @@ pub loop-i-preserved : goal.loop-i-preserved
 unfolding tree_in
 loop-i-preserved c = λ u.
     let l = c.loop-i in
-    rw (c.with-inner.ensures, c.parent.ensures) (inner_more _ c.args.self.now.is_tree u l.i l.auto.i c.loop-i-test.true _ (l.invariant u))
+    rw (c.with-inner.ensures, c.parent.ensures) (inner_more _ c.args.self.now.is_tree u l.i l.auto.i
+        c.loop-i-test.true _ (l.invariant u))
 
 pub returns : goal.returns
 unfolding tree_in

@@ -12,4 +12,5 @@ unfolding is_lowest
 returns c =
     let a = c.args.self.now in
     let e : c.loop-x.x ≡ a.n.count = search rules in
-    gather_except (is_low a.below a.above) _ c.loop-x.a c.args.root _ a.n.few c.except.ensures (rw (← e) c.loop-x.invariant)
+    gather_except (is_low a.below a.above) _ c.loop-x.a c.args.root _ a.n.few c.except.ensures
+    (rw (← e) c.loop-x.invariant)

@@ -34,4 +34,5 @@ loop-x-preserved c =
     let placed = place_led p.ancestry.below p.ancestry.above _ _ _ _ c.requires c.places-at.ensures in
     let at = placed _ _ c.loop-x-test.true out c.lowest-low.ensures in
     let node = c.node_at.ensures ∙ ap (numbered (one p.front.element)) at ∙ pick_off _ _ _ (yes_not out) in
-    (search rules, assigned_more c.loop-x.nodes c.loop-x.x _ (node_for p c.args.root) (search rules) node c.loop-x.invariant.1)
+    let more = assigned_more c.loop-x.nodes c.loop-x.x _ (node_for p c.args.root) (search rules) node in
+    (search rules, more c.loop-x.invariant.1)

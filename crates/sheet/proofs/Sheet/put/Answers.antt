@@ -13,4 +13,5 @@ returns-then-self-le-ROOM c =
     put_more (plain b) a.kind a.x a.y a.label c.put-self.new.out c.put-self.result stored p.end c.if-self-le-ROOM.true
 
 pub returns-else-self-le-ROOM : goal.returns-else-self-le-ROOM
-returns-else-self-le-ROOM c = let a = c.args in put_full (plain a.self.now) a.kind a.x a.y a.label c.if-self-le-ROOM.false
+returns-else-self-le-ROOM c =
+    let a = c.args in put_full (plain a.self.now) a.kind a.x a.y a.label c.if-self-le-ROOM.false

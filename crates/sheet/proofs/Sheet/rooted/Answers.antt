@@ -13,4 +13,5 @@ returns-clause-value c =
 pub returns-clause-wrote : goal.returns-clause-wrote
 returns-clause-wrote c =
     let n = c.number-root in
-    root_new (plain c.args.self.now) n.result (plain n.new.self) (plain c.put.new.self) c.put.ensures c.in_default.is n.ensures.value n.ensures.wrote
+    root_new (plain c.args.self.now) n.result (plain n.new.self) (plain c.put.new.self) c.put.ensures c.in_default.is
+    n.ensures.value n.ensures.wrote
