@@ -18,9 +18,8 @@ use Rattle.theory.proofs.Steps.{EndsAs, search_clash, search_solved, search_firs
 use Rattle.tables.specs.Tables.{has, Ready}
 use Rattle.tables.specs.declared.Facts.{Facts}
 use Rattle.enter.specs.Entered.{EnteredOf}
-use Rattle.search.specs.Searching.{facts, Enters, Alternatives, StepOf, Line, without_tree, TreeRows, Reports, Report}
+use Rattle.search.specs.Searching.{facts, Enters, Alternatives, Line, without_tree, TreeRows, Reports, Report}
 use Rattle.search.specs.declared.Below.{Below}
-use Rattle.search.specs.declared.Split.{Split}
 use Rattle.search.specs.declared.Shown.{Shown}
 use Rattle.search.specs.declared.End.TheVariants.{Tree, None, Spent}
 use Rattle.search.specs.declared.Searched.{Searched}
