@@ -1,7 +1,7 @@
 -- What the loops over the labels know after some rows: the labels of the rows named compared or painted; and what is spread over rows.
-use mathlib.Core.Path.{◌≡◌, refl, sym, ◌∙◌, subst}
+use mathlib.Core.Path.{◌≡◌, sym, ◌∙◌, subst}
 use mathlib.Core.Logic.{◌≢◌, inl, inr, ⊎_elim}
-use mathlib.Core.Bool.{true, false, false≢true, ◌&&◌, not}
+use mathlib.Core.Bool.{false, false≢true, ◌&&◌, not}
 use mathlib.Core.List.{List}
 use Prim.Native.Nat.{ℕ, ◌^◌, ◌<◌}
 use native.Mathlib.Decide.{ℕ_discrete}
@@ -13,10 +13,10 @@ use Rattle.meaning.proofs.Tests.{yes_case, clash, is_eq, eq_yes, pick_yes, pick_
 use Rattle.rowbits.specs.Bit.{bit}
 use Rattle.tables.specs.Tables.{row}
 use Rattle.tables.specs.Rows.{without, Lowest, LabelOf, Raised}
-use Rattle.tables.proofs.Members.{Passed, passed_none, next_in_lem, next_named, passed_more, passed_all}
+use Rattle.tables.proofs.Members.{Passed, next_in_lem, next_named, passed_more, passed_all}
 use Rattle.tables.proofs.Rises.{Rises, rises, raised_out, raised_keeps, raised_has}
 use Rattle.grouping.specs.Rows.{TwoLabels, Painted, Spread}
-use Rattle.tables.proofs.Tested.{and_yes, yes_and, not_eq, eq_not}
+use Rattle.tables.proofs.Tested.{yes_and, eq_not}
 
 -- ---- labels
 
@@ -26,14 +26,8 @@ Only t l i = row t i ≢ 0 → row t i ≡ l
 pub only_one : (t : List ℕ) (l x : ℕ) → (not (eqb (row t x) 0) && not (eqb (row t x) l)) ≡ false → Only t l x
 only_one t l x e n = ⊎_elim is_eq (λ d. absurd (not_yes e (yes_and _ _ (eq_not (row t x) 0 n) (eq_not (row t x) l (λ b. clash (eq_yes b) d))))) (yes_case (eqb (row t x) l))
 
-pub is_two : (t : List ℕ) (rows l x : ℕ) → Yes (bit rows x) → Yes (not (eqb (row t x) 0) && not (eqb (row t x) l)) → TwoLabels t rows l true
-is_two t rows l x u y = let w = and_yes _ _ y in record { two = λ _. (x, u, not_eq _ _ w.0, not_eq _ _ w.1); one = λ e. absurd (false≢true (sym e)) }
-
 pub is_one : (t : List ℕ) (rows l rest : ℕ) → Passed (Only t l) rows rest → rest ≡ 0 → TwoLabels t rows l false
 is_one t rows l rest w z = record { two = λ e. absurd (false≢true e); one = λ _. passed_all _ rows rest w z }
-
-pub none_two : (t : List ℕ) (rows l : ℕ) → LabelOf t rows l → l ≡ 0 → TwoLabels t rows l false
-none_two t rows l o z = record { two = λ e. absurd (false≢true e); one = λ _ i u n. absurd (n (o.none z i u)) }
 
 pub none_painted : (t : List ℕ) (rows l : ℕ) → LabelOf t rows l → l ≡ 0 → Painted t rows l t
 none_painted t rows l o z = record {
@@ -46,9 +40,6 @@ pub record Painting (t : List ℕ) (rows l : ℕ) (a : List ℕ) (rest : ℕ) : 
   pub long : length a ≡ 16
   pub passed : Passed (λ i. row a i ≡ l) rows rest
   pub kept : (i : ℕ) → ¬ Yes (bit rows i) → row a i ≡ row t i
-
-pub painting_none : (t : List ℕ) (rows l : ℕ) → length t ≡ 16 → rows < 65536 → Painting t rows l t rows
-painting_none t rows l long small = record { long = long; passed = passed_none _ rows small; kept = λ i n. refl }
 
 pub painting_more : (t : List ℕ) (rows l : ℕ) (a : List ℕ) (rest x : ℕ) → Painting t rows l a rest → rest ≢ 0 → Lowest rest x
     → Painting t rows l (set a x l) (without rest (2 ^ x))

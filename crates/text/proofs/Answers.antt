@@ -1,9 +1,9 @@
 -- The text of the code's verdict is that of the answer that is promised.
-use mathlib.Core.Path.{◌≡◌, refl, ap, subst, ◌∙◌}
+use mathlib.Core.Path.{◌≡◌, refl, ap, subst}
 use mathlib.Core.List.{List}
 use Prim.Native.Nat.{ℕ, ◌≤◌}
 use native.Mathlib.Omega.{arith}
-use lib.ListN.{length, take}
+use lib.ListN.{take}
 use lib.Seq.{take-append_seam}
 use Rattle.meaning.specs.Demand.{a_tree, a_none, a_spent}
 use Rattle.meaning.specs.Results.{Solved, solver_refuses, solver_answers, written}

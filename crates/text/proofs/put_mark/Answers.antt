@@ -1,7 +1,7 @@
 -- Verdict by verdict. An unmet one is a word, a position, and the name of a kind.
-use Rattle.std.proofs.Common.{arith, sym, ap, ◌++◌, List, ℕ, length}
+use Rattle.std.proofs.Common.{arith, sym, ap, length}
 use Rattle.meaning.specs.Ascii.{ascii}
-use Rattle.meaning.specs.Text.{decimal, numbered, marked_text}
+use Rattle.meaning.specs.Text.{marked_text}
 use Rattle.marker.specs.Verdict.{marked_of}
 use Rattle.lent.proofs.Stores.{put_same, put_then}
 use Rattle.putting.proofs.Numbers.{position_digits}

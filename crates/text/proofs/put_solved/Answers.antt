@@ -1,11 +1,10 @@
 -- Verdict by verdict.
-use Rattle.std.proofs.Common.{◌≤◌, arith, length-append, sym, ap, rules, List, ℕ, take, length}
+use Rattle.std.proofs.Common.{◌≤◌, arith, length-append, sym, ap, rules}
 use Rattle.std.proofs.Math.Seq.{length-take-le}
 use Rattle.meaning.specs.Ascii.{ascii}
 use Rattle.meaning.specs.Text.{decimal, numbered, solved_text}
-use Rattle.lent.proofs.Stores.{put_same, put_then}
+use Rattle.lent.proofs.Stores.{put_then}
 use Rattle.putting.proofs.Numbers.{count_digits}
-use Rattle.solver.specs.declared.Verdict.{Verdict}
 use Rattle.text.specs.Verdicts.{bytes_of, solver_text}
 use Rattle.text.proofs.Tellings.{text_put}
 use Rattle.text.proofs.put_solved.Goals as goal
@@ -37,4 +36,4 @@ returns-in-Spent-clause-put c = text_put c.args.answer.now (sym c.in-Spent.is) c
 
 pub returns-in-Refused-clause-put : goal.returns-in-Refused-clause-put
 unfolding solved_text solver_text
-returns-in-Refused-clause-put c = text_put c.args.answer.now (sym c.in-Refused.is) c.refused.ensures.put
+returns-in-Refused-clause-put c = text_put c.args.answer.now (sym c.in-Refused.is) (search rules)
