@@ -228,6 +228,14 @@ impl Front {
         requires { numbered (one self.element) place < 256 }
         ensures { result.0 ≡ numbered (one self.element) place }
     {
-        Node((1 + self.element as usize + place) as u8)
+        node_at(self.element as u8, place)
     }
+}
+
+// The node of the group at a place of the order, behind the document node and so many blank elements.
+pub fn node_at(element: u8, place: usize) -> Node
+    requires { numbered element place < 256 }
+    ensures { result.0 ≡ numbered element place }
+{
+    Node((1 + element as usize + place) as u8)
 }
