@@ -104,7 +104,7 @@ byte_of (suc n) bs (suc i) j h l =
 
 module _ (file : List ℕ) (rs : List (List ℕ)) (short : length file ≤ 1024) (whole : Whole file)
     (cut : rs ≡ first_chunks 4 (length file / 4) file) (many : length rs ≡ length file / 4) (i : ℕ)
-        (h : i < length rs) where
+    (h : i < length rs) where
   abbrev byte : ℕ → ℕ
   byte j = get_or (get_or rs i []) j 0
 
@@ -114,8 +114,13 @@ module _ (file : List ℕ) (rs : List (List ℕ)) (short : length file ≤ 1024)
 
   is_here : judge_record (byte 0) (byte 1) (byte 2) (byte 3) ≡ here file (i * 4)
   is_here =
-      rw (byte_is 0 (omega arith), byte_is 1 (omega arith), byte_is 2 (omega arith), byte_is 3 (omega arith),
-      add-zero)
+      rw (
+        byte_is 0 (omega arith),
+        byte_is 1 (omega arith),
+        byte_is 2 (omega arith),
+        byte_is 3 (omega arith),
+        add-zero,
+      )
 
   -- the record at i is refused
   pub refused_record : {highest q : ℕ} → Keeps file (i * 4) highest

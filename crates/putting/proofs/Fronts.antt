@@ -27,7 +27,8 @@ put_front {l} {m} {r} {t} p =
     }
 
 -- what is put on a new page stands at the front of its buffer
-pub first_put : (p q : Page) {buffer text last : List ℕ} {n : ℕ} → p.out.now ≡ buffer → p.at ≡ 0 → n ≡ q.at → last ≡ q.out.now → Puts p text q → Put buffer 0 text n last
+pub first_put : (p q : Page) {buffer text last : List ℕ} {n : ℕ} → p.out.now ≡ buffer → p.at ≡ 0 → n ≡ q.at → last ≡
+    q.out.now → Puts p text q → Put buffer 0 text n last
 first_put p q whole blank written end h = rw (← whole, written, end, ← blank) h
 
 -- its bytes can be lent
@@ -40,7 +41,8 @@ front_counts {t} {l} {m} {r} w =
 
 -- ---- a buffer that was filled
 
-pub written_shown : {n : ℕ} {filled : List ℕ} {answer : Result ℕ Question} → answer ≡ Ok n → Shown answer filled n filled
+pub written_shown : {n : ℕ} {filled : List ℕ} {answer : Result ℕ Question} → answer ≡ Ok n → Shown answer filled n
+    filled
 unfolding fill_text fill_wrote
 written_shown {n} {filled} {answer} e a before h w =
     let z = answer_written a answer n h e in

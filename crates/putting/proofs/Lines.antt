@@ -48,9 +48,11 @@ module _ (k a b c : ℕ) where
 
 -- ---- the records as the loop has them
 
-byte_of : (n : ℕ) (bs : List ℕ) (i j : ℕ) → i < n → j < 4 → get_or (get_or (first_chunks 4 n bs) i []) j 0 ≡ get_or bs (i * 4 + j) 0
+byte_of : (n : ℕ) (bs : List ℕ) (i j : ℕ) → i < n → j < 4 → get_or (get_or (first_chunks 4 n bs) i []) j 0 ≡ get_or
+    bs (i * 4 + j) 0
 byte_of zero bs i j h l = absurd (omega arith)
-byte_of (suc n) bs zero j h l = let e : j ≡ zero * 4 + j = omega arith in get_or-take 4 bs j 0 l ∙ ap (λ (k : ℕ). get_or bs k 0) e
+byte_of (suc n) bs zero j h l = let e : j ≡ zero * 4 + j = omega arith in get_or-take 4 bs j 0 l ∙ ap
+    (λ (k : ℕ). get_or bs k 0) e
 byte_of (suc n) bs (suc i) j h l =
     let e : 4 + (i * 4 + j) ≡ suc i * 4 + j = omega arith in
     byte_of n (drop 4 bs) i j (omega arith) l ∙ get_or-drop 4 bs (i * 4 + j) 0 ∙ ap (λ (k : ℕ). get_or bs k 0) e
@@ -59,7 +61,8 @@ byte_of (suc n) bs (suc i) j h l =
 abbrev pub quad_in : List ℕ → Quad
 quad_in r = quad (get_or r 0 0) (get_or r 1 0) (get_or r 2 0) (get_or r 3 0)
 
-pub chunk_quad : (bs : List ℕ) (rs : List (List ℕ)) → rs ≡ first_chunks 4 (length bs / 4) bs → (i : ℕ) → i < length bs / 4 → quad_in (get_or rs i []) ≡ quad_at bs i
+pub chunk_quad : (bs : List ℕ) (rs : List (List ℕ)) → rs ≡ first_chunks 4 (length bs / 4) bs → (i : ℕ) → i < length
+    bs / 4 → quad_in (get_or rs i []) ≡ quad_at bs i
 chunk_quad bs rs e i h =
     rw (
       e,

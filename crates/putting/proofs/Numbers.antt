@@ -48,8 +48,10 @@ decimal_longer n h = rw (decimal_more n h, length-append (decimal (n / 10)) ((48
 
 -- the last digit is put behind those of the tenth, or alone
 module _ (p m r : Page) (n : ℕ) where
-  pub put_tenth : {q : Page} → 10 ≤ n → m ≡ q → Puts p (decimal (n / 10)) q → Puts m ((48 + n % 10) ∷ []) r → Puts p (decimal n) r
-  put_tenth h e f g = put_same (sym (decimal_more n h)) (put_then f (subst (λ (x : Page). Puts x ((48 + n % 10) ∷ []) r) e g))
+  pub put_tenth : {q : Page} → 10 ≤ n → m ≡ q → Puts p (decimal (n / 10)) q → Puts m ((48 + n % 10) ∷ []) r → Puts p
+      (decimal n) r
+  put_tenth h e f g = put_same (sym (decimal_more n h))
+      (put_then f (subst (λ (x : Page). Puts x ((48 + n % 10) ∷ []) r) e g))
 
   pub put_lone : n < 10 → m ≡ p → Puts m ((48 + n % 10) ∷ []) r → Puts p (decimal n) r
   put_lone h e g = put_same (sym (decimal_one n h)) (subst (λ (x : Page). Puts x ((48 + n % 10) ∷ []) r) e g)

@@ -12,8 +12,9 @@ use std::io::{Read, Stdin};
 // As much of a constraint file as is read: question 1 refuses more than 1,024 bytes, so one past them is enough.
 pub const CONSTRAINTS_READ: usize = 1025;
 
-// Reads until the buffer is full or the file ends, and answers how many bytes it filled; or why a read failed. It does not say which bytes: the
-// kit's contract of `read` says nothing of them, since no contract can speak of what a file holds.
+// Reads until the buffer is full or the file ends, and answers how many bytes it filled; or why a read failed.
+// It does not say which bytes: the kit's contract of `read` says nothing of them, since no contract can speak of
+// what a file holds.
 pub fn fill(from: &mut impl Read, buffer: &mut [u8]) -> io::Result<usize>
     ensures { Fills result buffer.new }
 {
@@ -33,8 +34,8 @@ pub fn is_given(rt: &impl Env, i: usize) -> bool {
     !matches!(rt.arg(i, &mut start), Err(FillError::NotPresent))
 }
 
-// Reads standard input by `read`, and answers how many bytes of the buffer that filled. With an argument, or where the read fails, standard error
-// says so, and nothing is answered.
+// Reads standard input by `read`, and answers how many bytes of the buffer that filled. With an argument, or where
+// the read fails, standard error says so, and nothing is answered.
 pub fn standard_input<R>(
     rt: &HostRuntime,
     usage: &[u8],
@@ -44,7 +45,8 @@ pub fn standard_input<R>(
 where
     R: FnOnce(&mut Stdin, &mut [u8]) -> io::Result<usize>,
     requires reads { R.IsAlwaysCallable read }
-    requires fills { (from : _) (room : _) (n : _) (after : _) (filled : _) → R.post read from room n after filled → Fills n filled.now }
+    requires fills { (from : _) (room : _) (n : _) (after : _) (filled : _)
+        → R.post read from room n after filled → Fills n filled.now }
     ensures { IfSome result (λ n. IsPrefixLen n buffer.new) }
 {
     if is_given(rt, 1) {

@@ -16,9 +16,11 @@ use Rattle.solver.specs.declared.Verdict.TheVariants.{Tree, None, Spent, Refused
 use Rattle.solver.proofs.Short.{bytes_few}
 use Rattle.text.specs.Verdicts.{solver_text, bytes_of}
 
-text_of : (s : Solved) (r : Verdict) (buffer : List ℕ) → VerdictOf s r → solver_text r (take (bytes_of r) (written s buffer)) ≡ solved_text s
+text_of : (s : Solved) (r : Verdict) (buffer : List ℕ) → VerdictOf s r → solver_text r
+    (take (bytes_of r) (written s buffer)) ≡ solved_text s
 unfolding solver_text bytes_of written
-text_of (solver_answers (a_tree c bs)) r buffer v = rw v (ap (λ (l : List ℕ). solved_text (solver_answers (a_tree c l))) (take-append_seam bs _))
+text_of (solver_answers (a_tree c bs)) r buffer v = rw v
+    (ap (λ (l : List ℕ). solved_text (solver_answers (a_tree c l))) (take-append_seam bs _))
 text_of (solver_answers (a_none c)) r buffer v = rw v
 text_of (solver_answers (a_spent c)) r buffer v = rw v
 text_of (solver_refuses q) r buffer v = rw v.1 (ap (λ (n : ℕ). solved_text (solver_refuses n)) v.2)
@@ -32,7 +34,8 @@ module _ (A : ℕ) (file buffer : List ℕ) (r : Verdict) (after : List ℕ) (w 
   bytes_most = by r refl
     where
       by : (v : Verdict) → r ≡ v → bytes_of r ≤ 136
-      by (Tree b c) d = let few = bytes_few A file buffer r after w d in let z : bytes_of r ≡ b = ap bytes_of d in omega arith
+      by (Tree b c) d = let few = bytes_few A file buffer r after w d in let z : bytes_of r ≡ b = ap bytes_of d in
+          omega arith
       by (None c) d = let z : bytes_of r ≡ 0 = ap bytes_of d in omega arith
       by (Spent c) d = let z : bytes_of r ≡ 0 = ap bytes_of d in omega arith
       by (Refused q) d = let z : bytes_of r ≡ 0 = ap bytes_of d in omega arith

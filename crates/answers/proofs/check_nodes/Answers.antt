@@ -21,11 +21,21 @@ returns-then-count-lt2 c = rw (long c.args.nodes.now)
 pub returns-then-not-nodes_fine : goal.returns-then-not-nodes_fine
 unfolding nodes_checked pick ◌and◌
 returns-then-not-nodes_fine c =
-    rw (long c.args.nodes.now, le-leb _ _ c.if-count-lt2.false, le-leb _ _ c.if-count-gt64.false, sym
-        c.nodes_fine.ensures ∙ c.if-not-nodes_fine.true)
+    rw (
+      long c.args.nodes.now,
+      le-leb _ _ c.if-count-lt2.false,
+      le-leb _ _ c.if-count-gt64.false,
+      sym
+          c.nodes_fine.ensures ∙ c.if-not-nodes_fine.true,
+    )
 
 pub returns : goal.returns
 unfolding nodes_checked pick ◌and◌
 returns c =
-    rw (long c.args.nodes.now, le-leb _ _ c.if-count-lt2.false, le-leb _ _ c.if-count-gt64.false, sym
-        c.nodes_fine.ensures ∙ c.if-not-nodes_fine.false)
+    rw (
+      long c.args.nodes.now,
+      le-leb _ _ c.if-count-lt2.false,
+      le-leb _ _ c.if-count-gt64.false,
+      sym
+          c.nodes_fine.ensures ∙ c.if-not-nodes_fine.false,
+    )

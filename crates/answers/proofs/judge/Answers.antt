@@ -27,7 +27,7 @@ pub returns-then-not-is_empty : goal.returns-then-not-is_empty
 unfolding answer_judgement judged_as
 returns-then-not-is_empty c =
     rw (refused_8 c.args.variables c.args.answer.now (λ e. eqb-false _ _ (sym c.is_empty.ensures
-        ∙ c.if-not-is_empty.true) (c.as_chunks.ensures.back_len ∙ e)))
+    ∙ c.if-not-is_empty.true) (c.as_chunks.ensures.back_len ∙ e)))
 
 pub returns-then-not-all_places : goal.returns-then-not-all_places
 unfolding answer_judgement judged_as
@@ -69,7 +69,7 @@ returns-then-places-variables c =
             h.1,
             misplaced c.args.variables _ _ (sym l ∙ w.if-places-variables.false)
                 (places_told h.0 (back_is _ _ q.front _ c.split_at.ensures.back) w.places_fine.ensures
-                    w.if-not-places_fine.true),
+                w.if-not-places_fine.true),
           )
     ]
 
@@ -84,5 +84,5 @@ returns c =
     (ap nodes_checked (sym (front_is _ _ q.front _ c.split_at.ensures.front)) ∙ sym c.in_ok-count.ensures) in
     let l = left_over _ _ c.split_at.ensures.back_len q.front_len in
     let f = places_told h.0 (back_is _ _ q.front _ c.split_at.ensures.back) c.places_fine.ensures
-        c.if-not-places_fine.false in
+    c.if-not-places_fine.false in
     ap Ok h.0 ∙ sym (ap judged_as h.1 ∙ accepted c.args.variables _ w _ k p (sym l ∙ c.if-places-variables.false) f)

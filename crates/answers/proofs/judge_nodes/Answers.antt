@@ -10,7 +10,7 @@ pub returns-then-not-is_empty : goal.returns-then-not-is_empty
 unfolding nodes_judgement judged_nodes_as
 returns-then-not-is_empty c =
     rw (nodes_8 c.args.nodes.now (λ e. eqb-false _ _ (sym c.is_empty.ensures
-        ∙ c.if-not-is_empty.true) (c.as_chunks.ensures.back_len ∙ e)))
+    ∙ c.if-not-is_empty.true) (c.as_chunks.ensures.back_len ∙ e)))
 
 pub returns-then-count_nodes-records : goal.returns-then-count_nodes-records
 unfolding nodes_judgement judged_nodes_as
@@ -18,7 +18,7 @@ returns-then-count_nodes-records c =
     let q = c.as_chunks.ensures in
     let w = sym q.back_len ∙ eqb-true _ _ (sym c.is_empty.ensures ∙ c.if-not-is_empty.false) in
     rw (nodes_9 c.args.nodes.now w _ (counted _ _ q.front c.count_nodes.ensures.is)
-        (λ e. c.if-count_nodes-records.true (e ∙ sym q.front_len)))
+    (λ e. c.if-count_nodes-records.true (e ∙ sym q.front_len)))
 
 pub returns : goal.returns
 returns c =
@@ -26,4 +26,4 @@ returns c =
     let w = sym q.back_len ∙ eqb-true _ _ (sym c.is_empty.ensures ∙ c.if-not-is_empty.false) in
     c.check_nodes.ensures ∙ ap nodes_checked (quads_are _ _ q.front)
     ∙ sym (nodes_10_11 c.args.nodes.now w _ (counted _ _ q.front c.count_nodes.ensures.is)
-        (c.if-count_nodes-records.false ∙ q.front_len))
+    (c.if-count_nodes-records.false ∙ q.front_len))

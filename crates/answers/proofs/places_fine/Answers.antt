@@ -14,13 +14,13 @@ returns-then-variable-i c = elim c.then-variable-i.branch [
       sym (placed_node _ _ c.loop-i-test.true _ w.if-variable-i.false w.if-nodes-node.true) ∙ c.loop-i.invariant
   | then-variable-i-via-else-variable-i+else-nodes-node+then-label-ne0 w ↦
       sym (placed_fourth _ _ c.loop-i-test.true _ w.if-variable-i.false w.if-nodes-node.false w.if-label-ne0.true)
-          ∙ c.loop-i.invariant
+      ∙ c.loop-i.invariant
 ]
 
 pub loop-i-preserved : goal.loop-i-preserved
 loop-i-preserved c =
     sym (placed_one _ _ c.loop-i-test.true _ c.if-variable-i.false c.if-nodes-node.false c.if-label-ne0.false)
-        ∙ c.loop-i.invariant
+    ∙ c.loop-i.invariant
 
 pub returns : goal.returns
 returns c = sym (placed_none _ _ _ c.loop-i-test.false) ∙ c.loop-i.invariant

@@ -31,7 +31,10 @@ returns c =
     let h = c.if-answer-lt328.false in
     let bytes = c.args.answer.now in (
       simp length-set (omega arith),
-      rw (is_shortened _ m h, ← (c.kind_of_all-kind.ensures
-          ∙ ap kind_of_all (quads_are _ _ c.as_chunks.ensures.front))) (stored bytes m h c.kind_of_all-kind.result),
+      rw (
+        is_shortened _ m h,
+        ← (c.kind_of_all-kind.ensures
+            ∙ ap kind_of_all (quads_are _ _ c.as_chunks.ensures.front)),
+      ) (stored bytes m h c.kind_of_all-kind.result),
       stored_behind bytes c.kind_of_all-kind.result,
     )

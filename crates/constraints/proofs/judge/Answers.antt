@@ -13,8 +13,11 @@ returns-then-file-gt1024 c = rw (lt-leb _ _ c.if-file-gt1024.true)
 
 pub returns-then-not-is_empty : goal.returns-then-not-is_empty
 unfolding judgement judgement_of kept_of judge pick
-returns-then-not-is_empty c = rw (le-leb _ _ c.if-file-gt1024.false, ne_eqb _ _
-    (λ e. eqb-false _ _ (sym c.is_empty.ensures ∙ c.if-not-is_empty.true) (c.as_chunks.ensures.back_len ∙ e)))
+returns-then-not-is_empty c = rw (
+  le-leb _ _ c.if-file-gt1024.false,
+  ne_eqb _ _
+      (λ e. eqb-false _ _ (sym c.is_empty.ensures ∙ c.if-not-is_empty.true) (c.as_chunks.ensures.back_len ∙ e)),
+)
 
 pub returns-then-is_empty : goal.returns-then-is_empty
 returns-then-is_empty c =
@@ -31,7 +34,7 @@ returns-then-not-passes c =
     let q = c.as_chunks.ensures in
     let w = sym q.back_len ∙ eqb-true _ _ (sym c.is_empty.ensures ∙ c.if-not-is_empty.false) in
     sym (refused_record _ _ c.if-file-gt1024.false w q.front q.front_len _ c.loop-kind-test.true
-        c.loop-kind.invariant c.question.ensures)
+    c.loop-kind.invariant c.question.ensures)
 
 pub loop-kind-preserved : goal.loop-kind-preserved
 loop-kind-preserved c =
@@ -39,7 +42,7 @@ loop-kind-preserved c =
     let w = sym q.back_len ∙ eqb-true _ _ (sym c.is_empty.ensures ∙ c.if-not-is_empty.false) in
     rw (c.max-highest.ensures, c.max.ensures)
     (record_read _ _ c.if-file-gt1024.false w q.front q.front_len _ c.loop-kind-test.true c.loop-kind.invariant
-        (sym c.passes.ensures ∙ c.if-not-passes.false))
+    (sym c.passes.ensures ∙ c.if-not-passes.false))
 
 pub returns : goal.returns
 returns c =

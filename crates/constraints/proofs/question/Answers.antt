@@ -20,13 +20,13 @@ returns-then-x-gt15 c =
       | then-x-gt15-via-then-x-gt15 w ↦ asks_4_of_x _ _ _ _ some w.if-x-gt15.true
       | then-x-gt15-via-else-x-gt15+then-y-gt15 w ↦
           asks_4_of_y _ _ _ _ some w.if-x-gt15.false (at_least 2 c.room-values.ensures w.if-y-gt15.true.0)
-              w.if-y-gt15.true.1
+          w.if-y-gt15.true.1
     ]
 
 pub returns-then-label-eq0 : goal.returns-then-label-eq0
 returns-then-label-eq0 c =
     asks_5 _ _ _ _ (at_least 1 c.room-values.ensures c.if-values-lt1.false) c.if-x-gt15.false c.if-kind-eq8.true
-        c.if-label-eq0.true
+    c.if-label-eq0.true
 
 pub returns : goal.returns
 returns c =

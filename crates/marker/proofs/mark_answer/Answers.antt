@@ -20,14 +20,14 @@ split_at-requires c = whole _ c.args.answer.now c.args.variables c.requires c.in
 pub invariant_of-tree : goal.invariant_of-tree
 invariant_of-tree c =
     let w = read_is _ _ c.args.variables c.requires _ (sym c.in-Ok.ensures)
-        (bytes _ (λ i. omega (arith, c.type_inv.answer i))) in
+    (bytes _ (λ i. omega (arith, c.type_inv.answer i))) in
     rw c.split_at.ensures.front (record { is_tree = w.0; few = w.1 })
 
 pub first_unmet-requires : goal.first_unmet-requires
 first_unmet-requires c =
     rw (c.split_at.ensures.front, c.split_at.ensures.back)
     (all_placed _ _ c.args.variables c.requires _ (sym c.in-Ok.ensures)
-        (bytes _ (λ i. omega (arith, c.type_inv.answer i))))
+    (bytes _ (λ i. omega (arith, c.type_inv.answer i))))
 
 pub returns-in-Ok : goal.returns-in-Ok
 returns-in-Ok c =

@@ -9,4 +9,5 @@ returns-in-Ok c = written_shown c.in-Ok.is
 pub returns-in-Err : goal.returns-in-Err
 returns-in-Err c =
     let page = c.new-page.ensures in
-    refused_shown c.in-Err.is (first_put c.new-page.result c.refused.new.self page.whole page.blank c.written.ensures (search rules) c.refused.ensures.put)
+    refused_shown c.in-Err.is (first_put c.new-page.result c.refused.new.self page.whole page.blank c.written.ensures
+    (search rules) c.refused.ensures.put)

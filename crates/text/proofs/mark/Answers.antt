@@ -13,6 +13,7 @@ returns c =
     record {
       text =
           put_front (put_same (ap marked_text m.is)
-          (first_put c.new-page.result c.put_mark.new.page page.whole page.blank c.written.ensures (search rules) c.put_mark.ensures.put));
+          (first_put c.new-page.result c.put_mark.new.page page.whole page.blank c.written.ensures (search rules)
+          c.put_mark.ensures.put));
       promise = subst (MarkerPromise c.args.constraints.now c.args.answer.now) m.is m.promise;
     }

@@ -16,10 +16,22 @@ pub put-requires-in-Unmet-2 : goal.put-requires-in-Unmet-2
 put-requires-in-Unmet-2 c = omega (arith, position_digits c.in-Unmet.position (omega arith))
 
 pub put-requires-in-Unmet-3 : goal.put-requires-in-Unmet-3
-put-requires-in-Unmet-3 c = omega (arith, position_digits c.in-Unmet.position (omega arith), name_short c.in-Unmet.kind, ap length c.kind_word.ensures)
+put-requires-in-Unmet-3 c = omega (
+  arith,
+  position_digits c.in-Unmet.position (omega arith),
+  name_short
+      c.in-Unmet.kind,
+  ap length c.kind_word.ensures,
+)
 
 pub put-requires-in-Unmet-4 : goal.put-requires-in-Unmet-4
-put-requires-in-Unmet-4 c = omega (arith, position_digits c.in-Unmet.position (omega arith), name_short c.in-Unmet.kind, ap length c.kind_word.ensures)
+put-requires-in-Unmet-4 c = omega (
+  arith,
+  position_digits c.in-Unmet.position (omega arith),
+  name_short
+      c.in-Unmet.kind,
+  ap length c.kind_word.ensures,
+)
 
 pub returns-in-Met-clause-put : goal.returns-in-Met-clause-put
 unfolding ascii marked_text marked_of
@@ -31,7 +43,8 @@ returns-in-Unmet-clause-put c =
     put_same (ap marker_text (sym c.in-Unmet.is))
     (put_then c.put-in-Unmet.ensures.put
     (put_then c.number.ensures.put
-    (put_then c.put-in-Unmet-2.ensures.put (put_then (put_same c.kind_word.ensures c.put-in-Unmet-3.ensures.put) c.put-in-Unmet-4.ensures.put))))
+    (put_then c.put-in-Unmet-2.ensures.put (put_then (put_same c.kind_word.ensures c.put-in-Unmet-3.ensures.put)
+    c.put-in-Unmet-4.ensures.put))))
 
 pub returns-in-Refused-clause-put : goal.returns-in-Refused-clause-put
 unfolding marked_text marked_of

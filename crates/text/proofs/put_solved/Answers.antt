@@ -20,11 +20,19 @@ unfolding ascii bytes_of
 records-requires c =
     let most : c.in-Tree.bytes ≤ 136 = omega (arith, ap bytes_of c.in-Tree.is) in
     let few = length-take-le c.in-Tree.bytes c.args.answer.now (omega (arith, most)) in
-    omega (arith, most, few, length-append (decimal c.in-Tree.count) (ascii "\n"), count_digits c.in-Tree.count (omega arith))
+    omega (
+      arith,
+      most,
+      few,
+      length-append (decimal c.in-Tree.count) (ascii "\n"),
+      count_digits c.in-Tree.count
+          (omega arith),
+    )
 
 pub returns-in-Tree-clause-put : goal.returns-in-Tree-clause-put
 unfolding ascii numbered solved_text solver_text bytes_of
-returns-in-Tree-clause-put c = text_put c.args.answer.now (sym c.in-Tree.is) (put_then c.line.ensures.put c.records.ensures.put)
+returns-in-Tree-clause-put c = text_put c.args.answer.now (sym c.in-Tree.is)
+    (put_then c.line.ensures.put c.records.ensures.put)
 
 pub returns-in-None-clause-put : goal.returns-in-None-clause-put
 unfolding ascii numbered solved_text solver_text

@@ -15,6 +15,7 @@ returns c =
     record {
       text =
           put_front (put_same (solver_text_lem _ _ _ _ _ w)
-          (first_put c.new-page.result c.put_solved.new.page page.whole page.blank c.written.ensures (search rules) c.put_solved.ensures.put));
+          (first_put c.new-page.result c.put_solved.new.page page.whole page.blank c.written.ensures (search rules)
+          c.put_solved.ensures.put));
       promise = promised _ _ _ _ _ w;
     }

@@ -15,7 +15,7 @@ pub returns-in_default : goal.returns-in_default
 unfolding marked_of
 returns-in_default c = let l = c.loop-position in
     ap marker_answers (sym (marked_end _ _ _ _ (ended _ _ c.requires.is_accepted _ (omega arith)
-        (sym c.record_at.ensures ∙ c.in_default.is))) ∙ l.invariant)
+    (sym c.record_at.ensures ∙ c.in_default.is))) ∙ l.invariant)
 
 pub is_met-requires : goal.is_met-requires
 is_met-requires c =
@@ -39,4 +39,4 @@ pub returns : goal.returns
 unfolding marked_of
 returns c = let l = c.loop-position in
     ap marker_answers (sym (marked_end _ _ _ _ (no_more _ _ c.requires.is_accepted l.position (omega arith)))
-        ∙ l.invariant)
+    ∙ l.invariant)

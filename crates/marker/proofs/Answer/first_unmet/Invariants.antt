@@ -11,5 +11,5 @@ use Rattle.marker.proofs.Answer.first_unmet.Given as goal
 abbrev pub invariant-loop-position : goal.invariant-loop-position
 invariant-loop-position l =
     ahead l.position (mark (tree_in l.self.tree.records.now) (places_in l.self.places.now)
-        (drop l.position (constraints_in l.constraints)))
+    (drop l.position (constraints_in l.constraints)))
     ≡ mark (tree_in l.self.tree.records.now) (places_in l.self.places.now) (constraints_in l.constraints)

@@ -25,7 +25,7 @@ module _ {tree places : List ℕ} (constraint : Record) (p : Placed tree places 
 
   pub y_inside : (y : ℕ) → y ≡ places_in places constraint.y.0 → (k : Kind) → constraint.kind ≡ k
       → constraint.y.0 < named (constraint_as k constraint.x.0 constraint.y.0 constraint.label) → y <
-          (tree_in tree).size
+      (tree_in tree).size
   y_inside y at_y k e h = omega (arith, at_y, p.placed constraint.y.0 (y_named constraint k e h))
 
 pub is_parent-requires : goal.is_parent-requires

@@ -50,7 +50,7 @@ loop-i-preserved c =
           (omega arith) (λ v h. l.invariant.1 u v h)
           (rw c.with.ensures (above_more _ w u l.i l.auto.i c.loop-i-test.true _
           (rw (← c.parent-parent.ensures) (l.invariant.1 u _
-              (parent_smaller _ w _ l.auto.i c.loop-i-test.true _ c.parent-parent.ensures))))),
+          (parent_smaller _ w _ l.auto.i c.loop-i-test.true _ c.parent-parent.ensures))))),
     )
 
 pub returns : goal.returns

@@ -26,7 +26,7 @@ unfolding tree_in
 loop-i-preserved c = λ u.
     let l = c.loop-i in
     rw (c.with-inner.ensures, c.parent.ensures) (inner_more _ c.args.self.now.is_tree u l.i l.auto.i
-        c.loop-i-test.true _ (l.invariant u))
+    c.loop-i-test.true _ (l.invariant u))
 
 pub returns : goal.returns
 unfolding tree_in

@@ -10,7 +10,7 @@ pub returns-then-lower-ne0 : goal.returns-then-lower-ne0
 unfolding is_parent ◌and◌
 returns-then-lower-ne0 c =
     rw (lt-ltb 0 c.args.lower.0 (pos_of_ne-zero c.if-lower-ne0.true), lt-ltb _ _ c.requires, ← c.parent.ensures)
-        c.eq.ensures
+    c.eq.ensures
 
 pub returns-else-lower-ne0 : goal.returns-else-lower-ne0
 unfolding is_parent ◌and◌

@@ -16,4 +16,5 @@ number-requires-2 c = omega (arith, byte_digits c.args.a (omega arith), byte_dig
 
 pub returns-clause-put : goal.returns-clause-put
 unfolding ascii
-returns-clause-put c = put_then c.put.ensures.put (put_then c.number.ensures.put (put_then c.put-2.ensures.put c.number-2.ensures.put))
+returns-clause-put c = put_then c.put.ensures.put (put_then c.number.ensures.put
+    (put_then c.put-2.ensures.put c.number-2.ensures.put))

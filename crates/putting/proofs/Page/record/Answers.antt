@@ -13,7 +13,8 @@ put-requires c = omega (arith, pair_short c.args.a c.args.b (omega arith) (omega
 pub returns-then-kind-ne1-clause-put : goal.returns-then-kind-ne1-clause-put
 unfolding ascii
 returns-then-kind-ne1-clause-put c =
-    put_same (place_line c.args.kind c.args.a c.args.b c.args.c c.if-kind-ne1.true) (put_then c.pair.ensures.put c.put.ensures.put)
+    put_same (place_line c.args.kind c.args.a c.args.b c.args.c c.if-kind-ne1.true)
+    (put_then c.pair.ensures.put c.put.ensures.put)
 
 pub put-requires-2 : goal.put-requires-2
 unfolding ascii

@@ -17,17 +17,26 @@ loop-kind-preserved c =
     let byte = c.type_inv.answer in
     let more : l.kind-index < length bytes / 4 = omega (arith, c.as_chunks.ensures.front_len) in
     let at : l.kind-index * 4 + 3 < length bytes = omega arith in
-    let p = put_same (ap record_line (chunk_quad bytes _ c.as_chunks.ensures.front l.kind-index more)) c.record.ensures.put in
+    let p = put_same (ap record_line (chunk_quad bytes _ c.as_chunks.ensures.front l.kind-index more))
+    c.record.ensures.put in
     let short =
-    record_short (get_or bytes (l.kind-index * 4) 0) (get_or bytes (l.kind-index * 4 + 1) 0) (get_or bytes (l.kind-index * 4 + 2) 0) (get_or bytes (l.kind-index * 4 + 3) 0)
-    (omega (arith, byte (l.kind-index * 4 + 1))) (omega (arith, byte (l.kind-index * 4 + 2))) (omega (arith, byte (l.kind-index * 4 + 3))) in
+    record_short (get_or bytes (l.kind-index * 4) 0) (get_or bytes (l.kind-index * 4 + 1) 0)
+    (get_or bytes (l.kind-index * 4 + 2) 0) (get_or bytes (l.kind-index * 4 + 3) 0)
+    (omega (arith, byte (l.kind-index * 4 + 1))) (omega (arith, byte (l.kind-index * 4 + 2)))
+    (omega (arith, byte (l.kind-index * 4 + 3))) in
     record {
       same = c.record.ensures.same ∙ l.invariant.same;
       short = omega (arith, p.end, short, l.invariant.short);
-      lines = (_, put_then l.invariant.lines.1 p, lines_more bytes l.invariant.lines.0 l.kind-index more l.invariant.lines.2);
+      lines = (
+        _,
+        put_then l.invariant.lines.1 p,
+        lines_more bytes l.invariant.lines.0 l.kind-index more
+            l.invariant.lines.2,
+      );
     }
 
 pub returns-clause-put : goal.returns-clause-put
 returns-clause-put c =
     let l = c.loop-kind in
-    put_same (lines_all c.args.answer.now _ l.kind-index (omega (arith, c.as_chunks.ensures.front_len)) l.invariant.lines.2) l.invariant.lines.1
+    put_same (lines_all c.args.answer.now _ l.kind-index (omega (arith, c.as_chunks.ensures.front_len))
+    l.invariant.lines.2) l.invariant.lines.1

@@ -10,5 +10,6 @@ invariant-loop-kind l =
     record {
       same : Same l.fn.self l.self;
       short : l.self.at ≤ l.fn.self.at + l.kind-index * 17;
-      lines : (text : List ℕ) × Puts l.fn.self text l.self × (record_lines (quads l.answer) ≡ text ++ record_lines (drop l.kind-index (quads l.answer)));
+      lines : (text : List ℕ) × Puts l.fn.self text l.self ×
+          (record_lines (quads l.answer) ≡ text ++ record_lines (drop l.kind-index (quads l.answer)));
     }
