@@ -11,7 +11,7 @@ use lib.ListN.{length, drop}
 use Rattle.meaning.specs.declared.Centre.{Centre}
 use Rattle.meaning.specs.Finite.{Yes, ◌and◌}
 use Rattle.meaning.specs.Centres.{centre_at, sum_of, claimed}
-use Rattle.meaning.proofs.Tests.{yes_case, and_left, and_right, and_both, clash, pick_yes, pick_no, pick_either, is_le, le_yes, le_no}
+use Rattle.meaning.proofs.Tests.{yes_case, and_left, and_right, and_both, clash, pick_yes, pick_no, is_le, le_yes, le_no}
 use Rattle.theory.specs.Centres.{capped}
 use Rattle.centres.specs.Plain.{claim}
 
@@ -30,11 +30,6 @@ claim_in g k d l = pick_yes _ _ (le_yes l)
 pub claim_above : (g k d : ℕ) → k < max g d → claim g k d ≡ 2 ^ 32
 unfolding claim
 claim_above g k d h = pick_no _ _ (le_no h)
-
-pub claim_small : (g k d : ℕ) → k < 2 ^ 32 → claim g k d ≤ 2 ^ 32
-unfolding claim
-claim_small g k d h = pick_either (λ (m : ℕ). m ≤ 2 ^ 32) (leb (max g d) k) _ _ (λ y. let l = is_le {x = max g d} {y = k} y in omega (arith, l, h))
-    (λ n. omega arith)
 
 -- ---- all records
 

@@ -3,8 +3,8 @@ use mathlib.Core.Path.{◌≡◌, refl, sym, ap, subst, ◌∙◌}
 use mathlib.Core.List.{List, [], ◌∷◌, ◌++◌}
 use Prim.Native.Nat.{ℕ, suc, ◌+◌, ◌≤◌}
 use native.Mathlib.Omega.{arith}
-use lib.ListN.{length, get_or, set, take, length-append}
-use lib.Seq.{sets, length-sets, take-suc, length-take-le}
+use lib.ListN.{length, set, length-append}
+use lib.Seq.{sets, length-sets}
 use Rattle.lent.specs.Putting.{Put}
 
 sets_append : (l : List ℕ) (i : ℕ) (s t : List ℕ) → sets l i (s ++ t) ≡ sets (sets l i s) (i + length s) t
@@ -27,20 +27,6 @@ put_then {l} {m} {o} {at} {k} {r} {s} {t} p q =
 
 pub put_same : {l m : List ℕ} {at r : ℕ} {s t : List ℕ} → s ≡ t → Put l at s r m → Put l at t r m
 put_same {l} {m} {at} {r} e p = subst (λ (u : List ℕ). Put l at u r m) e p
-
--- one byte more of a word
-pub put_byte : (l : List ℕ) (at : ℕ) (word : List ℕ) (i : ℕ) → suc i ≤ length word → set (sets l at (take i word)) (at + i) (get_or word i 0) ≡ sets l at (take (i + 1) word)
-put_byte l at word i h =
-    let e : i + 1 ≡ suc i = omega arith in
-    let n : length (take i word) ≡ i = omega (arith, length-take-le i word (omega arith)) in
-    rw (e, take-suc word i 0, sets_append l at (take i word) (get_or word i 0 ∷ []), n)
-
--- so many stores, one behind the other
-pub put_three : (l : List ℕ) (at a b c : ℕ) → at + 3 ≤ length l → Put l at (a ∷ b ∷ c ∷ []) (at + 3) (set (set (set l at a) (at + 1) b) (at + 2) c)
-put_three l at a b c h =
-    let p : at + 1 ≡ suc at = omega arith in
-    let q : at + 2 ≡ suc (suc at) = omega arith in
-    put_text l at (a ∷ b ∷ c ∷ []) (at + 3) _ refl (rw (p, q)) h
 
 pub put_four : (l : List ℕ) (at a b c d : ℕ) → at + 4 ≤ length l → Put l at (a ∷ b ∷ c ∷ d ∷ []) (at + 4) (set (set (set (set l at a) (at + 1) b) (at + 2) c) (at + 3) d)
 put_four l at a b c d h =

@@ -1,11 +1,10 @@
 -- A text that is put at the front of a buffer; a buffer that was filled, and the line of a refusal where it was not.
 use mathlib.Core.Path.{◌≡◌, sym, ap, subst, ◌∙◌}
 use mathlib.Core.List.{List, ◌++◌}
-use Prim.Native.Nat.{ℕ, ◌+◌, ◌≤◌}
+use Prim.Native.Nat.{ℕ, ◌+◌}
 use native.Mathlib.Omega.{arith}
-use lib.ListN.{length, drop, length-append}
-use lib.Seq.{sets-eq, length-take-le}
-use Rattle.std.specs.Counts.{IsPrefixLen}
+use lib.ListN.{length, drop}
+use lib.Seq.{sets-eq}
 use Rattle.meaning.specs.Results.{Fill, fill_wrote}
 use Rattle.meaning.specs.Text.{numbered, fill_text}
 use Rattle.std.specs.Prelude.{Result, Ok, Err}
@@ -30,14 +29,6 @@ put_front {l} {m} {r} {t} p =
 pub first_put : (p q : Page) {buffer text last : List ℕ} {n : ℕ} → p.out.now ≡ buffer → p.at ≡ 0 → n ≡ q.at → last ≡
     q.out.now → Puts p text q → Put buffer 0 text n last
 first_put p q whole blank written end h = rw (← whole, written, end, ← blank) h
-
--- its bytes can be lent
-pub front_counts : {t l m : List ℕ} {r : ℕ} → Fronted t l r m → IsPrefixLen r m
-front_counts {t} {l} {m} {r} w =
-    let n = ap length w.wrote in
-    let a = length-append t (drop r l) in
-    let b = w.bytes in
-    let h : r ≤ length m = omega arith in (h, sym (length-take-le r m h))
 
 -- ---- a buffer that was filled
 
