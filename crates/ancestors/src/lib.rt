@@ -1,5 +1,5 @@
 // The stages that look for an ancestor that variables have yet to share: joins of siblings, and joins of the document node, whose child is above all
-// but the roots. They are pub only because crates are split: the caller shows what they require.
+// but the roots. They are pub only because crates are split.
 #![tactic(auto)]
 
 ghost use Rattle.ancestors.specs.Rows.{Missing, SiblingIn, DocumentIn};

@@ -4,10 +4,8 @@ use Rattle.std.proofs.Common.{arith, ◌-◌, length-drop}
 use Rattle.std.proofs.lemmas.Bool.{false≢true}
 use Rattle.std.proofs.lemmas.List.{take_all}
 use borrow.Author.Tests.{ne_eqb}
-use lib.Pointwise.{pointwise}
 use Rattle.meaning.specs.Finite.{Yes, pick, ◌and◌, ◌or◌}
-use Rattle.meaning.proofs.Tests.{pick_yes, pick_no, not_yes, is_eq, and_left, and_right, yes_not}
-use Rattle.axes.proofs.Front.{front_pointwise}
+use Rattle.meaning.proofs.Tests.{pick_yes, pick_no, pick_has, not_yes, is_eq, and_left, and_right, yes_not}
 use Rattle.meaning.specs.Ascii.{ascii}
 use Rattle.meaning.specs.Tree.{is_capital}
 use Rattle.meaning.specs.Paths as spec
@@ -32,16 +30,16 @@ some_move a t rest = Some (a, t, rest)
 abbrev just : Axis → List ℕ → Option (Axis × List ℕ)
 just a rest = Some (a, rest)
 
--- what the library's stripping of a prefix says
-pub stripped : (s w : List ℕ) (a : Axis) (rest : List ℕ) → pointwise nat_eq (take (length w) s) w ≡ true
-    → rest ≡ drop (length w) s
-    → ◌≡◌ {A = Option (Axis × List ℕ)} (Some (a, rest)) (name_got s w a)
-stripped s w a rest h e =
-    ap (λ (k : List ℕ). just a k) e ∙ sym (pick_yes (just a (drop (length w) s)) None (sym (front_pointwise s w) ∙ h))
+-- the name stands at the front, or it does not
+pub stripped : (s w : List ℕ) (a : Axis) → length w ≤ length s → front s w ≡ true
+    → ◌≡◌ {A = Option (Axis × List ℕ)} (Some (a, take (length s - length w) (drop (length w) s))) (name_got s w a)
+stripped s w a l h =
+    let n = length-drop (length w) s in
+    ap (λ (k : List ℕ). just a k) (take_all (length s - length w) (drop (length w) s) (omega arith))
+    ∙ sym (pick_yes (just a (drop (length w) s)) None h)
 
-pub not_stripped : (s w : List ℕ) (a : Axis) → pointwise nat_eq (take (length w) s) w ≡ false
-    → ◌≡◌ {A = Option (Axis × List ℕ)} None (name_got s w a)
-not_stripped s w a h = sym (pick_no (just a (drop (length w) s)) None (not_yes (sym (front_pointwise s w) ∙ h)))
+pub not_stripped : (s w : List ℕ) (a : Axis) → front s w ≡ false → ◌≡◌ {A = Option (Axis × List ℕ)} None (name_got s w a)
+not_stripped s w a h = sym (pick_no (just a (drop (length w) s)) None (not_yes h))
 
 module _ (s : List ℕ) (a : spec.Axis) (r : Option (Axis × Bor (List ℕ))) where
   -- one name, and nothing else
@@ -68,6 +66,19 @@ module _ (s : List ℕ) (a : spec.Axis) (r : Option (Axis × Bor (List ℕ))) wh
       go true (Some x) h m = ap axis_view m ∙ h
       go false None h m = m
       go false (Some x) h m = absurd (subst IsSome h tt)
+
+other_first : (s : List ℕ) (c : ℕ) (w : List ℕ) → (get_or s 0 0 ≡ c → ⊥) → front s (c ∷ w) ≡ false
+unfolding front ◌and◌
+other_first [] c w n = refl
+other_first (b ∷ s) c w n = ap (λ (k : Bool). k and front s w) (ne_eqb b c n)
+
+-- a name that begins with another byte is passed over
+pub skip : (s : List ℕ) (b : spec.Axis) (c : ℕ) (w : List ℕ) → axis_text b ≡ c ∷ w → (get_or s 0 0 ≡ c → ⊥)
+    → (g : Got spec.Axis) (r : Option (Axis × Bor (List ℕ))) → AxisRead g r → AxisRead (after_name b s g) r
+unfolding after_name
+skip s b c w e n g r h =
+    let other : front s (axis_text b) ≡ false = ap (front s) e ∙ other_first s c w n in
+    pick_has (λ (k : Got spec.Axis). AxisRead k r) (front s (axis_text b)) _ _ (λ y. absurd (true≢false (sym y ∙ other))) h
 
 -- ---- the names by their first byte
 

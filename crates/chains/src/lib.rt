@@ -1,5 +1,5 @@
 // The stages that look for two variables above a third that are not yet one above the other: parent joins and chain joins. They are pub only because
-// crates are split: the caller shows what they require.
+// crates are split.
 #![tactic(auto)]
 
 ghost use Rattle.chains.specs.Rows.{Incomparable, ParentIn, ChainIn};

@@ -1,5 +1,5 @@
 // The groups in the order of their nodes: by depth, then siblings in their order and otherwise by lowest variable; the place of each and of the nearest over
-// one, and the node of a place. Functions are `pub` here only because crates are split: each keeps its `requires`, which every caller shows.
+// one, and the node of a place. Functions are `pub` here only because crates are split: every caller shows what one requires.
 #![tactic(auto)]
 
 ghost use Rattle.std.specs.Prelude.{◌≡◌, ◌≢◌, ◌++◌, [], ◌∷◌, ◌+◌, ◌<◌, ◌≤◌, length};
@@ -186,7 +186,7 @@ impl Order {
         a
     }
 
-    // The place of the nearest group of those over one variable, or how many groups there are where none is.
+    // The place of the nearest group of those over one variable, or how many groups there are where none is: the meaning's `position`, and so no Option.
     pub fn nearest(&self, ancestry: &Ancestry, over: u16) -> usize
         ensures { result ≡ position (near ancestry.now.below ancestry.now.above over) (groups self.now) }
     {
@@ -232,7 +232,8 @@ impl Front {
     }
 }
 
-// The node of the group at a place of the order, behind the document node and so many blank elements.
+// The node of the group at a place of the order, behind the document node and so many blank elements. `Front` asks it; it stands for any number of
+// them, as it promised.
 pub fn node_at(element: u8, place: usize) -> Node
     requires { numbered element place < 256 }
     ensures { result.0 ≡ numbered element place }

@@ -1,4 +1,4 @@
-// One pass of settling over x, y and z. What `settle` uses of it is pub only because crates are split: each caller shows what a helper requires.
+// One pass of settling over x, y and z. What `settle` uses of it is pub only because crates are split.
 #![tactic(auto)]
 
 ghost use Rattle.std.specs.Prelude.{◌≡◌, ◌<◌};

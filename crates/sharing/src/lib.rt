@@ -1,4 +1,4 @@
-// Sharing: each variable takes what its group has. `share_rows` is pub only because crates are split: its caller shows what it requires.
+// Sharing: each variable takes what its group has. `share_rows` is pub only because crates are split.
 #![tactic(auto)]
 
 ghost use Rattle.std.specs.Prelude.{◌≡◌, ◌<◌, eqb};

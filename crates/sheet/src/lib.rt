@@ -67,15 +67,17 @@ impl Sheet {
     }
 
     // Puts a record behind the others.
+    #[inline(always)]
     pub fn put(&mut self, kind: Kind, x: u8, y: u8, label: u8)
         ensures { plain self.new ≡ put_in kind x y label (plain self.old) }
     {
-        if self.length + 4 <= ROOM {
-            self.length = lent::put(
-                &mut self.records,
-                self.length,
-                &[kind.number(), x, y, label],
-            );
+        let at = self.length;
+        if at + 4 <= ROOM {
+            self.records[at] = kind.number();
+            self.records[at + 1] = x;
+            self.records[at + 2] = y;
+            self.records[at + 3] = label;
+            self.length = at + 4;
         }
     }
 
@@ -94,6 +96,7 @@ impl Sheet {
     }
 
     // The axis record of a step from x to y.
+    #[inline(always)]
     fn put_axis(&mut self, axis: Axis, x: u8, y: u8)
         ensures { plain self.new ≡ axis_in axis x y (plain self.old) }
     {
@@ -111,6 +114,7 @@ impl Sheet {
     }
 
     // The axis record of a step from x to y, then any label.
+    #[inline(always)]
     pub fn put_move(&mut self, axis: Axis, test: u8, x: u8, y: u8)
         ensures { plain self.new ≡ move_in axis test x y (plain self.old) }
     {

@@ -9,6 +9,7 @@ ghost use Rattle.tables.specs.Tables.{row};
 
 use ids::Variables;
 
+// That tables decide a settled set is a clause of what takes them and no ghost field: no field says which set.
 // `parent`, `above` and `after` are the columns of `child`, `below` and `before`, kept as rows: bit x of row y. A label of 0 is no label fact.
 // root and leaf lie apart: a compiler that loads two neighbours as one number waits for both to be stored.
 #[derive(Clone, Copy)]
@@ -74,7 +75,7 @@ pub fn except(a: u16, b: u16) -> u16
     a & (b ^ 65535)
 }
 
-// The smallest number in a row, or 16.
+// The smallest number in a row, or 16: no Option, since what it promised of an empty row stands.
 pub fn lowest(row: u16) -> usize
     ensures { Lowest row result }
 {

@@ -37,7 +37,7 @@ fn put_mark(page: &mut Page<'_>, verdict: marker::Verdict)
     }
 }
 
-// The answer file of a tree is at the front of the answer.
+// The first bytes of `answer`, as many as the verdict says, are a tree's answer file.
 fn put_solved(page: &mut Page<'_>, verdict: Verdict, answer: &[u8])
     requires { HasRoom page.old 594 × (bytes_of verdict ≤ 136) × (136 ≤ length answer.now) }
     ensures same { Same page.old page.new }

@@ -1,4 +1,5 @@
-// The nodes that were read so far, in document order: how many, and of each its parent and its label. Node 0 is the document node.
+// The nodes that were read so far, in document order: how many, and of each its parent and its label, in fixed memory.
+// Node 0 is the document node.
 ghost use Rattle.std.specs.Prelude.{◌≡◌, ◌*◌, ◌≤◌, length};
 
 use questions::Question;

@@ -1,4 +1,4 @@
-// Links from each node to its first child and its next sibling, and its name; 0 is no node.
+// Links from each node to its first child and its next sibling, and its name, in fixed memory; 0 is no node.
 ghost use Rattle.std.specs.Prelude.{◌≡◌, ◌<◌, length, get_or, replicate};
 ghost use Rattle.meaning.specs.Xml.{name_of};
 
