@@ -22,7 +22,7 @@ pub enum Axis {
 }
 
 // The axis and the bytes behind its name, if the name stands at the front. The library's strip_prefix would be a call for
-// each name: with it a text took a tenth longer.
+// each name: with it the reader took over twice the time of plain Rust.
 #[inline(always)]
 fn named<'a>(s: &'a [u8], name: &[u8], axis: Axis) -> Option<(Axis, &'a [u8])>
     ensures value { NameRead s.now name.now axis result }

@@ -20,6 +20,7 @@ fn open<R: Files>(rt: &R, path: &[u8]) -> io::Result<R::File> {
     }
 }
 
+// Not one function with `read_answer`: they differ in what they call, and each has its clause.
 fn read_constraints(rt: &impl Files, path: &[u8], buffer: &mut [u8]) -> io::Result<usize>
     ensures { Fills result buffer.new }
 {

@@ -28,7 +28,8 @@ fn with_gap(below: [u16; 16], above: [u16; 16], rows: u16) -> u16
     0
 }
 
-// What the rows a and b hold together.
+// What the rows a and b hold together: `tables::union_rows` of two members, which needs no loop over bits. Two indices
+// of one call have no type of their own.
 fn union_two(t: [u16; 16], a: usize, b: usize) -> u16
     requires { (a < 16) × (b < 16) }
     ensures { Union t (bit_or (2 ^ a) (2 ^ b)) result }

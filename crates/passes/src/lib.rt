@@ -94,6 +94,7 @@ fn whole_groups(same: [u16; 16], row: u16) -> u16
     row | tables::meeting(same, row)
 }
 
+// No Option: the rows are wanted whether there is more or not.
 #[derive(Clone, Copy)]
 struct Joined {
     more: bool,
@@ -129,7 +130,7 @@ fn join_rows(
 }
 
 // What a step of settling makes of the tables, and whether another round may find more. A step that finds a clash
-// answers None.
+// answers None; the tables are wanted whether there is more or not.
 #[derive(Clone, Copy)]
 pub struct Stepped {
     pub more: bool,

@@ -46,7 +46,8 @@ impl<'a> Page<'a> {
         self.at = lent::put(self.out, self.at, word);
     }
 
-    // Puts the digits of a number: those of its tenth, if it has one, and the last.
+    // Puts the digits of a number: those of its tenth, if it has one, and the last. Display's clause speaks only of a
+    // write that succeeds.
     pub fn number(&mut self, n: u64)
         requires { HasRoom self.old (length (decimal n)) }
         ensures same { Same self.old self.new }
@@ -90,7 +91,7 @@ impl<'a> Page<'a> {
         self.number(b as u64)
     }
 
-    // Puts the line of one record.
+    // Puts the line of one record. Its kind is a byte of the answer file, as it lies there.
     fn record(&mut self, kind: u8, a: u8, b: u8, c: u8)
         requires { HasRoom self.old 17 }
         ensures same { Same self.old self.new }
@@ -119,7 +120,7 @@ impl<'a> Page<'a> {
     }
 }
 
-// The name of a kind.
+// The name of a kind, lent to a page, so no Display.
 pub fn kind_word(kind: Kind) -> &'static [u8]
     ensures { result.now ≡ ascii (kind_name (kind_number kind)) }
 {

@@ -19,6 +19,7 @@ pub fn fill(from: &mut impl Read, buffer: &mut [u8]) -> io::Result<usize>
     ensures { Fills result buffer.new }
 {
     let mut done: usize = 0;
+    // It counts what reads answer, and no index.
     while done < buffer.len() {
         match from.read(&mut buffer[done..])? {
             0 => break,
@@ -34,6 +35,9 @@ pub fn is_given(rt: &impl Env, i: usize) -> bool {
     !matches!(rt.arg(i, &mut start), Err(FillError::NotPresent))
 }
 
+// What the four programs do with their input they write out: a closure over an array of a const parameter's size gets
+// no generated proof.
+//
 // Reads standard input by `read`, and answers how many bytes of the buffer that filled. With an argument, or where
 // the read fails, standard error says so, and nothing is answered.
 pub fn standard_input<R>(

@@ -53,7 +53,8 @@ struct Split {
 // The alternatives of the first join, or nothing where no join is left. The first of each kind is below(x, y). The
 // second of a parent join is same(x, z), where below(x, z) holds already; so it is of siblings, whose y, a, x are z,
 // x, y here. Of the document node, whose r, y, w are z, x, y here, it is same(y, z), and below(z, y) holds. That of a
-// chain join adds that x and y differ: the first has the trees with both on one node.
+// chain join adds that x and y differ: the first has the trees with both on one node. The kinds are
+// closed, so they are a match.
 fn next_step(f: Facts, n: Variables) -> Option<Split>
     requires ready { (S : List Fact) × Ready n.count S f }
     ensures { StepOf n.count f result }

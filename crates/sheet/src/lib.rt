@@ -9,6 +9,8 @@ use constraints::Kind;
 // The bytes of 48 records, more than a text of 16 variables needs.
 const ROOM: usize = 192;
 
+// An array with its length, in fixed memory.
+//
 // A sheet is lent and not passed by value, since each level of brackets would copy it. Numbers stop at 17 and records
 // at 48, so that no bound goes through the readers. A number is a plain byte: a struct, as Var, would be passed by a
 // pointer to a copy.
@@ -71,6 +73,7 @@ impl Sheet {
     pub fn put(&mut self, kind: Kind, x: u8, y: u8, label: u8)
         ensures { plain self.new ≡ put_in kind x y label (plain self.old) }
     {
+        // Four stores: by lent::put the reader took over twice the time of plain Rust.
         let at = self.length;
         if at + 4 <= ROOM {
             self.records[at] = kind.number();

@@ -48,7 +48,8 @@ fn search_over(constraints: &[u8], n: Variables, allowance: u32) -> Searched
     search::search(first, n, allowance, 0)
 }
 
-// Decides the records of an accepted file over n variables, as many as they name or more.
+// Decides the records of an accepted file over n variables, as many as they name or more. `Covers` stays a clause:
+// any such n may be given.
 pub fn decide(constraints: &[u8], n: usize, allowance: u32) -> Decided
     requires { Covers n constraints.now }
     ensures { result ≡ decided_as (solve allowance n (constraints_in constraints.now)) }

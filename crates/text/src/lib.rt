@@ -76,6 +76,7 @@ pub fn mark(constraints: &[u8], answer: &[u8], out: &mut [u8; TEXT_BYTES]) -> us
     page.written()
 }
 
+// A part and `put_answer`: what takes the part would be longer than the two lines.
 // Puts what `paths` writes of the bytes it read at the front of the buffer, and answers how many bytes that are.
 pub fn paths(text: &[u8], out: &mut [u8; RECORDS_BYTES]) -> usize
     ensures { PathsAs text.now out.old result out.new }

@@ -1,4 +1,5 @@
-// The nodes that were read so far, in document order: how many, and of each its parent and its label, in fixed memory.
+// The nodes that were read so far, in document order: how many, and of each its parent and its label, as columns in
+// fixed memory.
 // Node 0 is the document node.
 ghost use Rattle.std.specs.Prelude.{◌≡◌, ◌*◌, ◌≤◌, length};
 

@@ -20,7 +20,7 @@ fn is_name(byte: u8) -> bool
     byte == b'_' || labels::is_letter(byte)
 }
 
-// _ names a blank.
+// _ names a blank: a byte of the paper's own, so no From.
 fn label_named(name: u8) -> u8
     ensures { result ≡ label_named name }
 {

@@ -1,4 +1,5 @@
-// Links from each node to its first child and its next sibling, and its name, in fixed memory; 0 is no node.
+// Links from each node to its first child and its next sibling, and its name, as columns in fixed memory. 0 is no
+// node: nobody's child.
 ghost use Rattle.std.specs.Prelude.{◌≡◌, ◌<◌, length, get_or, replicate};
 ghost use Rattle.meaning.specs.Xml.{name_of};
 
@@ -12,7 +13,7 @@ pub struct Links {
     ghost long_names: { length names ≡ 64 },
 }
 
-// _ is the name of a blank.
+// _ is the name of a blank: a byte of the paper's own, so no From.
 fn name_of(label: u8) -> u8
     ensures { result ≡ name_of label }
 {
