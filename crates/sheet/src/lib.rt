@@ -69,7 +69,6 @@ impl Sheet {
     }
 
     // Puts a record behind the others.
-    #[inline(always)]
     pub fn put(&mut self, kind: Kind, x: u8, y: u8, label: u8)
         ensures { plain self.new ≡ put_in kind x y label (plain self.old) }
     {
@@ -99,7 +98,6 @@ impl Sheet {
     }
 
     // The axis record of a step from x to y.
-    #[inline(always)]
     fn put_axis(&mut self, axis: Axis, x: u8, y: u8)
         ensures { plain self.new ≡ axis_in axis x y (plain self.old) }
     {
@@ -117,7 +115,6 @@ impl Sheet {
     }
 
     // The axis record of a step from x to y, then any label.
-    #[inline(always)]
     pub fn put_move(&mut self, axis: Axis, test: u8, x: u8, y: u8)
         ensures { plain self.new ≡ move_in axis test x y (plain self.old) }
     {

@@ -72,22 +72,39 @@ fn brackets<'a>(s: &'a [u8], y: u8, sheet: &mut Sheet) -> Option<&'a [u8]>
     Some(left)
 }
 
-// Whether `/` follows the brackets at the front, if any: whether the step before them is not its line's last.
+// Whether `/` follows the brackets at the front, if any: whether the step before them is not its line's last. An index
+// counts the bytes by hand, so that `][` is passed over at once: with a `for` over the bytes the reader took over twice
+// the time of plain Rust.
 fn goes_on(s: &[u8]) -> bool
     ensures { result ≡ goes_on 0 s.now }
 {
-    let mut depth: usize = 0;
-    for b in s {
-        // most bytes are letters in brackets
-        if b']' < *b && depth != 0 {
+    let first = byte_at(s, 0);
+    if first != b'[' {
+        return first == b'/';
+    }
+    let mut depth: usize = 1;
+    let mut i: usize = 1;
+    while i < s.len() {
+        let b = s[i];
+        i += 1;
+        // most bytes are letters
+        if b']' < b {
             continue;
         }
-        if *b == b'[' {
+        if b == b'[' {
             depth += 1;
-        } else if depth == 0 {
-            return *b == b'/';
-        } else if *b == b']' {
-            depth -= 1;
+            continue;
+        }
+        if b == b']' {
+            if depth != 1 {
+                depth -= 1;
+                continue;
+            }
+            let next = byte_at(s, i);
+            if next != b'[' {
+                return next == b'/';
+            }
+            i += 1;
         }
     }
     false

@@ -25,11 +25,11 @@ returns-then-x-gt15 c =
 
 pub returns-then-label-eq0 : goal.returns-then-label-eq0
 returns-then-label-eq0 c =
-    asks_5 _ _ _ _ (at_least 1 c.room-values.ensures c.if-values-lt1.false) c.if-x-gt15.false c.if-kind.true
+    asks_5 _ _ _ _ (at_least 1 c.room-values.ensures c.if-values-lt1.false) c.if-x-gt15.false c.if-kind-eq8.true
     c.if-label-eq0.true
 
 pub returns : goal.returns
 returns c =
     asks_6 _ _ _ _ (at_least 1 c.room-values.ensures c.if-values-lt1.false) c.if-x-gt15.false c.requires
     (λ r. ⊎_elim (λ p. p.1) (λ q. absurd (omega (arith, c.room-values.ensures))) c.if-y-gt15.either)
-    (λ r s. ⊎_elim (λ p. p.1) (λ q. absurd (q s)) c.else-kind.either)
+    (λ r s. ⊎_elim (λ p. p.1) (λ q. absurd (q s)) c.else-kind-eq8.either)
