@@ -35,7 +35,8 @@ fn put_tree(nodes: &[u8], text: &mut [u8]) -> usize
     requires { Linkable nodes.now × (length (forest_text (forest_in nodes.now)) ≤ length text.old) }
     ensures { Put text.old 0 (forest_text (forest_in nodes.now)) result text.new }
 {
-    let links = Links::of(nodes);
+    let mut links = Links::new();
+    links.link(nodes);
     let outermost = links.first[0];
     links.put_elements(outermost, text, 0)
 }

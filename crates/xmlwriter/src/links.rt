@@ -24,7 +24,7 @@ impl Links {
     ghost use Rattle.xmlwriter.specs.Links.{forest_in, Linkable, Added, Linked, Fits, ForestWritten};
 
     // No node has a child.
-    fn new() -> Links
+    pub fn new() -> Links
         ensures { result.first ≡ replicate 64 0 }
     {
         Links {
@@ -44,17 +44,15 @@ impl Links {
         self.first[up] = node as u8;
     }
 
-    // The links of accepted records: from the last node to the first, so that each is put before its later siblings. Answered by value: filled
-    // behind a reference a text of 64 nodes took up to a sixth longer.
-    pub fn of(nodes: &[u8]) -> Links
-        requires { Linkable nodes.now }
-        ensures { Linked result 1 (get_or result.first 0 0) (forest_in nodes.now) }
+    // Links the nodes of accepted records, none of which has a child yet: from the last to the first, so that each is
+    // put before its later siblings. Lent, since an answer by value was copied once more.
+    pub fn link(&mut self, nodes: &[u8])
+        requires { Linkable nodes.now × (self.old.first ≡ replicate 64 0) }
+        ensures { Linked self.new 1 (get_or self.new.first 0 0) (forest_in nodes.now) }
     {
-        let mut links = Links::new();
         for k in (1..nodes.len() / 4).rev() {
-            links.add(k, nodes[k * 4 + 2] as usize, nodes[k * 4 + 3]);
+            self.add(k, nodes[k * 4 + 2] as usize, nodes[k * 4 + 3]);
         }
-        links
     }
 
     // Puts the element v, all that is inside it and those after it, none if v is 0. Each node is met once, so that no more calls are open than

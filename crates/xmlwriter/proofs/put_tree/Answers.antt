@@ -4,7 +4,7 @@ use Rattle.xmlwriter.specs.Links.{forest_in}
 use Rattle.xmlwriter.proofs.put_tree.Goals as goal
 
 pub put_elements-requires : goal.put_elements-requires
-put_elements-requires c = record { forest = forest_in c.args.nodes.now; linked = c.of-links.ensures; room = omega (arith, c.requires.1) }
+put_elements-requires c = record { forest = forest_in c.args.nodes.now; linked = c.link.ensures; room = omega (arith, c.requires.1) }
 
 pub returns : goal.returns
-returns c = c.put_elements.ensures (forest_in c.args.nodes.now) c.of-links.ensures
+returns c = c.put_elements.ensures (forest_in c.args.nodes.now) c.link.ensures
